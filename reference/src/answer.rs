@@ -1,0 +1,29 @@
+//! What an accepted step reports.
+
+/// An entry as the answers tell it.
+#[derive(Clone, Copy, PartialEq, Eq, Debug)]
+pub struct Entry {
+    /// The due minute.
+    pub due: u32,
+    /// The item.
+    pub item: u32,
+    /// The time at which its Insert began.
+    pub ticket: u32,
+}
+
+/// What an accepted step reports.
+#[derive(Clone, Copy, PartialEq, Eq, Debug)]
+pub enum Answer {
+    /// The operation went on.
+    Moved,
+    /// A lock is held; nothing but the clock changed.
+    Waits,
+    /// The Delete_Min ended without an entry.
+    Empty,
+    /// The Delete_Min took this entry.
+    Marked(Entry),
+    /// The Insert ended.
+    Inserted(Entry),
+    /// The Delete_Min ended with this entry.
+    HandedOut(Entry),
+}

@@ -1,0 +1,231 @@
+//! The book of document 01. It is fed calls and what they gave back, and
+//! never sees the record.
+
+use crate::answer::{Answer, Entry};
+use crate::calls::{Call, Outcome};
+use crate::queue::MOST_PROCESSORS;
+
+/// An entry that was not handed out yet.
+#[derive(Clone, Copy, PartialEq, Eq, Debug)]
+pub struct Written {
+    /// Due, item and ticket.
+    pub entry: Entry,
+    /// When its Insert answered, if it has.
+    pub answered: Option<u32>,
+    /// Whether a Delete_Min marked it.
+    pub marked: bool,
+}
+
+/// What a processor has open.
+#[derive(Clone, Copy, PartialEq, Eq, Debug)]
+pub enum Open {
+    /// Nothing.
+    Nothing,
+    /// The Insert of the entry with this ticket.
+    Insert(u32),
+    /// A Delete_Min begun at `begin`, and the ticket of what it marked.
+    DeleteMin {
+        /// Its begin time.
+        begin: u32,
+        /// The ticket of the entry that it marked.
+        marked: Option<u32>,
+    },
+}
+
+/// Which rule of the book an answer does not keep.
+pub type Fault = &'static str;
+
+/// The book. Entries stand in the order of their tickets; one that was handed
+/// out is struck, since no rule can speak of it again but "not handed out
+/// before", which then finds it missing.
+#[derive(Clone, PartialEq, Eq, Debug)]
+pub struct Book {
+    /// How many begins and steps were accepted.
+    pub count: u32,
+    /// The entries not handed out.
+    pub entries: Vec<Written>,
+    /// What each processor has open.
+    pub open: [Open; MOST_PROCESSORS],
+}
+
+impl Default for Book {
+    fn default() -> Book {
+        Book::new()
+    }
+}
+
+impl Book {
+    /// The book before the first call.
+    pub fn new() -> Book {
+        Book {
+            count: 0,
+            entries: Vec::new(),
+            open: [Open::Nothing; MOST_PROCESSORS],
+        }
+    }
+
+    /// Enters one call and what it gave back, or tells which rule it breaks.
+    pub fn enter(&mut self, call: &Call, outcome: &Outcome) -> Result<(), Fault> {
+        match (*call, *outcome) {
+            (_, Outcome::Refused(_)) => Ok(()),
+            (Call::Backlog, Outcome::Count(_)) => Ok(()),
+            (
+                Call::Insert {
+                    processor,
+                    due,
+                    item,
+                    ..
+                },
+                Outcome::Began(time),
+            ) => {
+                let p = self.begin(processor, time)?;
+                let (Ok(due), Ok(item)) = (u32::try_from(due), u32::try_from(item)) else {
+                    return Err("an entry was accepted that no answer can give");
+                };
+                let entry = Entry {
+                    due,
+                    item,
+                    ticket: time,
+                };
+                self.entries.push(Written {
+                    entry,
+                    answered: None,
+                    marked: false,
+                });
+                self.open[p] = Open::Insert(time);
+                Ok(())
+            }
+            (Call::DeleteMin { processor }, Outcome::Began(time)) => {
+                let p = self.begin(processor, time)?;
+                self.open[p] = Open::DeleteMin {
+                    begin: time,
+                    marked: None,
+                };
+                Ok(())
+            }
+            (Call::Step { processor }, Outcome::Stepped(answer)) => self.step(processor, answer),
+            _ => Err("the call cannot give this back"),
+        }
+    }
+
+    /// The earliest by due, then ticket, of the entries answered before
+    /// `begin` and not marked.
+    pub fn pick(&self, begin: u32) -> Option<Entry> {
+        self.entries
+            .iter()
+            .filter(|written| !written.marked && written.answered.is_some_and(|t| t < begin))
+            .map(|written| written.entry)
+            .min_by_key(|entry| (entry.due, entry.ticket))
+    }
+
+    /// Where the entry with this ticket stands.
+    pub fn find(&self, ticket: u32) -> Option<usize> {
+        self.entries
+            .binary_search_by_key(&ticket, |written| written.entry.ticket)
+            .ok()
+    }
+
+    fn begin(&mut self, processor: u64, time: u32) -> Result<usize, Fault> {
+        if processor >= MOST_PROCESSORS as u64 {
+            return Err("a begin of no processor was accepted");
+        }
+        if self.open[processor as usize] != Open::Nothing {
+            return Err("a begin was accepted where something is open");
+        }
+        self.count += 1;
+        if time != self.count {
+            return Err("a begin gave another time than the count");
+        }
+        Ok(processor as usize)
+    }
+
+    fn step(&mut self, processor: u64, answer: Answer) -> Result<(), Fault> {
+        if processor >= MOST_PROCESSORS as u64 {
+            return Err("a step of no processor was accepted");
+        }
+        let p = processor as usize;
+        if self.open[p] == Open::Nothing {
+            return Err("a step was accepted where nothing is open");
+        }
+        self.count += 1;
+        match answer {
+            Answer::Moved | Answer::Waits => Ok(()),
+            Answer::Inserted(entry) => self.inserted(p, entry),
+            Answer::Marked(entry) => self.marked(p, entry),
+            Answer::Empty => self.empty(p),
+            Answer::HandedOut(entry) => self.handed_out(p, entry),
+        }
+    }
+
+    fn inserted(&mut self, p: usize, entry: Entry) -> Result<(), Fault> {
+        let Open::Insert(ticket) = self.open[p] else {
+            return Err("inserted, but no Insert is open");
+        };
+        let Some(i) = self.find(ticket) else {
+            return Err("inserted, but the entry was handed out already");
+        };
+        if self.entries[i].entry != entry {
+            return Err("inserted, but not the entry of this Insert");
+        }
+        self.entries[i].answered = Some(self.count);
+        self.open[p] = Open::Nothing;
+        Ok(())
+    }
+
+    fn marked(&mut self, p: usize, entry: Entry) -> Result<(), Fault> {
+        let Open::DeleteMin {
+            begin,
+            marked: None,
+        } = self.open[p]
+        else {
+            return Err("marked, but no Delete_Min is open with nothing marked");
+        };
+        match self.pick(begin) {
+            None => return Err("marked, but there is no pick"),
+            Some(pick) if pick != entry => return Err("marked, but not the pick"),
+            Some(_) => {}
+        }
+        if let Some(i) = self.find(entry.ticket) {
+            self.entries[i].marked = true;
+        }
+        self.open[p] = Open::DeleteMin {
+            begin,
+            marked: Some(entry.ticket),
+        };
+        Ok(())
+    }
+
+    fn empty(&mut self, p: usize) -> Result<(), Fault> {
+        let Open::DeleteMin {
+            begin,
+            marked: None,
+        } = self.open[p]
+        else {
+            return Err("EMPTY, but no Delete_Min is open with nothing marked");
+        };
+        if self.pick(begin).is_some() {
+            return Err("EMPTY, but there is a pick");
+        }
+        self.open[p] = Open::Nothing;
+        Ok(())
+    }
+
+    fn handed_out(&mut self, p: usize, entry: Entry) -> Result<(), Fault> {
+        let Open::DeleteMin {
+            marked: Some(ticket),
+            ..
+        } = self.open[p]
+        else {
+            return Err("handed out, but no Delete_Min is open that marked");
+        };
+        let Some(i) = self.find(ticket) else {
+            return Err("handed out, but it was handed out before");
+        };
+        if self.entries[i].entry != entry {
+            return Err("handed out, but not the entry that was marked");
+        }
+        self.entries.remove(i);
+        self.open[p] = Open::Nothing;
+        Ok(())
+    }
+}

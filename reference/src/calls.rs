@@ -1,0 +1,264 @@
+//! The calls of a host: their refusals in order, the clock, and the two
+//! begins.
+//!
+//! Each call has an open form, which makes check 21 first, and an inner form
+//! without that scan, for runs that look at the record in another way. A
+//! refused call changes nothing.
+
+use crate::answer::Answer;
+use crate::queue::{Node, Operation, Queue, Refusal, Stage, Use, FREE, HEAD, LIMIT, MOST_LEVELS};
+use crate::stages::{at, holder};
+
+/// A call of a host. Numbers may have any value.
+#[derive(Clone, Copy, PartialEq, Eq, Debug)]
+pub enum Call {
+    /// Begin an Insert.
+    Insert {
+        /// The calling processor.
+        processor: u64,
+        /// The due minute.
+        due: u64,
+        /// The item.
+        item: u64,
+        /// On how many levels to link.
+        height: u64,
+    },
+    /// Begin a Delete_Min.
+    DeleteMin {
+        /// The calling processor.
+        processor: u64,
+    },
+    /// One step.
+    Step {
+        /// The calling processor.
+        processor: u64,
+    },
+    /// Read the backlog.
+    Backlog,
+}
+
+/// What a call gives back.
+#[derive(Clone, Copy, PartialEq, Eq, Debug)]
+pub enum Outcome {
+    /// A begin was accepted at this time.
+    Began(u32),
+    /// A step was accepted.
+    Stepped(Answer),
+    /// The backlog.
+    Count(u32),
+    /// The call was refused.
+    Refused(Refusal),
+}
+
+/// What an Insert is asked to file, its numbers in range.
+pub(crate) struct Filing {
+    pub due: u32,
+    pub item: u32,
+    pub height: u8,
+}
+
+impl Queue {
+    /// Begins an Insert; gives the time. Refused with 21, 31, 32, 33, 35,
+    /// 36 or 37, the first that holds.
+    pub fn begin_insert(
+        &mut self,
+        processor: u64,
+        due: u64,
+        item: u64,
+        height: u64,
+    ) -> Result<u32, Refusal> {
+        self.check()?;
+        self.begin_insert_inner(processor, due, item, height)
+    }
+
+    /// Begins a Delete_Min; gives the time. Refused with 21, 31, 32 or 33.
+    pub fn begin_delete_min(&mut self, processor: u64) -> Result<u32, Refusal> {
+        self.check()?;
+        self.begin_delete_min_inner(processor)
+    }
+
+    /// One step of a busy processor. Refused with 21, 31, 32 or 34.
+    pub fn step(&mut self, processor: u64) -> Result<Answer, Refusal> {
+        self.check()?;
+        self.step_inner(processor)
+    }
+
+    /// How many nodes are in use. Refused with 21 alone.
+    pub fn backlog(&self) -> Result<u32, Refusal> {
+        self.check()?;
+        Ok(self.backlog_inner())
+    }
+
+    /// Makes any call in its open form.
+    pub fn call(&mut self, call: &Call) -> Outcome {
+        match self.check() {
+            Err(number) => Outcome::Refused(number),
+            Ok(()) => self.call_inner(call),
+        }
+    }
+
+    /// Makes any call without check 21.
+    pub fn call_inner(&mut self, call: &Call) -> Outcome {
+        let outcome = match *call {
+            Call::Insert {
+                processor,
+                due,
+                item,
+                height,
+            } => self
+                .begin_insert_inner(processor, due, item, height)
+                .map(Outcome::Began),
+            Call::DeleteMin { processor } => {
+                self.begin_delete_min_inner(processor).map(Outcome::Began)
+            }
+            Call::Step { processor } => self.step_inner(processor).map(Outcome::Stepped),
+            Call::Backlog => Ok(Outcome::Count(self.backlog_inner())),
+        };
+        outcome.unwrap_or_else(Outcome::Refused)
+    }
+
+    /// As `begin_insert`, without check 21.
+    pub fn begin_insert_inner(
+        &mut self,
+        processor: u64,
+        due: u64,
+        item: u64,
+        height: u64,
+    ) -> Result<u32, Refusal> {
+        let (p, filing) = self.insert_in_range(processor, due, item, height)?;
+        let node = self.choose_node().ok_or(37u32)?;
+        Ok(self.fill(p, node, &filing))
+    }
+
+    /// As `begin_delete_min`, without check 21.
+    pub fn begin_delete_min_inner(&mut self, processor: u64) -> Result<u32, Refusal> {
+        let p = self.idle_caller(processor)?;
+        self.clock += 1;
+        let caller = &mut self.processors[p];
+        caller.begin = self.clock;
+        caller.own = 0;
+        caller.stage = Stage::W1Read(at(HEAD, 1));
+        Ok(self.clock)
+    }
+
+    /// As `step`, without check 21.
+    pub fn step_inner(&mut self, processor: u64) -> Result<Answer, Refusal> {
+        let p = self.caller(processor)?;
+        if self.processors[p].stage == Stage::Idle {
+            return Err(34);
+        }
+        self.clock += 1;
+        Ok(self.run_stage(p))
+    }
+
+    fn check(&self) -> Result<(), Refusal> {
+        if self.sound() {
+            Ok(())
+        } else {
+            Err(21)
+        }
+    }
+
+    /// Refusals 31 and 32.
+    fn caller(&self, processor: u64) -> Result<usize, Refusal> {
+        if self.clock == LIMIT {
+            return Err(31);
+        }
+        if processor >= u64::from(self.processor_count) {
+            return Err(32);
+        }
+        Ok(processor as usize)
+    }
+
+    /// Refusals 31, 32 and 33.
+    fn idle_caller(&self, processor: u64) -> Result<usize, Refusal> {
+        let p = self.caller(processor)?;
+        if self.processors[p].stage != Stage::Idle {
+            return Err(33);
+        }
+        Ok(p)
+    }
+
+    /// The refusals of an Insert but 37.
+    pub(crate) fn insert_in_range(
+        &self,
+        processor: u64,
+        due: u64,
+        item: u64,
+        height: u64,
+    ) -> Result<(usize, Filing), Refusal> {
+        let p = self.idle_caller(processor)?;
+        if due > u64::from(LIMIT) || item > u64::from(LIMIT) {
+            return Err(35);
+        }
+        if height < 1 || height > u64::from(self.level_count) {
+            return Err(36);
+        }
+        let filing = Filing {
+            due: due as u32,
+            item: item as u32,
+            height: height as u8,
+        };
+        Ok((p, filing))
+    }
+
+    /// The lowest never-used node; if there is none, the node retired longest
+    /// ago, provided that every busy processor began after its retirement.
+    fn choose_node(&self) -> Option<u8> {
+        for number in 1..=self.node_count {
+            if self.nodes[number as usize].usage == Use::Never {
+                return Some(number);
+            }
+        }
+        let (number, retired) = self.longest_retired()?;
+        if self.busy().all(|processor| processor.begin > retired) {
+            Some(number)
+        } else {
+            None
+        }
+    }
+
+    /// The node retired longest ago, the lowest number on a tie, and when.
+    pub(crate) fn longest_retired(&self) -> Option<(u8, u32)> {
+        let mut longest: Option<(u8, u32)> = None;
+        for number in 1..=self.node_count {
+            if let Use::Retired(time) = self.nodes[number as usize].usage {
+                match longest {
+                    Some((_, earliest)) if earliest <= time => {}
+                    _ => longest = Some((number, time)),
+                }
+            }
+        }
+        longest
+    }
+
+    /// Ticks, fills the node in for processor `p` and starts its Insert.
+    pub(crate) fn fill(&mut self, p: usize, number: u8, filing: &Filing) -> u32 {
+        self.clock += 1;
+        let levels = self.level_count as usize;
+        let tail = self.tail();
+        let old = self.nodes[number as usize];
+        let mut forward: [u8; MOST_LEVELS] = old.forward;
+        let mut locks: [u8; MOST_LEVELS] = old.locks;
+        forward[..levels].fill(tail);
+        locks[..levels].fill(FREE);
+        self.nodes[number as usize] = Node {
+            forward,
+            locks,
+            node_lock: holder(p),
+            mark: false,
+            stamp: None,
+            due: filing.due,
+            ticket: self.clock,
+            item: filing.item,
+            height: filing.height,
+            usage: Use::InUse,
+        };
+        let start = at(HEAD, self.level_count);
+        let caller = &mut self.processors[p];
+        caller.begin = self.clock;
+        caller.own = number;
+        caller.stage = Stage::Search(Operation::Insert, start);
+        self.clock
+    }
+}

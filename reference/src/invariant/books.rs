@@ -1,0 +1,54 @@
+//! Conjuncts that tie the record to the book.
+
+use super::{Conjunct, View};
+use crate::book::Open;
+use crate::claims::Role;
+use crate::queue::Use;
+
+pub(super) const CONJUNCTS: &[Conjunct] = &[("BookOpen", book_open), ("BookEntries", book_entries)];
+
+/// The book's count is the clock, and what each processor has open is what its
+/// stage says.
+fn book_open(view: &View) -> bool {
+    view.book.count == view.queue.clock
+        && view.processors().all(|(number, _, p)| {
+            let open = match p.role {
+                Role::Idle => Open::Nothing,
+                Role::Insert => Open::Insert(view.node(p.own).ticket),
+                Role::Walk => Open::DeleteMin {
+                    begin: p.begin,
+                    marked: None,
+                },
+                Role::Delete => Open::DeleteMin {
+                    begin: p.begin,
+                    marked: Some(view.node(p.own).ticket),
+                },
+            };
+            view.book.open[number] == open
+        })
+}
+
+/// Entries not handed out and nodes in use correspond one to one, with equal
+/// due, item, ticket, answer time and mark. (A handed-out entry is struck from
+/// the book.)
+fn book_entries(view: &View) -> bool {
+    let mut in_use = 0;
+    for n in view.entry_nodes() {
+        let node = view.node(n);
+        if node.usage != Use::InUse {
+            continue;
+        }
+        in_use += 1;
+        let Some(i) = view.book.find(node.ticket) else {
+            return false;
+        };
+        let written = &view.book.entries[i];
+        if written.entry != view.queue.entry(n)
+            || written.answered != node.stamp
+            || written.marked != node.mark
+        {
+            return false;
+        }
+    }
+    in_use == view.book.entries.len()
+}

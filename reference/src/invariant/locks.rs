@@ -1,0 +1,141 @@
+//! Conjuncts about locks, and about what the holder of a lock knows.
+
+use super::{Conjunct, View};
+use crate::claims::Claim;
+use crate::queue::{slot, Place, Stage, FREE, HEAD};
+use crate::stages::holder;
+
+pub(super) const CONJUNCTS: &[Conjunct] = &[
+    ("HoldsPlace", holds_place),
+    ("HoldsOwn", holds_own),
+    ("HoldsNode", holds_node),
+    ("NodeLockHeld", node_lock_held),
+    ("LevelLockHeld", level_lock_held),
+    ("I1After", i1_after),
+    ("I2After", i2_after),
+    ("I2Own", i2_own),
+    ("L2Next", l2_next),
+    ("L3Next", l3_next),
+    ("L4Same", l4_same),
+    ("L4After", l4_after),
+];
+
+/// From G3 to the freeing of it, the place's lock is held by the processor.
+fn holds_place(view: &View) -> bool {
+    view.busy().all(|(number, _, p)| match p.place {
+        Some(a) if p.holds_place => view.node(a.node).locks[slot(a.level)] == holder(number),
+        _ => true,
+    })
+}
+
+/// At L3, L4 and L5 the own node's lock at the level is held by the processor.
+fn holds_own(view: &View) -> bool {
+    view.busy().all(|(number, _, p)| match p.place {
+        Some(a) if p.holds_own => view.node(p.own).locks[slot(a.level)] == holder(number),
+        _ => true,
+    })
+}
+
+/// An Insert up to I4, and a remover after L1 up to L7, holds its own node
+/// lock.
+fn holds_node(view: &View) -> bool {
+    view.busy()
+        .all(|(number, _, p)| !p.holds_node || view.node(p.own).node_lock == holder(number))
+}
+
+/// A held node lock is held by a processor whose stage says so.
+fn node_lock_held(view: &View) -> bool {
+    (HEAD..=view.queue.tail()).all(|n| {
+        let lock = view.node(n).node_lock;
+        if lock == FREE {
+            return true;
+        }
+        let claim = holder_claim(view, lock);
+        claim.holds_node && claim.own == n
+    })
+}
+
+/// A held level lock is held by a processor whose stage says so.
+fn level_lock_held(view: &View) -> bool {
+    (HEAD..=view.queue.tail()).all(|n| {
+        view.levels().all(|i| {
+            let lock = view.node(n).locks[slot(i)];
+            if lock == FREE {
+                return true;
+            }
+            let claim = holder_claim(view, lock);
+            let at_level = claim.place.is_some_and(|a| a.level == i);
+            let as_place = claim.holds_place && claim.place.is_some_and(|a| a.node == n);
+            let as_own = claim.holds_own && claim.own == n;
+            at_level && (as_place || as_own)
+        })
+    })
+}
+
+fn holder_claim<'a>(view: &'a View, lock: u8) -> &'a Claim {
+    &view.claims[lock as usize - 1]
+}
+
+/// At I1 the node after the place is after the own node.
+fn i1_after(view: &View) -> bool {
+    view.busy().all(|(_, processor, p)| match processor.stage {
+        Stage::I1PointOwn(a) => leads_past_own(view, p, a),
+        _ => true,
+    })
+}
+
+/// At I2 the node after the place is after the own node.
+fn i2_after(view: &View) -> bool {
+    view.busy().all(|(_, processor, p)| match processor.stage {
+        Stage::I2Link(a) => leads_past_own(view, p, a),
+        _ => true,
+    })
+}
+
+/// At I2 the own forward number is the place's.
+fn i2_own(view: &View) -> bool {
+    view.busy().all(|(_, processor, p)| match processor.stage {
+        Stage::I2Link(a) => leads_as_own(view, p, a),
+        _ => true,
+    })
+}
+
+/// At L2 the place leads to the own node.
+fn l2_next(view: &View) -> bool {
+    view.busy().all(|(_, processor, p)| match processor.stage {
+        Stage::L2LockOwn(a) => view.forward(a.node, a.level) == p.own,
+        _ => true,
+    })
+}
+
+/// At L3 the place leads to the own node.
+fn l3_next(view: &View) -> bool {
+    view.busy().all(|(_, processor, p)| match processor.stage {
+        Stage::L3Unlink(a) => view.forward(a.node, a.level) == p.own,
+        _ => true,
+    })
+}
+
+/// At L4 the own forward number is the place's.
+fn l4_same(view: &View) -> bool {
+    view.busy().all(|(_, processor, p)| match processor.stage {
+        Stage::L4PointBack(a) => leads_as_own(view, p, a),
+        _ => true,
+    })
+}
+
+/// At L4 the node after the place is after the own node.
+fn l4_after(view: &View) -> bool {
+    view.busy().all(|(_, processor, p)| match processor.stage {
+        Stage::L4PointBack(a) => leads_past_own(view, p, a),
+        _ => true,
+    })
+}
+
+fn leads_past_own(view: &View, p: &Claim, a: Place) -> bool {
+    view.key(view.forward(a.node, a.level)) > view.key(p.own)
+}
+
+fn leads_as_own(view: &View, p: &Claim, a: Place) -> bool {
+    view.forward(a.node, a.level) == view.forward(p.own, a.level)
+}

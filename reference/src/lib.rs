@@ -1,0 +1,24 @@
+//! A second, independent SkipQueue run one step at a time, written from
+//! document 01 alone. The proved implementation is compared with this one.
+
+#![warn(missing_docs)]
+
+pub mod answer;
+pub mod any_record;
+pub mod book;
+pub mod calls;
+pub mod check;
+pub mod claims;
+pub mod dump;
+pub mod ghost;
+pub mod invariant;
+pub mod mistakes;
+pub mod perturb;
+pub mod queue;
+pub mod random;
+pub mod refusals;
+pub mod schedule;
+pub mod sheet;
+pub mod stages;
+pub mod tally;
+pub mod trial;

@@ -1,0 +1,148 @@
+//! Wrong queues, one for each mistake of document 01's "Where an implementer
+//! goes astray". Each takes the right queue and does one stage its own way;
+//! the right code knows nothing of them.
+
+use crate::answer::Answer;
+use crate::calls::{Call, Outcome};
+use crate::queue::{Key, Place, Queue, Stage, HEAD, LIMIT, MOST_PROCESSORS};
+use crate::trial::Machine;
+
+/// A mistake.
+#[derive(Clone, Copy, PartialEq, Eq, Debug)]
+pub enum Mistake {
+    /// Searches move on while the key is greater, as the figures say (but not
+    /// past the tail, where they would run for ever).
+    SearchWhileGreater,
+    /// The walk advances only past stamped nodes, as the figures say.
+    WalkSticks,
+    /// I5 reads the clock in one call and stamps in the next.
+    StampInTwoCalls,
+    /// L4 leaves the own forward number as it is.
+    ForwardLeft,
+    /// The walk takes the head for a stamped node when it is led back to it.
+    HeadMarked,
+    /// A node is given out again as soon as it is unlinked.
+    ReuseAtOnce,
+}
+
+/// A queue with one mistake.
+#[derive(Clone, Debug)]
+pub struct Wrong {
+    queue: Queue,
+    mistake: Mistake,
+    /// For `StampInTwoCalls`: the time that each processor has read.
+    read_time: [Option<u32>; MOST_PROCESSORS],
+}
+
+impl Wrong {
+    /// A wrong queue over a fresh one.
+    pub fn new(queue: Queue, mistake: Mistake) -> Wrong {
+        Wrong {
+            queue,
+            mistake,
+            read_time: [None; MOST_PROCESSORS],
+        }
+    }
+
+    /// The step of processor p, if the mistake touches its stage.
+    fn wrong_step(&mut self, p: usize) -> Option<Answer> {
+        let stage = self.queue.processors[p].stage;
+        match (self.mistake, stage) {
+            (Mistake::SearchWhileGreater, Stage::Search(op, a)) => {
+                let on = self.leads_to_greater(p, a);
+                self.queue.clock += 1;
+                Some(self.queue.search(p, op, a, on))
+            }
+            (Mistake::SearchWhileGreater, Stage::G1Read(op, a)) => {
+                let on = self.leads_to_greater(p, a);
+                self.queue.clock += 1;
+                Some(self.queue.seek_read(p, op, a, on))
+            }
+            (Mistake::SearchWhileGreater, Stage::G3Reread(op, a)) => {
+                let on = self.leads_to_greater(p, a);
+                self.queue.clock += 1;
+                Some(self.queue.seek_reread(p, op, a, on))
+            }
+            (Mistake::WalkSticks, Stage::W2Compare(a)) if !self.stamped_early(p, a) => {
+                self.queue.clock += 1;
+                Some(self.queue.go(p, Stage::W2Compare(a)))
+            }
+            (Mistake::StampInTwoCalls, Stage::I5Stamp) => {
+                self.queue.clock += 1;
+                match self.read_time[p].take() {
+                    None => {
+                        self.read_time[p] = Some(self.queue.clock);
+                        Some(Answer::Moved)
+                    }
+                    Some(time) => {
+                        self.queue.own_node(p).stamp = Some(time);
+                        let entry = self.queue.entry(self.queue.processors[p].own);
+                        Some(self.queue.finish(p, Answer::Inserted(entry)))
+                    }
+                }
+            }
+            (Mistake::ForwardLeft, Stage::L4PointBack(a)) => {
+                self.queue.clock += 1;
+                Some(self.queue.go(p, Stage::L5UnlockOwn(a)))
+            }
+            (Mistake::HeadMarked, Stage::W2Compare(a)) if a.node == HEAD => {
+                self.queue.clock += 1;
+                Some(self.queue.go(p, Stage::W3Mark(a)))
+            }
+            _ => None,
+        }
+    }
+
+    fn leads_to_greater(&self, p: usize, a: Place) -> bool {
+        let key = self.queue.key(self.queue.after(a));
+        key != Key::Tail && key > self.queue.key(self.queue.processors[p].own)
+    }
+
+    fn stamped_early(&self, p: usize, a: Place) -> bool {
+        let begin = self.queue.processors[p].begin;
+        self.queue.nodes[a.node as usize]
+            .stamp
+            .is_some_and(|time| time < begin)
+    }
+
+    /// An Insert that takes the longest-retired node whoever is busy.
+    fn insert_at_once(&mut self, call: &Call) -> Option<Outcome> {
+        let Call::Insert {
+            processor,
+            due,
+            item,
+            height,
+        } = *call
+        else {
+            return None;
+        };
+        let (p, filing) = self
+            .queue
+            .insert_in_range(processor, due, item, height)
+            .ok()?;
+        let (node, _) = self.queue.longest_retired()?;
+        Some(Outcome::Began(self.queue.fill(p, node, &filing)))
+    }
+}
+
+impl Machine for Wrong {
+    fn call(&mut self, call: &Call) -> Outcome {
+        if let Call::Step { processor } = *call {
+            let known = processor < u64::from(self.queue.processor_count);
+            if known && self.queue.clock < LIMIT {
+                if let Some(answer) = self.wrong_step(processor as usize) {
+                    return Outcome::Stepped(answer);
+                }
+            }
+        }
+        let outcome = self.queue.call_inner(call);
+        if self.mistake == Mistake::ReuseAtOnce && outcome == Outcome::Refused(37) {
+            return self.insert_at_once(call).unwrap_or(outcome);
+        }
+        outcome
+    }
+
+    fn queue(&self) -> &Queue {
+        &self.queue
+    }
+}

@@ -1,0 +1,200 @@
+//! Single changes to a record that passes check 21: those that break it, those
+//! that bring a field to the edge of its range, and those past P, N+1 and L.
+
+use crate::queue::{Node, Operation, Place, Processor, Queue, Stage, Use, HEAD, LIMIT};
+use crate::queue::{MOST_LEVELS, MOST_PROCESSORS, NODE_SLOTS};
+
+mod breaking;
+
+pub use breaking::breaking;
+
+/// One change with a name.
+pub struct Change {
+    /// What is changed, in words.
+    pub name: String,
+    /// Makes the change.
+    pub make: Box<dyn Fn(&mut Queue)>,
+}
+
+fn change(name: String, make: impl Fn(&mut Queue) + 'static) -> Change {
+    Change {
+        name,
+        make: Box::new(make),
+    }
+}
+
+fn on_node(n: usize, name: String, make: impl Fn(&mut Node) + 'static) -> Change {
+    change(format!("node {n} {name}"), move |queue| {
+        make(&mut queue.nodes[n])
+    })
+}
+
+fn on_processor(p: usize, name: String, make: impl Fn(&mut Processor) + 'static) -> Change {
+    change(format!("processor {p} {name}"), move |queue| {
+        make(&mut queue.processors[p])
+    })
+}
+
+/// Every stage that stands at this place.
+pub fn stages_at(a: Place, b: u8) -> Vec<Stage> {
+    let mut stages = vec![
+        Stage::I1PointOwn(a),
+        Stage::I2Link(a),
+        Stage::I3Unlock(a),
+        Stage::L2LockOwn(a),
+        Stage::L3Unlink(a),
+        Stage::L4PointBack(a),
+        Stage::L5UnlockOwn(a),
+        Stage::L6Unlock(a),
+    ];
+    for op in [Operation::Insert, Operation::DeleteMin] {
+        stages.push(Stage::Search(op, a));
+        stages.push(Stage::G1Read(op, a));
+        stages.push(Stage::G2Lock(op, a));
+        stages.push(Stage::G3Reread(op, a));
+        stages.push(Stage::G4Unlock(op, a, b));
+    }
+    stages
+}
+
+/// Every stage of a walk at this place.
+pub fn walk_stages_at(a: Place) -> Vec<Stage> {
+    vec![Stage::W1Read(a), Stage::W2Compare(a), Stage::W3Mark(a)]
+}
+
+/// Every stage with an own node and no place.
+pub fn stages_without_place() -> Vec<Stage> {
+    vec![
+        Stage::I4UnlockNode,
+        Stage::I5Stamp,
+        Stage::L1LockNode,
+        Stage::L7UnlockNode,
+        Stage::L8Retire,
+    ]
+}
+
+fn stage_change(p: usize, stage: Stage, own: u8) -> Change {
+    on_processor(p, format!("own {own} {stage:?}"), move |processor| {
+        processor.stage = stage;
+        processor.own = own;
+    })
+}
+
+/// Changes that bring a field to the edge of its range and keep check 21.
+pub fn to_the_edge(queue: &Queue) -> Vec<Change> {
+    let (tail, last, levels) = (queue.tail(), queue.node_count, queue.level_count);
+    let (clock, holders) = (queue.clock, queue.processor_count);
+    let mut changes = Vec::new();
+    for n in 0..=tail as usize {
+        changes.push(on_node(n, "at its greatest".to_string(), move |node| {
+            node.forward[..levels as usize].fill(tail);
+            node.locks[..levels as usize].fill(holders);
+            node.node_lock = holders;
+            node.due = LIMIT;
+            node.item = LIMIT;
+            node.ticket = clock;
+            node.height = levels;
+            node.usage = Use::Retired(clock);
+        }));
+        changes.push(on_node(n, "at its least".to_string(), move |node| {
+            node.forward[..levels as usize].fill(HEAD);
+            node.height = 1;
+            node.usage = Use::Retired(0);
+            node.stamp = None;
+        }));
+    }
+    for n in 1..=last as usize {
+        changes.push(on_node(n, "stamp now".to_string(), move |node| {
+            node.stamp = Some(clock)
+        }));
+    }
+    for p in 0..holders as usize {
+        changes.push(on_processor(p, "begin and saved".to_string(), move |it| {
+            it.begin = clock;
+            it.saved[..levels as usize].fill(tail);
+        }));
+        for node in [HEAD, tail] {
+            let end = Place {
+                node,
+                level: levels,
+            };
+            for stage in stages_at(end, node) {
+                changes.push(stage_change(p, stage, last));
+            }
+            changes.push(stage_change(p, Stage::W1Read(end), tail));
+            changes.push(stage_change(p, Stage::W2Compare(end), 0));
+            changes.push(stage_change(p, Stage::Idle, node));
+        }
+        for stage in stages_without_place() {
+            changes.push(stage_change(p, stage, last));
+        }
+        for node in [1, last] {
+            let entry = Place {
+                node,
+                level: levels,
+            };
+            changes.push(stage_change(p, Stage::W3Mark(entry), tail));
+        }
+    }
+    changes
+}
+
+/// Changes past P, N+1 and L, one slot at a time, which no call may notice.
+pub fn past(queue: &Queue) -> Vec<Change> {
+    let mut changes = Vec::new();
+    let far = Place {
+        node: u8::MAX,
+        level: u8::MAX,
+    };
+    for n in queue.tail() as usize + 1..NODE_SLOTS {
+        changes.push(on_node(n, "past N+1".to_string(), |node| {
+            *node = Node {
+                forward: [u8::MAX; MOST_LEVELS],
+                locks: [u8::MAX; MOST_LEVELS],
+                node_lock: u8::MAX,
+                mark: true,
+                stamp: Some(u32::MAX),
+                due: u32::MAX,
+                ticket: u32::MAX,
+                item: u32::MAX,
+                height: u8::MAX,
+                usage: Use::InUse,
+            };
+        }));
+        changes.push(on_node(n, "never used past N+1".to_string(), |node| {
+            node.height = 0;
+            node.usage = Use::Retired(0);
+        }));
+    }
+    for p in queue.processor_count as usize..MOST_PROCESSORS {
+        changes.push(on_processor(p, "past P".to_string(), move |processor| {
+            *processor = Processor {
+                begin: 0,
+                own: u8::MAX,
+                stage: Stage::Search(Operation::Insert, far),
+                saved: [u8::MAX; MOST_LEVELS],
+            };
+        }));
+        changes.push(on_processor(p, "late past P".to_string(), |processor| {
+            processor.begin = u32::MAX
+        }));
+    }
+    for i in queue.level_count as usize..MOST_LEVELS {
+        for n in 0..=queue.tail() as usize {
+            changes.push(on_node(n, format!("forward[{i}] past L"), move |node| {
+                node.forward[i] = u8::MAX
+            }));
+            changes.push(on_node(n, format!("lock[{i}] past L"), move |node| {
+                node.locks[i] = u8::MAX
+            }));
+        }
+        for p in 0..queue.processor_count as usize {
+            changes.push(on_processor(
+                p,
+                format!("saved[{i}] past L"),
+                move |processor| processor.saved[i] = u8::MAX,
+            ));
+        }
+    }
+    changes
+}

@@ -1,0 +1,260 @@
+//! The queue record, and how a fresh one is made.
+//!
+//! Levels are numbered from 1; the slot of level i is i - 1. Node 0 is the
+//! head and node N+1 the tail. A lock holds 0 while it is free and p + 1
+//! while processor p holds it. Every field is open, so that a test can put
+//! any value into it.
+
+/// The most processors a queue can have.
+pub const MOST_PROCESSORS: usize = 16;
+/// The most nodes for entries a queue can have.
+pub const MOST_NODES: usize = 200;
+/// The most levels a queue can have.
+pub const MOST_LEVELS: usize = 8;
+/// Node slots of a record: the entries, the head and the tail.
+pub const NODE_SLOTS: usize = MOST_NODES + 2;
+/// The last value of the clock, and the greatest due minute and item.
+pub const LIMIT: u32 = 999_999;
+/// The greatest count of seconds that becomes a due minute.
+pub const MOST_SECONDS: u64 = 59_999_999;
+/// The number of the head.
+pub const HEAD: u8 = 0;
+/// What a lock holds while nobody has it.
+pub const FREE: u8 = 0;
+
+/// The number of a refusal, from the table of document 01.
+pub type Refusal = u32;
+
+/// Whether a node may be taken by an Insert.
+#[derive(Clone, Copy, PartialEq, Eq, Debug)]
+pub enum Use {
+    /// No Insert has taken it yet.
+    Never,
+    /// It holds an entry.
+    InUse,
+    /// It held an entry that was handed out at this time.
+    Retired(u32),
+}
+
+/// One node of the queue.
+#[derive(Clone, Copy, PartialEq, Eq, Debug)]
+pub struct Node {
+    /// The next node, for each level.
+    pub forward: [u8; MOST_LEVELS],
+    /// The holder of the lock, for each level.
+    pub locks: [u8; MOST_LEVELS],
+    /// The holder of the node lock.
+    pub node_lock: u8,
+    /// Set by the Delete_Min that takes this entry.
+    pub mark: bool,
+    /// The time at which the Insert answered, or none.
+    pub stamp: Option<u32>,
+    /// The due minute.
+    pub due: u32,
+    /// The time at which the Insert began.
+    pub ticket: u32,
+    /// The item.
+    pub item: u32,
+    /// On how many levels the node is linked.
+    pub height: u8,
+    /// Never used, in use or retired.
+    pub usage: Use,
+}
+
+/// Where an operation stands: a node and a level.
+#[derive(Clone, Copy, PartialEq, Eq, Debug)]
+pub struct Place {
+    /// The node.
+    pub node: u8,
+    /// The level, from 1.
+    pub level: u8,
+}
+
+/// Which operation a Search or a Lock-seek belongs to.
+#[derive(Clone, Copy, PartialEq, Eq, Debug)]
+pub enum Operation {
+    /// An Insert.
+    Insert,
+    /// A Delete_Min that has marked its node.
+    DeleteMin,
+}
+
+/// What the next step of a processor does. The letters are document 01's.
+#[derive(Clone, Copy, PartialEq, Eq, Debug)]
+pub enum Stage {
+    /// No operation.
+    Idle,
+    /// Search: read, then move or go down.
+    Search(Operation, Place),
+    /// G1: read, then move or try the lock.
+    G1Read(Operation, Place),
+    /// G2: take the place's lock.
+    G2Lock(Operation, Place),
+    /// G3: read again under the lock.
+    G3Reread(Operation, Place),
+    /// G4: free the lock and move to the node that G3 read.
+    G4Unlock(Operation, Place, u8),
+    /// I1: own forward number := the place's.
+    I1PointOwn(Place),
+    /// I2: the place's forward number := own node.
+    I2Link(Place),
+    /// I3: free the place's lock.
+    I3Unlock(Place),
+    /// I4: free the node lock.
+    I4UnlockNode,
+    /// I5: stamp and answer.
+    I5Stamp,
+    /// W1: read the next node of level 1.
+    W1Read(Place),
+    /// W2: compare the stamp with the begin time.
+    W2Compare(Place),
+    /// W3: set the mark.
+    W3Mark(Place),
+    /// L1: take the node lock.
+    L1LockNode,
+    /// L2: take own lock of the level.
+    L2LockOwn(Place),
+    /// L3: the place's forward number := own forward number.
+    L3Unlink(Place),
+    /// L4: own forward number := the place.
+    L4PointBack(Place),
+    /// L5: free own lock of the level.
+    L5UnlockOwn(Place),
+    /// L6: free the place's lock.
+    L6Unlock(Place),
+    /// L7: free the node lock.
+    L7UnlockNode,
+    /// L8: retire the node and hand it out.
+    L8Retire,
+}
+
+/// One processor of the queue.
+#[derive(Clone, Copy, PartialEq, Eq, Debug)]
+pub struct Processor {
+    /// The time at which its operation began; 0 while idle.
+    pub begin: u32,
+    /// Its operation's own node; 0 while there is none.
+    pub own: u8,
+    /// What its next step does.
+    pub stage: Stage,
+    /// The saved node, for each level.
+    pub saved: [u8; MOST_LEVELS],
+}
+
+/// The queue record.
+#[derive(Clone, PartialEq, Eq, Debug)]
+pub struct Queue {
+    /// P, the number of processors.
+    pub processor_count: u8,
+    /// N, the number of nodes for entries.
+    pub node_count: u8,
+    /// L, the number of levels.
+    pub level_count: u8,
+    /// The clock: how many begins and steps were accepted.
+    pub clock: u32,
+    /// The nodes, by number.
+    pub nodes: [Node; NODE_SLOTS],
+    /// The processors, by number.
+    pub processors: [Processor; MOST_PROCESSORS],
+}
+
+/// The order of nodes: the head, then entries by due and ticket, then the
+/// tail. The order of the cases is the order of the keys.
+#[derive(Clone, Copy, PartialEq, Eq, PartialOrd, Ord, Debug)]
+pub enum Key {
+    /// Before every entry.
+    Head,
+    /// Due minute, then ticket.
+    Entry(u32, u32),
+    /// After every entry.
+    Tail,
+}
+
+/// A fresh queue for `p` processors, `n` nodes and `l` levels.
+/// Refused with 11, 12 or 13 when the first, second or third is out of range.
+pub fn fresh(p: u64, n: u64, l: u64) -> Result<Queue, Refusal> {
+    if p < 1 || p > MOST_PROCESSORS as u64 {
+        return Err(11);
+    }
+    if n < 1 || n > MOST_NODES as u64 {
+        return Err(12);
+    }
+    if l < 1 || l > MOST_LEVELS as u64 {
+        return Err(13);
+    }
+    let tail = n as u8 + 1;
+    let node = Node {
+        forward: [tail; MOST_LEVELS],
+        locks: [FREE; MOST_LEVELS],
+        node_lock: FREE,
+        mark: false,
+        stamp: None,
+        due: 0,
+        ticket: 0,
+        item: 0,
+        height: 1,
+        usage: Use::Never,
+    };
+    let processor = Processor {
+        begin: 0,
+        own: 0,
+        stage: Stage::Idle,
+        saved: [HEAD; MOST_LEVELS],
+    };
+    Ok(Queue {
+        processor_count: p as u8,
+        node_count: n as u8,
+        level_count: l as u8,
+        clock: 0,
+        nodes: [node; NODE_SLOTS],
+        processors: [processor; MOST_PROCESSORS],
+    })
+}
+
+/// A count of seconds as whole minutes, the rest dropped.
+/// Refused with 35 above 59,999,999 seconds.
+pub fn due_from_seconds(seconds: u64) -> Result<u32, Refusal> {
+    if seconds > MOST_SECONDS {
+        return Err(35);
+    }
+    Ok((seconds / 60) as u32)
+}
+
+/// The array slot of a level.
+pub fn slot(level: u8) -> usize {
+    level as usize - 1
+}
+
+impl Queue {
+    /// The number of the tail.
+    pub fn tail(&self) -> u8 {
+        self.node_count + 1
+    }
+
+    /// The key of a node.
+    pub fn key(&self, node: u8) -> Key {
+        if node == HEAD {
+            Key::Head
+        } else if node == self.tail() {
+            Key::Tail
+        } else {
+            let node = &self.nodes[node as usize];
+            Key::Entry(node.due, node.ticket)
+        }
+    }
+
+    /// The processors of the queue that are in an operation.
+    pub fn busy(&self) -> impl Iterator<Item = &Processor> {
+        self.processors[..self.processor_count as usize]
+            .iter()
+            .filter(|processor| processor.stage != Stage::Idle)
+    }
+
+    /// How many nodes are in use, without check 21.
+    pub fn backlog_inner(&self) -> u32 {
+        self.nodes[1..=self.node_count as usize]
+            .iter()
+            .filter(|node| node.usage == Use::InUse)
+            .count() as u32
+    }
+}

@@ -1,0 +1,260 @@
+//! Random schedules: which call comes next.
+//!
+//! Processors are held back in the middle of an operation and released late,
+//! some run in bursts, dues are often equal, and calls that must be refused
+//! come in between. A schedule sees what the calls give back and never the
+//! record.
+
+use crate::answer::Answer;
+use crate::calls::{Call, Outcome};
+use crate::queue::{LIMIT, MOST_LEVELS, MOST_NODES, MOST_PROCESSORS};
+use crate::random::Random;
+
+/// The sizes of a queue.
+#[derive(Clone, Copy, PartialEq, Eq, Debug)]
+pub struct Sizes {
+    /// P, the number of processors.
+    pub processors: u64,
+    /// N, the number of nodes for entries.
+    pub nodes: u64,
+    /// L, the number of levels.
+    pub levels: u64,
+}
+
+impl Sizes {
+    /// Few nodes, so that each is used again often.
+    pub fn small(random: &mut Random) -> Sizes {
+        Sizes {
+            processors: random.between(1, 4),
+            nodes: random.between(1, 4),
+            levels: random.between(1, 3),
+        }
+    }
+
+    /// A dozen nodes or fewer.
+    pub fn middle(random: &mut Random) -> Sizes {
+        Sizes {
+            processors: random.between(2, 8),
+            nodes: random.between(1, 12),
+            levels: random.between(1, 4),
+        }
+    }
+
+    /// Anything up to the greatest sizes, and these too.
+    pub fn large(random: &mut Random) -> Sizes {
+        if random.one_in(4) {
+            return Sizes {
+                processors: MOST_PROCESSORS as u64,
+                nodes: MOST_NODES as u64,
+                levels: MOST_LEVELS as u64,
+            };
+        }
+        Sizes {
+            processors: random.between(1, MOST_PROCESSORS as u64),
+            nodes: random.between(13, MOST_NODES as u64),
+            levels: random.between(1, MOST_LEVELS as u64),
+        }
+    }
+}
+
+/// A schedule in the making.
+#[derive(Clone, Debug)]
+pub struct Schedule {
+    random: Random,
+    sizes: Sizes,
+    /// Calls made so far.
+    made: u64,
+    /// How many different dues there are.
+    dues: u64,
+    /// Of 100 begins, how many are Inserts; drawn anew from time to time.
+    inserts: u64,
+    /// One call in so many is made to be refused.
+    bad_once_in: u64,
+    /// One call in so many holds a processor back.
+    hold_once_in: u64,
+    /// A processor that runs alone, and for how many calls more.
+    burst: (u64, u64),
+    /// So many calls in vain (a wait, 37 or EMPTY) release whoever is held.
+    patience: u64,
+    /// Calls in vain since the last release.
+    in_vain: u64,
+    /// Until which call each processor is held back.
+    held_until: [u64; MOST_PROCESSORS],
+    /// Which processors are in an operation.
+    busy: [bool; MOST_PROCESSORS],
+}
+
+impl Schedule {
+    /// A schedule for a queue of these sizes; equal seeds and equal answers
+    /// give equal schedules.
+    pub fn new(seed: u64, sizes: Sizes) -> Schedule {
+        let mut random = Random::new(seed);
+        let dues = random.among(&[1, 2, 3, 3, 8, u64::from(LIMIT) + 1]);
+        let bad_once_in = random.among(&[10, 30, 100]);
+        let hold_once_in = random.among(&[10, 40, 200, 1000]);
+        let patience = random.among(&[3, 10, 30, 100, 1000]);
+        Schedule {
+            random,
+            sizes,
+            made: 0,
+            dues,
+            inserts: 50,
+            bad_once_in,
+            hold_once_in,
+            burst: (0, 0),
+            patience,
+            in_vain: 0,
+            held_until: [0; MOST_PROCESSORS],
+            busy: [false; MOST_PROCESSORS],
+        }
+    }
+
+    /// The same schedule with few different dues.
+    pub fn with_dues(mut self, dues: u64) -> Schedule {
+        self.dues = dues;
+        self
+    }
+
+    /// The next call.
+    pub fn next_call(&mut self) -> Call {
+        self.made += 1;
+        if self.random.one_in(200) {
+            self.inserts = self.random.among(&[20, 50, 50, 60, 80]);
+        }
+        if self.random.one_in(self.hold_once_in) {
+            let p = self.random.below(self.sizes.processors) as usize;
+            let time = self.random.among(&[10, 50, 200, 1000, 3000]);
+            self.held_until[p] = self.made + self.random.below(time);
+        }
+        if self.random.one_in(50) {
+            return Call::Backlog;
+        }
+        if self.random.one_in(self.bad_once_in) {
+            return self.bad_call();
+        }
+        let processor = self.next_processor();
+        if self.busy[processor as usize] {
+            Call::Step { processor }
+        } else {
+            self.begin(processor)
+        }
+    }
+
+    /// Takes notice of what a call gave back.
+    pub fn note(&mut self, call: &Call, outcome: &Outcome) {
+        self.note_vain(outcome);
+        match (*call, *outcome) {
+            (Call::Insert { processor, .. } | Call::DeleteMin { processor }, Outcome::Began(_)) => {
+                self.busy[processor as usize] = true;
+            }
+            (
+                Call::Step { processor },
+                Outcome::Stepped(Answer::Empty | Answer::Inserted(_) | Answer::HandedOut(_)),
+            ) => {
+                self.busy[processor as usize] = false;
+            }
+            _ => {}
+        }
+    }
+
+    /// Calls in vain end a burst, and many of them release whoever is held.
+    fn note_vain(&mut self, outcome: &Outcome) {
+        let vain = matches!(
+            outcome,
+            Outcome::Stepped(Answer::Waits | Answer::Empty) | Outcome::Refused(37)
+        );
+        if vain {
+            self.burst.1 = 0;
+            self.in_vain += 1;
+        }
+        if self.in_vain > self.patience {
+            self.in_vain = 0;
+            self.held_until = [0; MOST_PROCESSORS];
+        }
+    }
+
+    /// The processors that are in an operation.
+    pub fn busy(&self) -> Vec<u64> {
+        (0..self.sizes.processors)
+            .filter(|&p| self.busy[p as usize])
+            .collect()
+    }
+
+    fn next_processor(&mut self) -> u64 {
+        if self.burst.1 > 0 {
+            self.burst.1 -= 1;
+            return self.burst.0;
+        }
+        let ready: Vec<u64> = (0..self.sizes.processors)
+            .filter(|&p| self.held_until[p as usize] < self.made)
+            .collect();
+        if ready.is_empty() {
+            self.held_until = [0; MOST_PROCESSORS];
+            return self.random.below(self.sizes.processors);
+        }
+        let processor = self.random.among(&ready);
+        if self.random.one_in(20) {
+            self.burst = (processor, self.random.below(40));
+        }
+        processor
+    }
+
+    fn begin(&mut self, processor: u64) -> Call {
+        if self.random.below(100) < self.inserts {
+            self.insert(processor)
+        } else {
+            Call::DeleteMin { processor }
+        }
+    }
+
+    fn insert(&mut self, processor: u64) -> Call {
+        Call::Insert {
+            processor,
+            due: self.random.below(self.dues),
+            item: self.random.below(100),
+            height: self.random.between(1, self.sizes.levels),
+        }
+    }
+
+    /// A call that should be refused, in each way that a caller can earn it.
+    fn bad_call(&mut self) -> Call {
+        let sizes = self.sizes;
+        let far = [sizes.processors, 16, 17, 255, 256, 1_000_000, 1 << 32];
+        let stranger = self.random.among(&far).max(sizes.processors);
+        let processor = self.random.below(sizes.processors);
+        let above = u64::from(LIMIT) + 1;
+        let too_much = self.random.among(&[above, above + 1, 1 << 32]);
+        match self.random.below(10) {
+            0 => self.insert(stranger),
+            1 => Call::DeleteMin {
+                processor: stranger,
+            },
+            2 => Call::Step {
+                processor: stranger,
+            },
+            3 | 4 => self.begin(processor),
+            5 | 6 => match (0..sizes.processors).find(|&p| !self.busy[p as usize]) {
+                Some(idle) => Call::Step { processor: idle },
+                None => Call::Step { processor },
+            },
+            7 => Call::Insert {
+                processor,
+                due: too_much,
+                item: 0,
+                height: self.random.between(1, sizes.levels + 1),
+            },
+            8 => Call::Insert {
+                processor,
+                due: 0,
+                item: too_much,
+                height: 1,
+            },
+            _ => Call::Insert {
+                processor,
+                due: 0,
+                item: 0,
+                height: self.random.among(&[0, sizes.levels + 1, 9, 256, 257]),
+            },
+        }
+    }
+}

@@ -1,0 +1,99 @@
+//! How often each thing happened in a run, so that a test can show that it did.
+
+use crate::answer::Answer;
+use crate::calls::Outcome;
+use crate::queue::{Queue, Stage};
+
+/// How often each thing happened.
+#[derive(Clone, Copy, Default, Debug)]
+pub struct Tally {
+    /// All calls.
+    pub calls: u64,
+    /// Calls after which the whole invariant was looked at.
+    pub invariant: u64,
+    /// Steps that moved.
+    pub moved: u64,
+    /// Steps that waited.
+    pub waits: u64,
+    /// Inserts that ended.
+    pub inserted: u64,
+    /// Entries marked.
+    pub marked: u64,
+    /// Entries handed out.
+    pub handed: u64,
+    /// Delete_Mins that found nothing.
+    pub empty: u64,
+    /// Backlog calls.
+    pub backlogs: u64,
+    /// Nodes taken again.
+    pub reused: u64,
+    /// Lock-seeks that gave a lock up again (G4).
+    pub moved_on: u64,
+    /// Walks that found a mark set already (W3).
+    pub marks_lost: u64,
+    /// Walks that were led back to an earlier node (W1).
+    pub led_back: u64,
+    /// Waits for the own lock of a level (L2).
+    pub own_waits: u64,
+    /// Refusals 31 to 37, by their last digit.
+    pub refused: [u64; 8],
+}
+
+impl Tally {
+    /// Adds another tally to this one.
+    pub fn add(&mut self, other: &Tally) {
+        self.calls += other.calls;
+        self.invariant += other.invariant;
+        self.moved += other.moved;
+        self.waits += other.waits;
+        self.inserted += other.inserted;
+        self.marked += other.marked;
+        self.handed += other.handed;
+        self.empty += other.empty;
+        self.backlogs += other.backlogs;
+        self.reused += other.reused;
+        self.moved_on += other.moved_on;
+        self.marks_lost += other.marks_lost;
+        self.led_back += other.led_back;
+        self.own_waits += other.own_waits;
+        for (mine, others) in self.refused.iter_mut().zip(other.refused) {
+            *mine += others;
+        }
+    }
+
+    /// Counts one call.
+    pub(crate) fn count(&mut self, outcome: &Outcome) {
+        self.calls += 1;
+        match *outcome {
+            Outcome::Began(_) => {}
+            Outcome::Count(_) => self.backlogs += 1,
+            Outcome::Refused(number) => self.refused[number as usize - 30] += 1,
+            Outcome::Stepped(answer) => match answer {
+                Answer::Moved => self.moved += 1,
+                Answer::Waits => self.waits += 1,
+                Answer::Empty => self.empty += 1,
+                Answer::Marked(_) => self.marked += 1,
+                Answer::Inserted(_) => self.inserted += 1,
+                Answer::HandedOut(_) => self.handed += 1,
+            },
+        }
+    }
+
+    /// Counts what seldom happens: `was` is the stage before the step, `queue`
+    /// the record after it.
+    pub(crate) fn count_rare(&mut self, was: &Stage, p: u64, answer: &Answer, queue: &Queue) {
+        match (*was, *answer) {
+            (Stage::G4Unlock(..), _) => self.moved_on += 1,
+            (Stage::W3Mark(_), Answer::Moved) => self.marks_lost += 1,
+            (Stage::L2LockOwn(_), Answer::Waits) => self.own_waits += 1,
+            (Stage::W1Read(a), Answer::Moved) => {
+                if let Stage::W2Compare(b) = queue.processors[p as usize].stage {
+                    if queue.key(b.node) < queue.key(a.node) {
+                        self.led_back += 1;
+                    }
+                }
+            }
+            _ => {}
+        }
+    }
+}

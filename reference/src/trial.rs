@@ -1,0 +1,202 @@
+//! One run: a queue, a schedule, and all that watches them.
+
+use crate::book::Book;
+use crate::calls::{Call, Outcome};
+use crate::ghost::Ghost;
+use crate::invariant;
+use crate::queue::{fresh, Queue};
+use crate::refusals::Refusals;
+use crate::schedule::{Schedule, Sizes};
+use crate::tally::Tally;
+
+/// Something that takes calls: the queue, or a wrong one.
+pub trait Machine {
+    /// Makes a call.
+    fn call(&mut self, call: &Call) -> Outcome;
+    /// The record.
+    fn queue(&self) -> &Queue;
+}
+
+/// The right one. Its calls leave check 21 out: a run starts fresh, and
+/// `Sound` is a conjunct of the invariant.
+impl Machine for Queue {
+    fn call(&mut self, call: &Call) -> Outcome {
+        self.call_inner(call)
+    }
+
+    fn queue(&self) -> &Queue {
+        self
+    }
+}
+
+/// A run that went wrong: where, and in which way.
+#[derive(Clone, Debug)]
+pub struct Failure {
+    /// The seed of the schedule.
+    pub seed: u64,
+    /// The sizes of the queue.
+    pub sizes: Sizes,
+    /// The number of the call, from 1.
+    pub call: u64,
+    /// What went wrong.
+    pub fault: String,
+}
+
+/// A run under way.
+pub struct Trial<M: Machine> {
+    /// The queue.
+    pub machine: M,
+    /// The book.
+    pub book: Book,
+    /// The ghost.
+    pub ghost: Ghost,
+    /// The count of what happened.
+    pub tally: Tally,
+    /// The calls made so far, if they are kept.
+    pub calls: Vec<Call>,
+    schedule: Schedule,
+    refusals: Refusals,
+    seed: u64,
+    sizes: Sizes,
+}
+
+/// How many turns a drain may take: generously, for each processor twice past
+/// every node of every level, with a dozen steps more for each. The drain test
+/// prints how much of it was used.
+pub fn drain_bound(sizes: Sizes) -> u64 {
+    sizes.processors * (2 * sizes.levels * (sizes.nodes + 12) + 12)
+}
+
+/// A fresh queue of sizes that are in range.
+pub fn fresh_of(sizes: Sizes) -> Queue {
+    fresh(sizes.processors, sizes.nodes, sizes.levels).expect("the sizes are in range")
+}
+
+impl<M: Machine> Trial<M> {
+    /// A run of this machine, which is fresh and of these sizes.
+    pub fn new(machine: M, seed: u64, sizes: Sizes) -> Trial<M> {
+        Trial {
+            ghost: Ghost::new(machine.queue()),
+            machine,
+            book: Book::new(),
+            tally: Tally::default(),
+            calls: Vec::new(),
+            schedule: Schedule::new(seed, sizes),
+            refusals: Refusals::new(sizes),
+            seed,
+            sizes,
+        }
+    }
+
+    /// Makes so many calls of the schedule; each answer goes through the book
+    /// and the table of refusals, and after every `every`-th call the
+    /// invariant is looked at.
+    pub fn play(&mut self, calls: u64, every: u64) -> Result<(), Failure> {
+        for _ in 0..calls {
+            let call = self.schedule.next_call();
+            let outcome = self.make(&call);
+            self.check_refusals(&call, &outcome)?;
+            self.enter(&call, &outcome)?;
+            self.refusals.note(&self.book, &call, &outcome);
+            self.tally.reused = self.refusals.reused;
+            if self.tally.calls.is_multiple_of(every) {
+                self.check_invariant()?;
+            }
+        }
+        Ok(())
+    }
+
+    /// Makes so many calls of the schedule, keeps them, and looks at nothing
+    /// but the book.
+    pub fn play_by_book(&mut self, calls: u64) -> Result<(), Failure> {
+        for _ in 0..calls {
+            let call = self.schedule.next_call();
+            self.calls.push(call);
+            let outcome = self.make(&call);
+            self.enter(&call, &outcome)?;
+        }
+        Ok(())
+    }
+
+    /// Begins nothing more and lets the busy processors take turns until all
+    /// are idle; gives the number of turns. More than `bound` is a failure.
+    pub fn drain(&mut self, bound: u64) -> Result<u64, Failure> {
+        for turns in 0..=bound {
+            let busy = self.schedule.busy();
+            if busy.is_empty() {
+                return Ok(turns);
+            }
+            for processor in busy {
+                let call = Call::Step { processor };
+                self.calls.push(call);
+                let outcome = self.make(&call);
+                self.enter(&call, &outcome)?;
+                self.refusals.note(&self.book, &call, &outcome);
+            }
+        }
+        Err(self.failure("an operation does not end".to_string()))
+    }
+
+    fn make(&mut self, call: &Call) -> Outcome {
+        let was = match *call {
+            Call::Step { processor } if processor < self.sizes.processors => {
+                self.machine.queue().processors[processor as usize]
+            }
+            _ => self.machine.queue().processors[0],
+        };
+        let outcome = self.machine.call(call);
+        self.tally.count(&outcome);
+        self.schedule.note(call, &outcome);
+        self.ghost
+            .follow(&was, call, &outcome, self.machine.queue());
+        if let (Call::Step { processor }, Outcome::Stepped(answer)) = (*call, outcome) {
+            self.tally
+                .count_rare(&was.stage, processor, &answer, self.machine.queue());
+        }
+        outcome
+    }
+
+    fn enter(&mut self, call: &Call, outcome: &Outcome) -> Result<(), Failure> {
+        match self.book.enter(call, outcome) {
+            Ok(()) => Ok(()),
+            Err(fault) => Err(self.failure(format!("{call:?} gave {outcome:?}: {fault}"))),
+        }
+    }
+
+    /// The refusal is the one that the calls before ask for, and the backlog
+    /// is the number of entries not handed out.
+    fn check_refusals(&self, call: &Call, outcome: &Outcome) -> Result<(), Failure> {
+        let refused = match *outcome {
+            Outcome::Refused(number) => Some(number),
+            _ => None,
+        };
+        let expected = self.refusals.expected(&self.book, call);
+        if refused != expected {
+            let text = format!("{call:?} gave {outcome:?}, but refusal {expected:?} was due");
+            return Err(self.failure(text));
+        }
+        match *outcome {
+            Outcome::Count(count) if count as usize != self.book.entries.len() => {
+                Err(self.failure(format!("backlog {count} is wrong")))
+            }
+            _ => Ok(()),
+        }
+    }
+
+    fn check_invariant(&mut self) -> Result<(), Failure> {
+        self.tally.invariant += 1;
+        match invariant::first_broken(self.machine.queue(), &self.ghost, &self.book) {
+            None => Ok(()),
+            Some(name) => Err(self.failure(format!("conjunct {name} does not hold"))),
+        }
+    }
+
+    fn failure(&self, fault: String) -> Failure {
+        Failure {
+            seed: self.seed,
+            sizes: self.sizes,
+            call: self.tally.calls,
+            fault,
+        }
+    }
+}

@@ -1,0 +1,130 @@
+//! The steps are defined for every record that passes check 21, reached by a
+//! run or not, and keep check 21.
+
+use darthog_reference::any_record::{any_record, slots_past};
+use darthog_reference::calls::{Call, Outcome};
+use darthog_reference::queue::{Queue, Stage, LIMIT};
+use darthog_reference::random::Random;
+use std::collections::HashMap;
+use std::mem::{discriminant, Discriminant};
+
+const RECORDS: u64 = 100_000;
+const CALLS_EACH: u64 = 8;
+
+fn any_call(random: &mut Random, queue: &Queue) -> Call {
+    let processor = random.below(u64::from(queue.processor_count) + 1);
+    match random.below(8) {
+        0 => Call::Backlog,
+        1 => Call::DeleteMin { processor },
+        2 | 3 => Call::Insert {
+            processor,
+            due: random.among(&[0, 1, 999_999, 1_000_000]),
+            item: random.among(&[0, 1, 999_999, 1_000_000]),
+            height: random.below(u64::from(queue.level_count) + 2),
+        },
+        _ => Call::Step { processor },
+    }
+}
+
+/// The numbers of the nodes and of the processors that differ.
+fn differing(before: &Queue, after: &Queue) -> (Vec<usize>, Vec<usize>) {
+    let nodes = (0..before.nodes.len())
+        .filter(|&n| before.nodes[n] != after.nodes[n])
+        .collect();
+    let processors = (0..before.processors.len())
+        .filter(|&p| before.processors[p] != after.processors[p])
+        .collect();
+    (nodes, processors)
+}
+
+fn check_call(before: &Queue, call: &Call, outcome: &Outcome, after: &Queue) {
+    assert!(after.sound(), "{call:?} {outcome:?}");
+    let processor = match (*call, *outcome) {
+        (_, Outcome::Refused(number)) => {
+            assert_ne!(number, 21);
+            assert!(
+                before == after,
+                "{call:?} was refused and changed something"
+            );
+            return;
+        }
+        (Call::Backlog, _) => {
+            assert!(before == after, "Backlog changed something");
+            return;
+        }
+        (Call::Insert { processor, .. }, _) => processor,
+        (Call::DeleteMin { processor }, _) => processor,
+        (Call::Step { processor }, _) => processor,
+    };
+    assert_eq!(after.clock, before.clock + 1);
+    assert_eq!(after.processor_count, before.processor_count);
+    assert_eq!(after.node_count, before.node_count);
+    assert_eq!(after.level_count, before.level_count);
+    let (nodes, processors) = differing(before, after);
+    assert!(nodes.len() <= 1, "{call:?} changed nodes {nodes:?}");
+    assert!(
+        processors.iter().all(|&p| p as u64 == processor),
+        "{call:?} changed processors {processors:?}"
+    );
+    assert!(slots_past(before) == slots_past(after), "{call:?}");
+}
+
+#[test]
+fn every_call_keeps_check_21_on_any_record() {
+    let mut random = Random::new(5);
+    let mut steps: HashMap<Discriminant<Stage>, u64> = HashMap::new();
+    let mut begins = [0u64; 2];
+    let mut refusals: HashMap<u32, u64> = HashMap::new();
+    for _ in 0..RECORDS {
+        let mut queue = any_record(&mut random);
+        assert!(queue.sound());
+        for _ in 0..CALLS_EACH {
+            let call = any_call(&mut random, &queue);
+            let before = queue.clone();
+            let outcome = queue.call(&call);
+            let mut inner = before.clone();
+            assert_eq!(inner.call_inner(&call), outcome);
+            assert!(inner == queue, "the inner form does something else");
+            check_call(&before, &call, &outcome, &queue);
+            match (call, outcome) {
+                (Call::Step { processor }, Outcome::Stepped(_)) => {
+                    let stage = before.processors[processor as usize].stage;
+                    *steps.entry(discriminant(&stage)).or_default() += 1;
+                }
+                (Call::Insert { .. }, Outcome::Began(_)) => begins[0] += 1,
+                (Call::DeleteMin { .. }, Outcome::Began(_)) => begins[1] += 1,
+                (_, Outcome::Refused(number)) => *refusals.entry(number).or_default() += 1,
+                _ => {}
+            }
+        }
+    }
+    assert_eq!(steps.len(), 21, "some stage never stepped");
+    assert!(steps.values().all(|&count| count > 1000), "{steps:?}");
+    assert!(begins.iter().all(|&count| count > 1000), "{begins:?}");
+    for number in 31..=37 {
+        assert!(refusals[&number] > 1000, "{refusals:?}");
+    }
+}
+
+/// The walk reads level 1 whatever level its place holds.
+#[test]
+fn the_walk_reads_level_1_whatever_its_place_says() {
+    let mut random = Random::new(6);
+    let mut seen = 0;
+    while seen < 2000 {
+        let queue = any_record(&mut random);
+        let Stage::W1Read(mut place) = queue.processors[0].stage else {
+            continue;
+        };
+        if queue.clock == LIMIT {
+            continue;
+        }
+        let mut first = queue.clone();
+        let mut second = queue.clone();
+        place.level = 1;
+        second.processors[0].stage = Stage::W1Read(place);
+        assert_eq!(first.step(0), second.step(0));
+        assert!(first == second);
+        seen += 1;
+    }
+}

@@ -1,0 +1,172 @@
+//! The watchers can fail: wrong answers break the rule of the book that they
+//! should, and a wrong refusal is noticed.
+
+use darthog_reference::answer::{Answer, Entry};
+use darthog_reference::book::{Book, Fault};
+use darthog_reference::calls::{Call, Outcome};
+use darthog_reference::mistakes::{Mistake, Wrong};
+use darthog_reference::schedule::Sizes;
+use darthog_reference::trial::{fresh_of, Trial};
+
+const FIRST: Entry = Entry {
+    due: 9,
+    item: 1,
+    ticket: 1,
+};
+const SECOND: Entry = Entry {
+    due: 9,
+    item: 2,
+    ticket: 3,
+};
+
+fn insert(processor: u64, entry: Entry) -> (Call, Outcome) {
+    let call = Call::Insert {
+        processor,
+        due: u64::from(entry.due),
+        item: u64::from(entry.item),
+        height: 1,
+    };
+    (call, Outcome::Began(entry.ticket))
+}
+
+fn delete(processor: u64, time: u32) -> (Call, Outcome) {
+    (Call::DeleteMin { processor }, Outcome::Began(time))
+}
+
+fn step(processor: u64, answer: Answer) -> (Call, Outcome) {
+    (Call::Step { processor }, Outcome::Stepped(answer))
+}
+
+/// Enters these in turn; gives the first fault.
+fn enter(list: &[(Call, Outcome)]) -> Result<Book, Fault> {
+    let mut book = Book::new();
+    for (call, outcome) in list {
+        book.enter(call, outcome)?;
+    }
+    Ok(book)
+}
+
+/// Two entries answered at 2 and 4, and a Delete_Min of 0 begun at 5.
+fn two_entries() -> Vec<(Call, Outcome)> {
+    vec![
+        insert(0, FIRST),
+        step(0, Answer::Inserted(FIRST)),
+        insert(1, SECOND),
+        step(1, Answer::Inserted(SECOND)),
+        delete(0, 5),
+    ]
+}
+
+fn after_two_entries(more: &[(Call, Outcome)]) -> Result<Book, Fault> {
+    let mut list = two_entries();
+    list.extend_from_slice(more);
+    enter(&list)
+}
+
+#[test]
+fn right_answers_are_entered() {
+    let refused = (Call::Step { processor: 3 }, Outcome::Refused(34));
+    let book = after_two_entries(&[
+        step(0, Answer::Moved),
+        refused,
+        (Call::Backlog, Outcome::Count(2)),
+        step(0, Answer::Marked(FIRST)),
+        step(0, Answer::Waits),
+        step(0, Answer::HandedOut(FIRST)),
+        delete(0, 10),
+        step(0, Answer::Marked(SECOND)),
+        delete(1, 12),
+        step(1, Answer::Empty),
+    ])
+    .expect("all answers are right");
+    assert_eq!((book.count, book.entries.len()), (13, 1));
+}
+
+#[test]
+fn wrong_begins_and_steps_are_noticed() {
+    let wrong_time = insert(0, SECOND);
+    assert!(enter(&[wrong_time]).unwrap_err().contains("another time"));
+    let twice = after_two_entries(&[delete(0, 6)]);
+    assert!(twice.unwrap_err().contains("something is open"));
+    let idle = after_two_entries(&[step(1, Answer::Moved)]);
+    assert!(idle.unwrap_err().contains("nothing is open"));
+    let stranger = enter(&[delete(16, 1)]);
+    assert!(stranger.unwrap_err().contains("no processor"));
+    let mixed = enter(&[(Call::Backlog, Outcome::Began(1))]);
+    assert!(mixed.unwrap_err().contains("cannot give this back"));
+}
+
+#[test]
+fn wrong_answers_are_noticed() {
+    let fault = |answers: &[Answer]| {
+        let steps: Vec<_> = answers.iter().map(|&answer| step(0, answer)).collect();
+        after_two_entries(&steps).unwrap_err()
+    };
+    let other = Entry { item: 7, ..FIRST };
+    // The pick is the first: equal dues, smaller ticket.
+    assert_eq!(fault(&[Answer::Marked(SECOND)]), "marked, but not the pick");
+    assert_eq!(fault(&[Answer::Marked(other)]), "marked, but not the pick");
+    assert_eq!(fault(&[Answer::Empty]), "EMPTY, but there is a pick");
+    assert!(fault(&[Answer::HandedOut(FIRST)]).contains("no Delete_Min is open that marked"));
+    assert!(fault(&[Answer::Inserted(FIRST)]).contains("no Insert is open"));
+    let marked = Answer::Marked(FIRST);
+    assert!(fault(&[marked, Answer::Marked(SECOND)]).contains("nothing marked"));
+    assert!(fault(&[marked, Answer::Empty]).contains("nothing marked"));
+    let not_marked = "handed out, but not the entry that was marked";
+    assert_eq!(fault(&[marked, Answer::HandedOut(SECOND)]), not_marked);
+    assert_eq!(fault(&[marked, Answer::HandedOut(other)]), not_marked);
+
+    let inserted = enter(&[insert(0, FIRST), step(0, Answer::Inserted(other))]);
+    assert!(inserted.unwrap_err().contains("not the entry of this"));
+}
+
+#[test]
+fn an_entry_answered_at_or_after_the_begin_is_no_pick() {
+    let late = enter(&[
+        insert(0, FIRST),
+        delete(1, 2),
+        step(0, Answer::Inserted(FIRST)),
+        step(1, Answer::Marked(FIRST)),
+    ]);
+    assert_eq!(late.unwrap_err(), "marked, but there is no pick");
+    let open = enter(&[
+        insert(0, FIRST),
+        delete(1, 2),
+        step(1, Answer::Marked(FIRST)),
+    ]);
+    assert_eq!(open.unwrap_err(), "marked, but there is no pick");
+}
+
+#[test]
+fn an_entry_is_marked_and_handed_out_once() {
+    let twice = after_two_entries(&[
+        step(0, Answer::Marked(FIRST)),
+        delete(1, 7),
+        step(1, Answer::Marked(FIRST)),
+    ]);
+    assert_eq!(twice.unwrap_err(), "marked, but not the pick");
+    let again = after_two_entries(&[
+        step(0, Answer::Marked(FIRST)),
+        step(0, Answer::HandedOut(FIRST)),
+        delete(0, 8),
+        step(0, Answer::Marked(FIRST)),
+    ]);
+    assert_eq!(again.unwrap_err(), "marked, but not the pick");
+}
+
+/// A node taken where 37 was due is noticed at that very call.
+#[test]
+fn a_refusal_left_out_is_noticed() {
+    let sizes = Sizes {
+        processors: 3,
+        nodes: 1,
+        levels: 1,
+    };
+    let wrong = Wrong::new(fresh_of(sizes), Mistake::ReuseAtOnce);
+    let mut trial = Trial::new(wrong, 10, sizes);
+    let failure = trial.play(5000, 1).expect_err("the mistake is noticed");
+    assert!(
+        failure.fault.contains("refusal Some(37) was due"),
+        "{failure:?}"
+    );
+}

@@ -1,0 +1,125 @@
+//! Check 21: every looked-at field out of its range is refused with 21 by every
+//! call, every field at the edge of its range passes, and slots past P, N+1
+//! and L are neither looked at nor changed.
+
+use darthog_reference::calls::{Call, Outcome};
+use darthog_reference::perturb::{breaking, past, to_the_edge};
+use darthog_reference::queue::{fresh, Queue};
+use darthog_reference::schedule::{Schedule, Sizes};
+
+/// Fresh records and records in the middle of a run.
+fn bases() -> Vec<(Sizes, Queue)> {
+    let mut bases = Vec::new();
+    for (processors, nodes, levels, calls) in [
+        (1, 1, 1, 0),
+        (1, 1, 1, 20),
+        (2, 3, 2, 300),
+        (3, 4, 3, 500),
+        (5, 9, 7, 400),
+        (15, 30, 8, 700),
+        (16, 200, 8, 2000),
+    ] {
+        let sizes = Sizes {
+            processors,
+            nodes,
+            levels,
+        };
+        let mut queue = fresh(processors, nodes, levels).unwrap();
+        let mut schedule = Schedule::new(calls, sizes);
+        for _ in 0..calls {
+            let call = schedule.next_call();
+            let outcome = queue.call(&call);
+            schedule.note(&call, &outcome);
+        }
+        assert!(queue.sound());
+        bases.push((sizes, queue));
+    }
+    bases
+}
+
+fn all_kinds_of_call() -> [Call; 6] {
+    [
+        Call::Backlog,
+        Call::Step { processor: 0 },
+        Call::Step {
+            processor: u64::MAX,
+        },
+        Call::DeleteMin { processor: 0 },
+        Call::Insert {
+            processor: 0,
+            due: 0,
+            item: 0,
+            height: 1,
+        },
+        Call::Insert {
+            processor: 99,
+            due: u64::MAX,
+            item: u64::MAX,
+            height: 0,
+        },
+    ]
+}
+
+#[test]
+fn each_field_out_of_range_is_refused_with_21() {
+    let mut count = 0;
+    for (_, base) in bases() {
+        for change in breaking(&base) {
+            let mut queue = base.clone();
+            (change.make)(&mut queue);
+            assert!(!queue.sound(), "{}", change.name);
+            let before = queue.clone();
+            for call in all_kinds_of_call() {
+                let outcome = queue.call(&call);
+                assert_eq!(outcome, Outcome::Refused(21), "{}", change.name);
+            }
+            assert_eq!(queue.backlog(), Err(21));
+            assert_eq!(queue.step(0), Err(21));
+            assert_eq!(queue.begin_delete_min(0), Err(21));
+            assert_eq!(queue.begin_insert(0, 0, 0, 1), Err(21));
+            assert!(queue == before, "{}", change.name);
+            count += 1;
+        }
+    }
+    assert!(count > 10_000, "only {count} changes");
+}
+
+#[test]
+fn each_field_at_the_edge_of_its_range_passes() {
+    let mut count = 0;
+    for (_, base) in bases() {
+        for change in to_the_edge(&base) {
+            let mut queue = base.clone();
+            (change.make)(&mut queue);
+            assert!(queue.sound(), "{}", change.name);
+            assert!(queue.backlog().is_ok(), "{}", change.name);
+            count += 1;
+        }
+    }
+    assert!(count > 1000, "only {count} changes");
+}
+
+/// The same calls on the record and on the changed one give the same answers,
+/// and at the end the two differ in the changed slot alone.
+#[test]
+fn slots_past_the_sizes_are_not_looked_at_and_not_changed() {
+    let mut count = 0;
+    for (sizes, base) in bases() {
+        for change in past(&base) {
+            let mut plain = base.clone();
+            let mut changed = base.clone();
+            (change.make)(&mut changed);
+            let mut schedule = Schedule::new(count, sizes);
+            for _ in 0..60 {
+                let call = schedule.next_call();
+                let outcome = plain.call(&call);
+                assert_eq!(changed.call(&call), outcome, "{}", change.name);
+                schedule.note(&call, &outcome);
+            }
+            (change.make)(&mut plain);
+            assert!(plain == changed, "{}", change.name);
+            count += 1;
+        }
+    }
+    assert!(count > 1000, "only {count} changes");
+}

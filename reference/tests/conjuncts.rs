@@ -1,0 +1,245 @@
+//! The invariant's predicates can fail: single changes to a reached state break
+//! one conjunct and leave all others whole.
+
+use darthog_reference::book::{Book, Open};
+use darthog_reference::calls::Call;
+use darthog_reference::ghost::{Ghost, EVER};
+use darthog_reference::invariant::all_broken;
+use darthog_reference::queue::{Place, Queue, Stage, Use};
+use darthog_reference::schedule::Sizes;
+use darthog_reference::trial::fresh_of;
+
+/// The record, the ghost and the book of a run.
+#[derive(Clone)]
+struct State {
+    queue: Queue,
+    ghost: Ghost,
+    book: Book,
+}
+
+impl State {
+    /// Two processors, three nodes, two levels.
+    fn new() -> State {
+        let sizes = Sizes {
+            processors: 2,
+            nodes: 3,
+            levels: 2,
+        };
+        let queue = fresh_of(sizes);
+        State {
+            ghost: Ghost::new(&queue),
+            queue,
+            book: Book::new(),
+        }
+    }
+
+    fn call(&mut self, call: Call) {
+        let was = match call {
+            Call::Step { processor } => self.queue.processors[processor as usize],
+            _ => self.queue.processors[0],
+        };
+        let outcome = self.queue.call(&call);
+        self.ghost.follow(&was, &call, &outcome, &self.queue);
+        self.book.enter(&call, &outcome).expect("the call agrees");
+        assert_eq!(self.broken(), Vec::<&str>::new(), "{call:?}");
+    }
+
+    fn begin_insert(&mut self, processor: u64, due: u64, height: u64) {
+        self.call(Call::Insert {
+            processor,
+            due,
+            item: 5,
+            height,
+        });
+    }
+
+    /// Steps until the stage is one of these.
+    fn step_to(&mut self, processor: u64, there: fn(&Stage) -> bool) {
+        while !there(&self.queue.processors[processor as usize].stage) {
+            self.call(Call::Step { processor });
+        }
+    }
+
+    fn finish(&mut self, processor: u64) {
+        self.step_to(processor, |stage| *stage == Stage::Idle);
+    }
+
+    fn insert(&mut self, processor: u64, due: u64, height: u64) {
+        self.begin_insert(processor, due, height);
+        self.finish(processor);
+    }
+
+    fn delete_min(&mut self, processor: u64) {
+        self.call(Call::DeleteMin { processor });
+        self.finish(processor);
+    }
+
+    fn broken(&self) -> Vec<&'static str> {
+        all_broken(&self.queue, &self.ghost, &self.book)
+    }
+}
+
+/// Node 1 is retired, node 2 (due 10, height 1) and node 3 (due 20, height 2)
+/// are settled, both processors are idle.
+fn settled() -> State {
+    let mut state = State::new();
+    state.insert(0, 5, 2);
+    state.delete_min(0);
+    state.insert(0, 10, 1);
+    state.insert(1, 20, 2);
+    state
+}
+
+/// Makes one change and tells which conjuncts no longer hold.
+fn broken_by(state: &State, change: impl Fn(&mut State)) -> Vec<&'static str> {
+    let mut changed = state.clone();
+    change(&mut changed);
+    changed.broken()
+}
+
+#[test]
+fn nodes_broken_one_conjunct_at_a_time() {
+    let state = settled();
+    let clock = state.queue.clock;
+    let Use::Retired(retired) = state.queue.nodes[1].usage else {
+        panic!("node 1 is retired");
+    };
+    assert_eq!(
+        broken_by(&state, |s| s.queue.nodes[0].stamp = Some(0)),
+        ["Sound"]
+    );
+    assert_eq!(
+        broken_by(&state, |s| s.ghost.until[0][1] = EVER - 1),
+        ["EndsLinked"]
+    );
+    assert_eq!(
+        broken_by(&state, |s| s.ghost.until[2][1] = clock + 1),
+        ["UntilPast"]
+    );
+    assert_eq!(
+        broken_by(&state, |s| s.ghost.until[1] = [5, 6, 0, 0, 0, 0, 0, 0]),
+        ["UntilDown"]
+    );
+    assert_eq!(
+        broken_by(&state, |s| s.queue.nodes[1].ticket =
+            s.queue.nodes[2].ticket),
+        ["TicketsDiffer"]
+    );
+    assert_eq!(
+        broken_by(&state, |s| s.ghost.until[1][0] = retired + 1),
+        ["HiRetired"]
+    );
+    assert_eq!(
+        broken_by(&state, |s| s.queue.nodes[1].mark = false),
+        ["RetiredMarked"]
+    );
+    assert_eq!(
+        broken_by(&state, |s| s.queue.nodes[0].forward[0] = 3),
+        ["Succ"]
+    );
+    assert_eq!(
+        broken_by(&state, |s| s.queue.nodes[3].forward[1] = 2),
+        ["Succ"]
+    );
+    let mut fresh = State::new();
+    fresh.queue.clock = 3;
+    fresh.book.count = 3;
+    assert_eq!(fresh.broken(), Vec::<&str>::new());
+    fresh.ghost.until[2][0] = 3;
+    assert_eq!(fresh.broken(), ["NeverNotLinked"]);
+}
+
+#[test]
+fn locks_broken_one_conjunct_at_a_time() {
+    let state = settled();
+    assert_eq!(
+        broken_by(&state, |s| s.queue.nodes[0].locks[1] = 1),
+        ["LevelLockHeld"]
+    );
+    assert_eq!(
+        broken_by(&state, |s| s.queue.nodes[2].node_lock = 2),
+        ["NodeLockHeld"]
+    );
+
+    let mut insert = State::new();
+    insert.begin_insert(0, 5, 1);
+    insert.step_to(0, |stage| matches!(stage, Stage::G3Reread(..)));
+    assert_eq!(
+        broken_by(&insert, |s| s.queue.nodes[0].locks[0] = 0),
+        ["HoldsPlace"]
+    );
+    insert.step_to(0, |stage| *stage == Stage::I4UnlockNode);
+    assert_eq!(
+        broken_by(&insert, |s| s.queue.nodes[1].node_lock = 0),
+        ["HoldsNode"]
+    );
+
+    let mut delete = settled();
+    delete.call(Call::DeleteMin { processor: 0 });
+    delete.step_to(0, |stage| matches!(stage, Stage::L4PointBack(_)));
+    assert_eq!(
+        broken_by(&delete, |s| s.queue.nodes[2].locks[0] = 0),
+        ["HoldsOwn"]
+    );
+}
+
+#[test]
+fn places_broken_one_conjunct_at_a_time() {
+    let mut insert = settled();
+    insert.delete_min(1); // Node 2 is retired; node 3 (due 20) is left.
+    insert.begin_insert(0, 15, 1);
+    insert.step_to(0, |stage| matches!(stage, Stage::G1Read(..)));
+    assert_eq!(
+        broken_by(&insert, |s| s.queue.processors[0].saved[1] = 3),
+        ["SavedBefore"]
+    );
+    assert_eq!(
+        broken_by(&insert, |s| s.queue.processors[0].saved[1] = 2),
+        ["SavedFresh"]
+    );
+
+    // A walk stands at node 2 while the other processor removes it.
+    let mut walk = settled();
+    walk.call(Call::DeleteMin { processor: 1 });
+    walk.step_to(1, |stage| matches!(stage, Stage::W2Compare(_)));
+    walk.delete_min(0);
+    let tail = walk.queue.tail();
+    assert_eq!(walk.queue.nodes[2].forward[0], 0);
+    assert_eq!(
+        broken_by(&walk, |s| s.queue.nodes[2].forward[0] = tail),
+        ["Back"]
+    );
+    assert_eq!(
+        broken_by(&walk, |s| s.queue.nodes[2].forward[0] = 3),
+        ["Back"]
+    );
+    let at_1 = Place { node: 1, level: 1 };
+    assert_eq!(
+        broken_by(&walk, |s| s.queue.processors[1].stage =
+            Stage::W2Compare(at_1)),
+        ["PlaceFresh"]
+    );
+    let at_3 = Place { node: 3, level: 1 };
+    assert_eq!(
+        broken_by(&walk, |s| s.queue.processors[1].stage = Stage::W1Read(at_3)),
+        ["WalkW1"]
+    );
+}
+
+#[test]
+fn book_broken_one_conjunct_at_a_time() {
+    let state = settled();
+    assert_eq!(broken_by(&state, |s| s.book.count += 1), ["BookOpen"]);
+    assert_eq!(
+        broken_by(&state, |s| s.book.open[1] = Open::Insert(1)),
+        ["BookOpen"]
+    );
+    assert_eq!(
+        broken_by(&state, |s| s.queue.nodes[2].item += 1),
+        ["BookEntries"]
+    );
+    assert_eq!(
+        broken_by(&state, |s| s.book.entries.truncate(1)),
+        ["BookEntries"]
+    );
+}

@@ -1,0 +1,44 @@
+//! The book alone accepts a queue that sticks. So runs are stopped in the
+//! middle and drained: nothing more is begun, the busy processors take turns,
+//! and every operation must end.
+
+use darthog_reference::random::Random;
+use darthog_reference::schedule::Sizes;
+use darthog_reference::trial::{drain_bound, fresh_of, Trial};
+
+#[test]
+fn every_operation_ends_when_nothing_more_is_begun() {
+    let mut random = Random::new(7);
+    let mut busy_runs = 0;
+    let mut most = 0.0f64;
+    for run in 0..6000 {
+        let (sizes, calls) = match run % 30 {
+            0 => (Sizes::large(&mut random), random.below(4000)),
+            1..=8 => (Sizes::middle(&mut random), random.below(600)),
+            _ => (Sizes::small(&mut random), random.below(200)),
+        };
+        let mut trial = Trial::new(fresh_of(sizes), random.draw(), sizes);
+        trial.play_by_book(calls).expect("the run agrees");
+        let bound = drain_bound(sizes);
+        let turns = match trial.drain(bound) {
+            Ok(turns) => turns,
+            Err(failure) => panic!("{failure:?}"),
+        };
+        if turns > 0 {
+            busy_runs += 1;
+        }
+        most = most.max(turns as f64 / bound as f64);
+        let idle = trial.machine.busy().next().is_none();
+        assert!(idle, "{sizes:?}");
+        // What is left are the entries that nobody marked, all answered.
+        let left = trial.machine.backlog_inner() as usize;
+        assert_eq!(left, trial.book.entries.len());
+        assert!(trial
+            .book
+            .entries
+            .iter()
+            .all(|written| written.answered.is_some() && !written.marked));
+    }
+    eprintln!("{busy_runs} runs were stopped in the middle, {most:.3} of the bound at most");
+    assert!(busy_runs > 5000);
+}

@@ -1,0 +1,119 @@
+//! Each mistake of document 01's "Where an implementer goes astray", put in on
+//! purpose, is caught, and the right queue passes the very same calls.
+
+use darthog_reference::book::Book;
+use darthog_reference::calls::Call;
+use darthog_reference::mistakes::{Mistake, Wrong};
+use darthog_reference::random::Random;
+use darthog_reference::schedule::Sizes;
+use darthog_reference::trial::{drain_bound, fresh_of, Failure, Machine, Trial};
+
+const RUNS: u64 = 400;
+const CALLS: u64 = 1500;
+
+/// The seed and sizes of each run.
+fn runs() -> Vec<(u64, Sizes)> {
+    let mut random = Random::new(8);
+    (0..RUNS)
+        .map(|_| {
+            let sizes = Sizes {
+                processors: random.between(2, 4),
+                nodes: random.between(2, 5),
+                levels: random.between(1, 3),
+            };
+            (random.draw(), sizes)
+        })
+        .collect()
+}
+
+/// Plays a run by the book and drains it; gives the calls made.
+fn play<M: Machine>(machine: M, seed: u64, sizes: Sizes) -> (Vec<Call>, Result<(), Failure>) {
+    let mut trial = Trial::new(machine, seed, sizes);
+    let mut end = trial.play_by_book(CALLS);
+    if end.is_ok() {
+        end = trial.drain(drain_bound(sizes)).map(|_| ());
+    }
+    (trial.calls, end)
+}
+
+/// The right queue takes these calls and agrees with the book.
+fn right_takes(calls: &[Call], sizes: Sizes) {
+    let mut queue = fresh_of(sizes);
+    let mut book = Book::new();
+    for call in calls {
+        let outcome = queue.call_inner(call);
+        book.enter(call, &outcome)
+            .unwrap_or_else(|fault| panic!("{call:?} gave {outcome:?}: {fault}"));
+    }
+}
+
+/// Runs the mistake and the right queue; gives what the mistake was caught at.
+fn faults_of(mistake: Mistake) -> Vec<String> {
+    let mut faults = Vec::new();
+    for (seed, sizes) in runs() {
+        let (_, right) = play(fresh_of(sizes), seed, sizes);
+        if let Err(failure) = right {
+            panic!("the right queue fails: {failure:?}");
+        }
+        let wrong = Wrong::new(fresh_of(sizes), mistake);
+        let (calls, end) = play(wrong, seed, sizes);
+        right_takes(&calls, sizes);
+        if let Err(failure) = end {
+            faults.push(failure.fault);
+        }
+    }
+    eprintln!("{mistake:?}: caught in {} of {RUNS} runs", faults.len());
+    faults
+}
+
+fn count(faults: &[String], words: &str) -> usize {
+    faults.iter().filter(|fault| fault.contains(words)).count()
+}
+
+/// The searches go the wrong way: the book misses the pick. The walk sticks:
+/// the book sees nothing, the drain does.
+#[test]
+fn copying_the_figures() {
+    let faults = faults_of(Mistake::SearchWhileGreater);
+    assert!(count(&faults, "not the pick") > 0, "{faults:?}");
+
+    let faults = faults_of(Mistake::WalkSticks);
+    assert!(!faults.is_empty());
+    assert_eq!(count(&faults, "does not end"), faults.len(), "{faults:?}");
+}
+
+/// A Delete_Min begun between reading the clock and stamping takes an entry
+/// filed during it.
+#[test]
+fn reading_the_clock_and_stamping_in_two_calls() {
+    let faults = faults_of(Mistake::StampInTwoCalls);
+    let marked = count(&faults, "marked, but there is no pick") + count(&faults, "not the pick");
+    assert!(marked > 0, "{faults:?}");
+}
+
+/// An Insert that saved the removed node links behind it, and its entry is
+/// never reached.
+#[test]
+fn leaving_a_removed_nodes_number_forward() {
+    let faults = faults_of(Mistake::ForwardLeft);
+    assert!(
+        count(&faults, "EMPTY, but there is a pick") > 0,
+        "{faults:?}"
+    );
+}
+
+/// The head is marked as if it were an entry.
+#[test]
+fn marking_the_head_when_the_walk_is_led_back_to_it() {
+    let faults = faults_of(Mistake::HeadMarked);
+    let head = "Marked(Entry { due: 0, item: 0, ticket: 0 })";
+    assert!(count(&faults, head) > 0, "{faults:?}");
+}
+
+/// A walk that tested the old entry's stamp marks the new entry, or is led
+/// astray by the new forward numbers.
+#[test]
+fn giving_a_node_out_again_as_soon_as_it_is_unlinked() {
+    let faults = faults_of(Mistake::ReuseAtOnce);
+    assert!(count(&faults, "marked, but") > 0, "{faults:?}");
+}

@@ -1,0 +1,99 @@
+//! Random schedules: every answer goes through the book and the table of
+//! refusals, and the whole invariant is looked at after every single call, on
+//! the large sizes too. The two tests together make 5,000,000 calls and more.
+
+use darthog_reference::queue::LIMIT;
+use darthog_reference::random::Random;
+use darthog_reference::schedule::Sizes;
+use darthog_reference::tally::Tally;
+use darthog_reference::trial::{fresh_of, Trial};
+
+/// Calls of each of the two tests.
+const CALLS: u64 = 2_500_000;
+
+/// Plays schedules from `seed` on until so many calls are made. Of twenty
+/// runs fourteen are small, five of middle size and one is large and long.
+fn play_many(seed: u64) -> Tally {
+    let mut total = Tally::default();
+    let mut random = Random::new(seed);
+    while total.calls < CALLS {
+        let (sizes, calls) = match random.below(20) {
+            0 => (Sizes::large(&mut random), 4000),
+            1..=5 => (Sizes::middle(&mut random), 3000),
+            _ => (Sizes::small(&mut random), 2000),
+        };
+        let seed = random.draw();
+        let mut trial = Trial::new(fresh_of(sizes), seed, sizes);
+        if let Err(failure) = trial.play(calls, 1) {
+            panic!("{failure:?}");
+        }
+        total.add(&trial.tally);
+    }
+    total
+}
+
+/// Every kind of answer and refusal but 31 came up, and often, and so did the
+/// rarer turns of an operation.
+fn assert_rich(total: &Tally) {
+    eprintln!("{total:?}");
+    assert_eq!(total.invariant, total.calls);
+    assert!(total.calls >= CALLS);
+    for count in [
+        total.moved,
+        total.waits,
+        total.inserted,
+        total.marked,
+        total.handed,
+        total.empty,
+        total.backlogs,
+        total.reused,
+    ] {
+        assert!(count > 10_000, "{total:?}");
+    }
+    for count in [
+        total.moved_on,
+        total.marks_lost,
+        total.led_back,
+        total.own_waits,
+    ] {
+        assert!(count > 300, "{total:?}");
+    }
+    for number in 2..=7 {
+        assert!(total.refused[number] > 1000, "{total:?}");
+    }
+}
+
+#[test]
+fn random_schedules_keep_book_refusals_and_invariant_first_half() {
+    assert_rich(&play_many(1));
+}
+
+#[test]
+fn random_schedules_keep_book_refusals_and_invariant_second_half() {
+    assert_rich(&play_many(2));
+}
+
+/// Runs up to the end of the clock: after its last tick every begin and step
+/// is refused with 31, before any other refusal, and Backlog still answers.
+/// Book, refusals and invariant are followed at every call here too.
+#[test]
+fn long_runs_reach_the_end_of_the_clock() {
+    for seed in [3, 4] {
+        let sizes = Sizes {
+            processors: 2,
+            nodes: 2,
+            levels: seed - 2,
+        };
+        let mut trial = Trial::new(fresh_of(sizes), seed, sizes);
+        while trial.machine.clock < LIMIT - 100 {
+            trial.play(100, 1).expect("the run agrees");
+        }
+        trial.play(400, 1).expect("the run agrees at the end");
+        assert_eq!(trial.machine.clock, LIMIT);
+        assert_eq!(trial.book.count, LIMIT);
+        let tally = &trial.tally;
+        eprintln!("{tally:?}");
+        assert_eq!(tally.invariant, tally.calls);
+        assert!(tally.refused[1] > 100 && tally.reused > 10_000, "{tally:?}");
+    }
+}
