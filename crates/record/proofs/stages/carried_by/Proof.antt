@@ -1,0 +1,45 @@
+use Rattle.laws.proofs.Rules.{tests}
+use borrow.Author.Needs.{needs}
+use Rattle.record.proofs.stages.carried_by.Statement.{statement}
+use Rattle.record.proofs.stages.carried_by.Tie as tie
+
+enum-told : tie.Need-enum-told
+enum-told c = search needs
+
+at-requires : tie.Need-at-requires
+at-requires c κs = search needs
+
+enum-known-g : tie.Need-enum-known-g
+enum-known-g c = search needs
+
+insert-carried-requires : tie.Need-insert-carried-requires
+insert-carried-requires c κs = search needs
+
+enum-known-g-2 : tie.Need-enum-known-g-2
+enum-known-g-2 c = search needs
+
+delete-carried-requires : tie.Need-delete-carried-requires
+delete-carried-requires c κs = search needs
+
+returns : tie.Need-returns
+returns c = search (tests, c .at .ensures, c .before .enum-told .given .1)
+
+returns-2 : tie.Need-returns-2
+returns-2 c = search needs
+
+returns-3 : tie.Need-returns-3
+returns-3 c = search needs
+
+pub carried-by-spec : {M : Type 1} → statement M
+carried-by-spec =
+    tie.close
+    (tie.spec
+    enum-told
+    at-requires
+    enum-known-g
+    insert-carried-requires
+    enum-known-g-2
+    delete-carried-requires
+    returns
+    returns-2
+    returns-3)

@@ -1,0 +1,53 @@
+use Rattle.laws.proofs.Rules.{tests}
+use borrow.Author.Needs.{needs}
+use Rattle.record.proofs.stages.delete_carried.Statement.{statement}
+use Rattle.record.proofs.stages.delete_carried.Tie as tie
+
+enum-known-g : tie.Need-enum-known-g
+enum-known-g c = search needs
+
+at-requires : tie.Need-at-requires
+at-requires c κs = search needs
+
+enum-known-g-2 : tie.Need-enum-known-g-2
+enum-known-g-2 c = search needs
+
+at-requires-2 : tie.Need-at-requires-2
+at-requires-2 c κs = search needs
+
+enum-known-g-3 : tie.Need-enum-known-g-3
+enum-known-g-3 c = search needs
+
+enum-known-g-4 : tie.Need-enum-known-g-4
+enum-known-g-4 c = search needs
+
+removal-carried-requires : tie.Need-removal-carried-requires
+removal-carried-requires c κs = search needs
+
+returns : tie.Need-returns
+returns c = search (tests, c .at .ensures, c .before .before .g .given .1)
+
+returns-2 : tie.Need-returns-2
+returns-2 c = search (tests, c .at2 .ensures, c .before .before .g2 .given .1)
+
+returns-3 : tie.Need-returns-3
+returns-3 c = search (tests, c .before .g3 .given .1)
+
+returns-4 : tie.Need-returns-4
+returns-4 c = search needs
+
+pub delete-carried-spec : {M : Type 1} → statement M
+delete-carried-spec =
+    tie.close
+    (tie.spec
+    enum-known-g
+    at-requires
+    enum-known-g-2
+    at-requires-2
+    enum-known-g-3
+    enum-known-g-4
+    removal-carried-requires
+    returns
+    returns-2
+    returns-3
+    returns-4)

@@ -1,0 +1,10 @@
+pub mod Limits
+pub mod Report
+pub mod Keys
+pub mod Stages
+pub mod Nodes
+pub mod Queues
+pub mod Making
+pub mod Check
+pub mod Backlog
+pub mod Due

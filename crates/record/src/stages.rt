@@ -1,0 +1,154 @@
+// The stages of an operation. Each case carries what its next step needs beside the processor's begin time, own node and saved
+// nodes. The table in specs/Stages.antt ties each case to its line of document 01.
+ghost use mathlib.Core.Path.{_≡_};
+ghost use Rattle.record.specs.Stages.{place, at, seekCarried, insertCarried, removalCarried, deleteCarried, carried};
+
+// A node and a level, from 1.
+pub struct Place {
+    pub node: u8,
+    pub level: u8,
+}
+
+// Lock-seek: G1, G2, G3, and G4 with the node that G3 read.
+pub enum Seek {
+    Approach(Place),
+    Take(Place),
+    Confirm(Place),
+    Release(Place, u8),
+}
+
+// An Insert: its Search, its Lock-seeks, I1 to I5.
+pub enum Insert {
+    Search(Place),
+    Seek(Seek),
+    Copy(Place),
+    Link(Place),
+    FreeLevel(Place),
+    FreeNode,
+    Stamp,
+}
+
+// What every operation does that has marked a node, from its Search on: L1, the Lock-seeks, L2 to L8.
+pub enum Removal {
+    Search(Place),
+    HoldNode,
+    Seek(Seek),
+    HoldOwn(Place),
+    Unlink(Place),
+    Back(Place),
+    FreeOwn(Place),
+    FreeLevel(Place),
+    FreeNode,
+    Retire,
+}
+
+// A Delete_Min: W1, W2, W3, and the removal of the node that W3 marked.
+pub enum Delete {
+    Next(Place),
+    Stamped(Place),
+    Mark(Place),
+    Removal(Removal),
+}
+
+pub enum Stage {
+    Idle,
+    Insert(Insert),
+    Delete(Delete),
+}
+
+// The numbers that a stage carries: whether the operation has an own node, the place (the head at level 1 where the stage has none),
+// the node that G3 read (elsewhere the place's node), and whether the place is to be marked next (W3).
+pub struct Carried {
+    pub own: bool,
+    pub place: Place,
+    pub ahead: u8,
+    pub marking: bool,
+}
+
+impl Place {
+    pub const HEAD: Place = Place { node: 0, level: 1 };
+}
+
+fn at(own: bool, a: Place) -> Carried
+    ensures { λ r. ⌜ r ≡ at own a ⌝ }
+{
+    Carried {
+        own: own,
+        place: a,
+        ahead: a.node,
+        marking: false,
+    }
+}
+
+fn seek_carried(g: Seek) -> Carried
+    ensures { λ r. ⌜ r ≡ seekCarried g ⌝ }
+{
+    match g {
+        Seek::Approach(a) => at(true, a),
+        Seek::Take(a) => at(true, a),
+        Seek::Confirm(a) => at(true, a),
+        Seek::Release(a, b) => Carried {
+            own: true,
+            place: a,
+            ahead: b,
+            marking: false,
+        },
+    }
+}
+
+fn insert_carried(g: Insert) -> Carried
+    ensures { λ r. ⌜ r ≡ insertCarried g ⌝ }
+{
+    match g {
+        Insert::Search(a) => at(true, a),
+        Insert::Seek(k) => seek_carried(k),
+        Insert::Copy(a) => at(true, a),
+        Insert::Link(a) => at(true, a),
+        Insert::FreeLevel(a) => at(true, a),
+        Insert::FreeNode => at(true, Place::HEAD),
+        Insert::Stamp => at(true, Place::HEAD),
+    }
+}
+
+fn removal_carried(g: Removal) -> Carried
+    ensures { λ r. ⌜ r ≡ removalCarried g ⌝ }
+{
+    match g {
+        Removal::Search(a) => at(true, a),
+        Removal::HoldNode => at(true, Place::HEAD),
+        Removal::Seek(k) => seek_carried(k),
+        Removal::HoldOwn(a) => at(true, a),
+        Removal::Unlink(a) => at(true, a),
+        Removal::Back(a) => at(true, a),
+        Removal::FreeOwn(a) => at(true, a),
+        Removal::FreeLevel(a) => at(true, a),
+        Removal::FreeNode => at(true, Place::HEAD),
+        Removal::Retire => at(true, Place::HEAD),
+    }
+}
+
+fn delete_carried(g: Delete) -> Carried
+    ensures { λ r. ⌜ r ≡ deleteCarried g ⌝ }
+{
+    match g {
+        Delete::Next(a) => at(false, a),
+        Delete::Stamped(a) => at(false, a),
+        Delete::Mark(a) => Carried {
+            own: false,
+            place: a,
+            ahead: a.node,
+            marking: true,
+        },
+        Delete::Removal(r) => removal_carried(r),
+    }
+}
+
+pub fn carried_by(g: Stage) -> Carried
+    ensures { λ r. ⌜ r ≡ carried g ⌝ }
+{
+    match g {
+        Stage::Idle => at(false, Place::HEAD),
+        Stage::Insert(i) => insert_carried(i),
+        Stage::Delete(d) => delete_carried(d),
+    }
+}

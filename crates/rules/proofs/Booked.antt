@@ -1,0 +1,330 @@
+-- Every step's answer agrees with the book.
+use mathlib.Core.Path.{_≡_, refl, sym, ap, subst, _∙_}
+use mathlib.Core.Bool.{Bool, true, false, _&&_, true≢false}
+use Prim.Native.Nat.{ℕ, zero, suc, _+_, _-_, _*_, _≤_, _<_}
+use native.Mathlib.Omega.{arith}
+use native.Mathlib.Decide.{decLe, decLt, ℕ-discrete}
+use lib.Dec.{ltb, leb, eqb}
+use borrow.Author.Tests.{ltb-true, ltb-false, eqb-true, eqb-false, lt-ltb, le-ltb, eq-eqb}
+use mathlib.Core.Bool.{cond}
+use Rattle.record.specs.declared.stages.Place.{Place}
+use Rattle.record.specs.declared.stages.Seek.{Seek}
+use Rattle.record.specs.declared.stages.Seek.the-variants as seek
+use Rattle.record.specs.declared.stages.Insert.{Insert}
+use Rattle.record.specs.declared.stages.Insert.the-variants as ins
+use Rattle.record.specs.declared.stages.Delete.{Delete}
+use Rattle.record.specs.declared.stages.Delete.the-variants as del
+use Rattle.record.specs.declared.stages.Removal.{Removal}
+use Rattle.record.specs.declared.stages.Removal.the-variants as rem
+use Rattle.record.specs.declared.stages.Stage.{Stage}
+use Rattle.record.specs.declared.stages.Stage.the-variants as stage
+use Rattle.rules.specs.declared.answers.Entry.{Entry}
+use Rattle.rules.specs.declared.answers.Answer.{Answer}
+use Rattle.rules.specs.declared.decisions.Decision.{Decision}
+use Rattle.rules.specs.declared.decisions.Sight.{Sight}
+use Rattle.rules.specs.declared.decisions.Searched.{Searched}
+use Rattle.rules.specs.declared.decisions.Searched.the-variants as srch
+use Rattle.rules.specs.declared.decisions.Sought.{Sought}
+use Rattle.rules.specs.declared.decisions.Sought.the-variants as sght
+use Rattle.record.specs.Stages.{place}
+use Rattle.rules.specs.Decide.{insertSearched, insertSought, removalSearched, removalSought, seekStep, searchStep}
+use Rattle.record.specs.Stages.{seekCarried}
+use Rattle.laws.proofs.Booleans.{cond-elim}
+use Rattle.laws.specs.Update.{upd}
+use Rattle.laws.proofs.Updating.{upd-same, upd-other}
+use Rattle.rules.proofs.Put.{ever}
+use Rattle.rules.proofs.View.{Pr, View, Info, info, claim, key, tail, last, entryRank}
+use Rattle.rules.proofs.Inv.{Inv, Eligible, Entered, Inserts, NodeHeld}
+use Rattle.rules.proofs.Assemble.{ticked}
+use Rattle.rules.proofs.Machine.{decision, effected, prAfter, carried, entryAt, sight, withStatus}
+use Rattle.rules.proofs.Move.{busy-at, kind-at}
+use Rattle.rules.proofs.InsertSteps.{idle}
+use Rattle.rules.proofs.DeleteSteps.{empty-right, mark-pick}
+use Rattle.rules.proofs.Begin.{rank-entry}
+use Rattle.rules.specs.Book.{Line, Open, nothing, inserting, deleting, delivering, Book, Verdict, agrees, differs, turned, moves, feedStep, pick, gives, withAnswer, withMark, withHandOut}
+use Rattle.rules.proofs.Picks.{order, Candidate, Picked, none, one, picked}
+use Rattle.rules.proofs.Rel.{opens, lineOf, Found, Filed, Rel, Booked, quiet, Quiet, quiet-booked}
+
+-- a decision of a seek is quiet where its effect is
+abbrev soft : Sought → Type 0
+soft (sght.Goes e k) = quiet e
+soft (sght.Waits k) = Unit {0}
+soft (sght.Done a) = Unit {0}
+
+soft-seek : (s : Sight) (k : Seek) → soft (seekStep s k)
+soft-seek s (seek.Approach a) = cond-elim soft (s .before) _ _ tt tt
+soft-seek s (seek.Take a) = cond-elim soft (eqb (s .guard) 0) _ _ tt tt
+soft-seek s (seek.Confirm a) = cond-elim soft (s .before) _ _ tt tt
+soft-seek s (seek.Release a b) = tt
+
+kind-seek-insert : (h : ℕ) (k : Seek) → info h (stage.Insert (ins.Seek k)) .kind ≡ 1
+kind-seek-insert h (seek.Approach a) = refl
+kind-seek-insert h (seek.Take a) = refl
+kind-seek-insert h (seek.Confirm a) = refl
+kind-seek-insert h (seek.Release a b) = refl
+
+kind-seek-delete : (h : ℕ) (k : Seek) → info h (stage.Delete (del.Removal (rem.Seek k))) .kind ≡ 3
+kind-seek-delete h (seek.Approach a) = refl
+kind-seek-delete h (seek.Take a) = refl
+kind-seek-delete h (seek.Confirm a) = refl
+kind-seek-delete h (seek.Release a b) = refl
+
+quiet-insert-sought : (s : Sight) (r : Sought) → soft r → Quiet (s .own) 1 (insertSought s r)
+quiet-insert-sought s (sght.Goes e k) q = record { answer = tt; effect = q; own-same = refl; begin-same = λ t b. refl; kind-same = λ h. kind-seek-insert h k }
+quiet-insert-sought s (sght.Waits k) q = record { answer = tt; effect = tt; own-same = refl; begin-same = λ t b. refl; kind-same = λ h. kind-seek-insert h k }
+quiet-insert-sought s (sght.Done a) q = record { answer = tt; effect = tt; own-same = refl; begin-same = λ t b. refl; kind-same = λ h. refl }
+
+quiet-delete-sought : (s : Sight) (r : Sought) → soft r → Quiet (s .own) 3 (removalSought s r)
+quiet-delete-sought s (sght.Goes e k) q = record { answer = tt; effect = q; own-same = refl; begin-same = λ t b. refl; kind-same = λ h. kind-seek-delete h k }
+quiet-delete-sought s (sght.Waits k) q = record { answer = tt; effect = tt; own-same = refl; begin-same = λ t b. refl; kind-same = λ h. kind-seek-delete h k }
+quiet-delete-sought s (sght.Done a) q = record { answer = tt; effect = tt; own-same = refl; begin-same = λ t b. refl; kind-same = λ h. refl }
+
+quiet-insert-searched : (s : Sight) (a : Place) (r : Searched) → Quiet (s .own) 1 (insertSearched s a r)
+quiet-insert-searched s a (srch.Ahead b) = record { answer = tt; effect = tt; own-same = refl; begin-same = λ t b. refl; kind-same = λ h. refl }
+quiet-insert-searched s a (srch.Down b) = record { answer = tt; effect = tt; own-same = refl; begin-same = λ t b. refl; kind-same = λ h. refl }
+quiet-insert-searched s a (srch.Left b) = record { answer = tt; effect = tt; own-same = refl; begin-same = λ t b. refl; kind-same = λ h. refl }
+
+quiet-delete-searched : (s : Sight) (a : Place) (r : Searched) → Quiet (s .own) 3 (removalSearched s a r)
+quiet-delete-searched s a (srch.Ahead b) = record { answer = tt; effect = tt; own-same = refl; begin-same = λ t b. refl; kind-same = λ h. refl }
+quiet-delete-searched s a (srch.Down b) = record { answer = tt; effect = tt; own-same = refl; begin-same = λ t b. refl; kind-same = λ h. refl }
+quiet-delete-searched s a (srch.Left b) = record { answer = tt; effect = tt; own-same = refl; begin-same = λ t b. refl; kind-same = λ h. refl }
+
+-- a node in use is known by its ticket, among those that are or were used and whose entry has their due
+pub ticket-apart : (v : View) (u : ℕ → ℕ → ℕ) (I : Inv v u) (b : Book) (R : Rel v b) (n m : ℕ) → 1 ≤ n → n ≤ v .nodes → 1 ≤ m → m ≤ v .nodes → v .us n ≡ 1 → 1 ≤ v .us m →
+    b .entry (v .tick m) .due ≡ v .due m → v .tick n ≡ v .tick m → n ≡ m
+ticket-apart v u I b R n m n≥ n≤ m≥ m≤ nu mu md e =
+    let d : v .due n ≡ v .due m = sym (ap (λ (x : Line). x .due) (R .kept n n≥ n≤ nu)) ∙ (ap (λ (t : ℕ). b .entry t .due) e ∙ md) in
+    I .core .apart n m (omega arith) (omega arith) (omega arith) mu
+    (rank-entry (v .nodes) (v .due) (v .tick) n n≥ n≤ ∙ (rw (d, e) (sym (rank-entry (v .nodes) (v .due) (v .tick) m m≥ m≤))))
+
+unmarked-zero : (m : ℕ) → ltb 0 m ≡ false → m ≡ 0
+unmarked-zero m h = omega (arith, ltb-false 0 m h)
+
+-- candidates of the book are the eligible nodes
+module _ (v : View) (u : ℕ → ℕ → ℕ) (I : Inv v u) (b : Book) (R : Rel v b) (T : ℕ) where
+  pub eligible-of : (t : ℕ) → Candidate b T t → (n : ℕ) × (v .tick n ≡ t) × Eligible (v .us) (v .st) (v .mk) (v .nodes) T n
+  eligible-of t C =
+      let F = R .found t (C .written) (C .unmarked) in
+      let l = R .kept (F .node) (F .low) (F .high) (F .used) in (
+        F .node,
+        F .ticket,
+        record {
+          low = F .low;
+          high = F .high;
+          used = F .used;
+          stamped = rw (ap (λ (x : Line). x .answeredAt) l) at (rw (← (F .ticket)) at (C .answered));
+          unmarked = unmarked-zero (v .mk (F .node)) (rw (ap (λ (x : Line). x .marked) l) at (rw (← (F .ticket)) at (C .unmarked)));
+        },
+      )
+
+  pub candidate-of : (n : ℕ) → Eligible (v .us) (v .st) (v .mk) (v .nodes) T n → Candidate b T (v .tick n)
+  candidate-of n L =
+      let l = R .kept n (L .low) (L .high) (L .used) in
+      record { written = ap (λ (x : Line). x .written) l; answered = rw (ap (λ (x : Line). x .answeredAt) l) (L .stamped); unmarked = ap (λ (x : Line). x .marked) l ∙ le-ltb 0 (v .mk n) (omega (arith, L .unmarked)) }
+
+  order-of : (n : ℕ) → 1 ≤ n → n ≤ v .nodes → v .us n ≡ 1 → order b (v .tick n) ≡ key v n
+  order-of n n≥ n≤ nu = rw (ap (λ (x : Line). x .due) (R .kept n n≥ n≤ nu)) (sym (rank-entry (v .nodes) (v .due) (v .tick) n n≥ n≤))
+
+  small : b .count < ever
+  small = omega (arith, R .count, I .core .clock)
+
+  pub pick-none : ((n : ℕ) → Eligible (v .us) (v .st) (v .mk) (v .nodes) T n → ⊥) → pick b T ≡ 0
+  pick-none h = go (picked b T small)
+    where
+      go : Picked b T (b .count) (pick b T) → pick b T ≡ 0
+      go (none e k) = e
+      go (one l i C m) = let E = eligible-of (pick b T) C in absurd (h (E .0) (E .2))
+
+  pub pick-is : (a : ℕ) → Eligible (v .us) (v .st) (v .mk) (v .nodes) T a → ((n : ℕ) → Eligible (v .us) (v .st) (v .mk) (v .nodes) T n → key v a ≤ key v n) → pick b T ≡ v .tick a
+  pick-is a L least = go (picked b T small)
+    where
+      C : Candidate b T (v .tick a)
+      C = candidate-of a L
+
+      t≥ : 1 ≤ v .tick a
+      t≥ = R .late (v .tick a) (C .written)
+
+      t< : v .tick a ≤ b .count
+      t< = omega (arith, R .count, I .core .entered a (L .low) (omega (arith, L .high)) .ticket)
+
+      go : Picked b T (b .count) (pick b T) → pick b T ≡ v .tick a
+      go (none e k) = absurd (k (v .tick a) t≥ t< C)
+      go (one l i D m) =
+          let E = eligible-of (pick b T) D in
+          let N = E .2 in
+          let le : order b (v .tick (E .0)) ≤ order b (v .tick a) = rw (E .1) (m (v .tick a) t≥ t< C) in
+          let k : key v (E .0) ≡ key v a = omega (arith, least (E .0) N, order-of (E .0) (N .low) (N .high) (N .used), order-of a (L .low) (L .high) (L .used)) in
+          let f = I .core .apart (E .0) a (omega (arith, N .high)) (omega (arith, L .high)) (omega (arith, N .used)) (omega (arith, L .used)) k in
+          sym (E .1) ∙ ap (v .tick) f
+
+gives-true : (b : Book) (e : Entry) (t : ℕ) → e .due ≡ b .entry t .due → e .item ≡ b .entry t .item → e .ticket ≡ t → gives b e t ≡ true
+gives-true b e t d i k = rw (eq-eqb (e .due) (b .entry t .due) d, eq-eqb (e .item) (b .entry t .item) i, eq-eqb (e .ticket) t k)
+
+-- one entry's line and one node's mark, stamp or use change together
+module _ (v : View) (u : ℕ → ℕ → ℕ) (I : Inv v u) (b : Book) (R : Rel v b) (p : ℕ) (c : Pr) (mk st us : ℕ → ℕ) (o : ℕ) (l : Line) (op : Open)
+    (o≥ : 1 ≤ o) (o≤ : o ≤ v .nodes) (used : 1 ≤ v .us o) (F : Filed (b .entry) (v .tick) (v .due) (v .item) o)
+    (mk-same : (n : ℕ) → (n ≡ o → ⊥) → mk n ≡ v .mk n) (st-same : (n : ℕ) → (n ≡ o → ⊥) → st n ≡ v .st n) (us-same : (n : ℕ) → (n ≡ o → ⊥) → us n ≡ v .us n)
+    (l-written : l .written ≡ b .entry (v .tick o) .written) (l-due : l .due ≡ b .entry (v .tick o) .due) (l-item : l .item ≡ b .entry (v .tick o) .item)
+    (kept-o : us o ≡ 1 → l ≡ lineOf (v .due) (v .item) st mk o) (found-o : l .marked ≡ false → Found us (v .tick) (v .nodes) (v .tick o))
+    (opened-p : op ≡ opens (info (v .ht (c .own)) (c .stage) .kind) (c .begin) (v .tick (c .own))) (not-insert : info (v .ht (c .own)) (c .stage) .kind ≡ 1 → ⊥) where
+  rel-line : Rel (ticked (withStatus v mk st us) p c) (turned b (upd (b .entry) (v .tick o) l) p op)
+  rel-line = record {
+    count = omega (arith, R .count);
+    opened = λ q. opened q (ℕ-discrete q p);
+    kept = λ n. kept n (ℕ-discrete n o);
+    found = λ t. found t (ℕ-discrete t (v .tick o));
+    filed = λ q. filed q (ℕ-discrete q p);
+    late = λ t. late t (ℕ-discrete t (v .tick o));
+  }
+    where
+      opened : (q : ℕ) → Dec (q ≡ p) → upd (b .opened) p op q ≡ opens (info (v .ht (upd (v .pr) p c q .own)) (upd (v .pr) p c q .stage) .kind) (upd (v .pr) p c q .begin) (v .tick (upd (v .pr) p c q .own))
+      opened q (yes e) = rw (e, upd-same (v .pr) p c, upd-same (b .opened) p op) opened-p
+      opened q (no d) = rw (upd-other (v .pr) p c q d, upd-other (b .opened) p op q d) (R .opened q)
+
+      kept : (n : ℕ) → Dec (n ≡ o) → 1 ≤ n → n ≤ v .nodes → us n ≡ 1 → upd (b .entry) (v .tick o) l (v .tick n) ≡ lineOf (v .due) (v .item) st mk n
+      kept n (yes e) = rw e λ n≥ n≤ nu. upd-same (b .entry) (v .tick o) l ∙ kept-o nu
+      kept n (no d) = rw (us-same n d, st-same n d, mk-same n d) λ n≥ n≤ nu.
+          upd-other (b .entry) (v .tick o) l (v .tick n) (λ e. d (ticket-apart v u I b R n o n≥ n≤ o≥ o≤ nu used (F .due) e)) ∙ R .kept n n≥ n≤ nu
+
+      found : (t : ℕ) → Dec (t ≡ v .tick o) → upd (b .entry) (v .tick o) l t .written ≡ true → upd (b .entry) (v .tick o) l t .marked ≡ false → Found us (v .tick) (v .nodes) t
+      found t (yes e) = rw (e, upd-same (b .entry) (v .tick o) l) λ w m. found-o m
+      found t (no d) = rw (upd-other (b .entry) (v .tick o) l t d) λ w m.
+          let G = R .found t w m in
+          record { node = G .node; low = G .low; high = G .high; used = rw (us-same (G .node) (λ e. d (sym (G .ticket) ∙ ap (v .tick) e))) (G .used); ticket = G .ticket }
+
+      same-line : (P : Line → Type 0) (t : ℕ) → Dec (t ≡ v .tick o) → (P (b .entry (v .tick o)) → P l) → P (b .entry t) → P (upd (b .entry) (v .tick o) l t)
+      same-line P t (yes e) h = rw (e, upd-same (b .entry) (v .tick o) l) h
+      same-line P t (no d) h = rw (upd-other (b .entry) (v .tick o) l t d) λ x. x
+
+      filed : (q : ℕ) → Dec (q ≡ p) → info (v .ht (upd (v .pr) p c q .own)) (upd (v .pr) p c q .stage) .kind ≡ 1 → Filed (upd (b .entry) (v .tick o) l) (v .tick) (v .due) (v .item) (upd (v .pr) p c q .own)
+      filed q (yes e) = rw (e, upd-same (v .pr) p c) λ k. absurd (not-insert k)
+      filed q (no d) = rw (upd-other (v .pr) p c q d) λ k.
+          let G = R .filed q k in
+          let t = ℕ-discrete (v .tick (v .pr q .own)) (v .tick o) in
+          record {
+            written = same-line (λ (x : Line). x .written ≡ true) _ t (λ y. l-written ∙ y) (G .written);
+            due = same-line (λ (x : Line). x .due ≡ v .due (v .pr q .own)) _ t (λ y. l-due ∙ y) (G .due);
+            item = same-line (λ (x : Line). x .item ≡ v .item (v .pr q .own)) _ t (λ y. l-item ∙ y) (G .item);
+          }
+
+      late : (t : ℕ) → Dec (t ≡ v .tick o) → upd (b .entry) (v .tick o) l t .written ≡ true → 1 ≤ t
+      late t (yes e) = rw e λ w. R .late (v .tick o) (F .written)
+      late t (no d) = rw (upd-other (b .entry) (v .tick o) l t d) λ w. R .late t w
+
+-- what one processor has open changes, and no entry
+pub rel-open : (v : View) (b : Book) (R : Rel v b) (p : ℕ) (c : Pr) (op : Open) → op ≡ opens (info (v .ht (c .own)) (c .stage) .kind) (c .begin) (v .tick (c .own)) →
+    (info (v .ht (c .own)) (c .stage) .kind ≡ 1 → ⊥) → Rel (ticked v p c) (turned b (b .entry) p op)
+rel-open v b R p c op e not-insert = record { count = omega (arith, R .count); opened = λ q. opened q (ℕ-discrete q p); kept = R .kept; found = R .found; filed = λ q. filed q (ℕ-discrete q p); late = R .late }
+  where
+    filed : (q : ℕ) → Dec (q ≡ p) → claim (ticked v p c) q .kind ≡ 1 → Filed (b .entry) (v .tick) (v .due) (v .item) (upd (v .pr) p c q .own)
+    filed q (yes f) = rw (f, upd-same (v .pr) p c) λ k. absurd (not-insert k)
+    filed q (no d) = rw (upd-other (v .pr) p c q d) (R .filed q)
+
+    opened : (q : ℕ) → Dec (q ≡ p) → upd (b .opened) p op q ≡ opens (info (v .ht (upd (v .pr) p c q .own)) (upd (v .pr) p c q .stage) .kind) (upd (v .pr) p c q .begin) (v .tick (upd (v .pr) p c q .own))
+    opened q (yes f) = rw (f, upd-same (v .pr) p c, upd-same (b .opened) p op) e
+    opened q (no d) = rw (upd-other (v .pr) p c q d, upd-other (b .opened) p op q d) (R .opened q)
+
+-- what the book has of a node in use
+in-use-filed : (v : View) (b : Book) (R : Rel v b) (n : ℕ) → 1 ≤ n → n ≤ v .nodes → v .us n ≡ 1 → Filed (b .entry) (v .tick) (v .due) (v .item) n
+in-use-filed v b R n n≥ n≤ nu = let l = R .kept n n≥ n≤ nu in record { written = ap (λ (x : Line). x .written) l; due = ap (λ (x : Line). x .due) l; item = ap (λ (x : Line). x .item) l }
+
+module _ (v : View) (u : ℕ → ℕ → ℕ) (I : Inv v u) (H : NodeHeld v) (room : v .clock + 1 < ever) (b : Book) (R : Rel v b) (p : ℕ) where
+  open-at : (s : Stage) → v .pr p .stage ≡ s → b .opened p ≡ opens (info (v .ht (v .pr p .own)) s .kind) (v .pr p .begin) (v .tick (v .pr p .own))
+  open-at s e = R .opened p ∙ ap (λ (k : ℕ). opens k (v .pr p .begin) (v .tick (v .pr p .own))) (kind-at v u I p s e)
+
+  stamp-booked : v .pr p .stage ≡ stage.Insert ins.Stamp → Booked v p b (decision v p (stage.Insert ins.Stamp))
+  stamp-booked e =
+      let s = stage.Insert ins.Stamp in
+      let o = v .pr p .own in
+      let S = busy-at v u I p s e (omega arith) .inserts refl in
+      let F = R .filed p (kind-at v u I p s e) in
+      let same = gives-true b (entryAt v o) (v .tick o) (sym (F .due)) (sym (F .item)) refl in
+      record {
+        after = turned b (upd (b .entry) (v .tick o) (withAnswer (b .entry (v .tick o)) (b .count + 1))) p nothing;
+        fed = rw (open-at s e, same);
+        rel = rel-line v u I b R p (idle (v .top) (v .pr p)) (v .mk) (upd (v .st) o (v .clock + 1)) (v .us) o
+            (withAnswer (b .entry (v .tick o)) (b .count + 1)) nothing (S .low) (S .high) (insert-used S (ℕ-discrete (v .us o) 1)) F (λ n d. refl) (λ n d. upd-other (v .st) o (v .clock + 1) n d) (λ n d. refl)
+            refl refl refl
+            (λ nu. rw (R .kept o (S .low) (S .high) nu, R .count, upd-same (v .st) o (v .clock + 1))) (λ m. R .found (v .tick o) (F .written) m) refl (λ k. omega arith);
+      }
+    where
+      insert-used : {n T own lo hn : ℕ} → Inserts u (v .us) (v .st) (v .tick) n T own lo hn → Dec (v .us own ≡ 1) → 1 ≤ v .us own
+      insert-used S (yes k) = omega arith
+      insert-used S (no d) = omega (arith, S .later d)
+
+  retire-booked : v .pr p .stage ≡ stage.Delete (del.Removal rem.Retire) → Booked v p b (decision v p (stage.Delete (del.Removal rem.Retire)))
+  retire-booked e =
+      let s = stage.Delete (del.Removal rem.Retire) in
+      let o = v .pr p .own in
+      let S = busy-at v u I p s e (omega arith) .removes refl in
+      let l = R .kept o (S .low) (S .high) (S .used) in
+      let F = in-use-filed v b R o (S .low) (S .high) (S .used) in
+      let same = gives-true b (entryAt v o) (v .tick o) (sym (F .due)) (sym (F .item)) refl in
+      let marked : b .entry (v .tick o) .marked ≡ true = ap (λ (x : Line). x .marked) l ∙ lt-ltb 0 (v .mk o) (S .marked) in
+      record {
+        after = turned b (upd (b .entry) (v .tick o) (withHandOut (b .entry (v .tick o)))) p nothing;
+        fed = rw (open-at s e, same, ap (λ (x : Line). x .handedOut) l);
+        rel = rel-line v u I b R p (idle (v .top) (v .pr p)) (v .mk) (v .st) (upd (v .us) o (v .clock + 1 + 2)) o
+            (withHandOut (b .entry (v .tick o))) nothing (S .low) (S .high) (omega (arith, S .used)) F (λ n d. refl) (λ n d. refl) (λ n d. upd-other (v .us) o (v .clock + 1 + 2) n d)
+            refl refl refl
+            (λ nu. absurd (omega (arith, upd-same (v .us) o (v .clock + 1 + 2)))) (λ m. absurd (true≢false (sym marked ∙ m))) refl (λ k. omega arith);
+      }
+
+  hush : (s : Stage) → v .pr p .stage ≡ s → 1 ≤ info (v .ht (v .pr p .own)) s .kind → (d : Decision) → Quiet (v .pr p .own) (info (v .ht (v .pr p .own)) s .kind) d → Booked v p b d
+  hush s e k d Q = quiet-booked v p b d R (omega (arith, kind-at v u I p s e)) (subst (λ (n : ℕ). Quiet (v .pr p .own) n d) (sym (kind-at v u I p s e)) Q)
+
+  empty-booked : (a : Place) → v .pr p .stage ≡ stage.Delete (del.Next a) → Booked v p b (decision v p (stage.Delete (del.Next a)))
+  empty-booked a e = go (eqb (v .fwd (a .node) 1) (tail v)) refl
+    where
+      go : (t : Bool) → eqb (v .fwd (a .node) 1) (tail v) ≡ t → Booked v p b (decision v p (stage.Delete (del.Next a)))
+      go true x = rw x (record {
+        after = turned b (b .entry) p nothing;
+        fed = rw (open-at (stage.Delete (del.Next a)) e, eq-eqb (pick b (v .pr p .begin)) 0 (pick-none v u I b R (v .pr p .begin) (λ n L. empty-right v u I H room p a e (eqb-true _ _ x) n L)));
+        rel = rel-open v b R p (idle (v .top) (v .pr p)) nothing refl (λ k. omega arith);
+      })
+      go false x = rw x (hush (stage.Delete (del.Next a)) e (omega arith) _ (record { answer = tt; effect = tt; own-same = refl; begin-same = λ t b. refl; kind-same = λ h. refl }))
+
+  mark-booked : (a : Place) → v .pr p .stage ≡ stage.Delete (del.Mark a) → Booked v p b (decision v p (stage.Delete (del.Mark a)))
+  mark-booked a e = go (ltb 0 (v .mk (a .node))) refl
+    where
+      go : (t : Bool) → ltb 0 (v .mk (a .node)) ≡ t → Booked v p b (decision v p (stage.Delete (del.Mark a)))
+      go true x = rw x (hush (stage.Delete (del.Mark a)) e (omega arith) _ (record { answer = tt; effect = tt; own-same = refl; begin-same = λ t b. refl; kind-same = λ h. refl }))
+      go false x =
+          let s = stage.Delete (del.Mark a) in
+          let n = a .node in
+          let M = mark-pick v u I room p a e (omega (arith, ltb-false 0 (v .mk (a .node)) x)) in
+          let L = M .0 in
+          let l = R .kept n (L .low) (L .high) (L .used) in
+          let is = pick-is v u I b R (v .pr p .begin) n L (M .1) in
+          let same = gives-true b (entryAt v n) (v .tick n) (sym (ap (λ (x : Line). x .due) l)) (sym (ap (λ (x : Line). x .item) l)) refl in
+          let pos = lt-ltb 0 (v .tick n) (R .late (v .tick n) (ap (λ (x : Line). x .written) l)) in
+          rw x (record {
+            after = turned b (upd (b .entry) (v .tick n) (withMark (b .entry (v .tick n)))) p (delivering (v .tick n));
+            fed = rw (open-at s e, is, pos, same);
+            rel = rel-line v u I b R p (record { begin = v .pr p .begin; own = n; stage = stage.Delete (del.Removal (rem.Search (place 0 (v .top)))); saved = v .pr p .saved }) (upd (v .mk) n 1) (v .st) (v .us) n
+                (withMark (b .entry (v .tick n))) (delivering (v .tick n)) (L .low) (L .high) (omega (arith, L .used)) (in-use-filed v b R n (L .low) (L .high) (L .used)) (λ m d. upd-other (v .mk) n 1 m d) (λ m d. refl) (λ m d. refl)
+                refl refl refl (λ nu. rw (l, upd-same (v .mk) n 1)) (λ m. absurd (true≢false m)) refl (λ k. omega arith);
+          })
+
+  pub booked : (s : Stage) → v .pr p .stage ≡ s → 1 ≤ info (v .ht (v .pr p .own)) s .kind → Booked v p b (decision v p s)
+  booked stage.Idle e k = absurd (omega arith)
+  booked (stage.Insert (ins.Search a)) e k = hush (stage.Insert (ins.Search a)) e k _ (quiet-insert-searched (sight v (v .pr p) a) a (searchStep (sight v (v .pr p) a) a))
+  booked (stage.Insert (ins.Seek j)) e k = hush (stage.Insert (ins.Seek j)) e k _ (subst (λ (n : ℕ). Quiet (v .pr p .own) n (decision v p (stage.Insert (ins.Seek j)))) (sym (kind-seek-insert (v .ht (v .pr p .own)) j)) (quiet-insert-sought (sight v (v .pr p) (seekCarried j .place)) (seekStep (sight v (v .pr p) (seekCarried j .place)) j) (soft-seek (sight v (v .pr p) (seekCarried j .place)) j)))
+  booked (stage.Insert (ins.Copy a)) e k = hush (stage.Insert (ins.Copy a)) e k _ (record { answer = tt; effect = tt; own-same = refl; begin-same = λ t b. refl; kind-same = λ h. refl })
+  booked (stage.Insert (ins.Link a)) e k = hush (stage.Insert (ins.Link a)) e k _ (record { answer = tt; effect = tt; own-same = refl; begin-same = λ t b. refl; kind-same = λ h. refl })
+  booked (stage.Insert (ins.FreeLevel a)) e k = hush (stage.Insert (ins.FreeLevel a)) e k _ (cond-elim (Quiet (v .pr p .own) 1) (ltb (a .level) (v .ht (v .pr p .own))) _ _ (record { answer = tt; effect = tt; own-same = refl; begin-same = λ t b. refl; kind-same = λ h. refl }) (record { answer = tt; effect = tt; own-same = refl; begin-same = λ t b. refl; kind-same = λ h. refl }))
+  booked (stage.Insert ins.FreeNode) e k = hush (stage.Insert ins.FreeNode) e k _ (record { answer = tt; effect = tt; own-same = refl; begin-same = λ t b. refl; kind-same = λ h. refl })
+  booked (stage.Insert ins.Stamp) e k = stamp-booked e
+  booked (stage.Delete (del.Next a)) e k = empty-booked a e
+  booked (stage.Delete (del.Stamped a)) e k = hush (stage.Delete (del.Stamped a)) e k _ (cond-elim (Quiet (v .pr p .own) 2) (ltb (v .st (a .node)) (v .pr p .begin)) _ _ (record { answer = tt; effect = tt; own-same = refl; begin-same = λ t b. refl; kind-same = λ h. refl }) (record { answer = tt; effect = tt; own-same = refl; begin-same = λ t b. refl; kind-same = λ h. refl }))
+  booked (stage.Delete (del.Mark a)) e k = mark-booked a e
+  booked (stage.Delete (del.Removal (rem.Search a))) e k = hush (stage.Delete (del.Removal (rem.Search a))) e k _ (quiet-delete-searched (sight v (v .pr p) a) a (searchStep (sight v (v .pr p) a) a))
+  booked (stage.Delete (del.Removal rem.HoldNode)) e k = hush (stage.Delete (del.Removal rem.HoldNode)) e k _ (cond-elim (Quiet (v .pr p .own) 3) (eqb (v .nl (v .pr p .own)) 0) _ _ (record { answer = tt; effect = tt; own-same = refl; begin-same = λ t b. refl; kind-same = λ h. refl }) (record { answer = tt; effect = tt; own-same = refl; begin-same = λ t b. refl; kind-same = λ h. refl }))
+  booked (stage.Delete (del.Removal (rem.Seek j))) e k = hush (stage.Delete (del.Removal (rem.Seek j))) e k _ (subst (λ (n : ℕ). Quiet (v .pr p .own) n (decision v p (stage.Delete (del.Removal (rem.Seek j))))) (sym (kind-seek-delete (v .ht (v .pr p .own)) j)) (quiet-delete-sought (sight v (v .pr p) (seekCarried j .place)) (seekStep (sight v (v .pr p) (seekCarried j .place)) j) (soft-seek (sight v (v .pr p) (seekCarried j .place)) j)))
+  booked (stage.Delete (del.Removal (rem.HoldOwn a))) e k = hush (stage.Delete (del.Removal (rem.HoldOwn a))) e k _ (cond-elim (Quiet (v .pr p .own) 3) (eqb (v .lk (v .pr p .own) (a .level)) 0) _ _ (record { answer = tt; effect = tt; own-same = refl; begin-same = λ t b. refl; kind-same = λ h. refl }) (record { answer = tt; effect = tt; own-same = refl; begin-same = λ t b. refl; kind-same = λ h. refl }))
+  booked (stage.Delete (del.Removal (rem.Unlink a))) e k = hush (stage.Delete (del.Removal (rem.Unlink a))) e k _ (record { answer = tt; effect = tt; own-same = refl; begin-same = λ t b. refl; kind-same = λ h. refl })
+  booked (stage.Delete (del.Removal (rem.Back a))) e k = hush (stage.Delete (del.Removal (rem.Back a))) e k _ (record { answer = tt; effect = tt; own-same = refl; begin-same = λ t b. refl; kind-same = λ h. refl })
+  booked (stage.Delete (del.Removal (rem.FreeOwn a))) e k = hush (stage.Delete (del.Removal (rem.FreeOwn a))) e k _ (record { answer = tt; effect = tt; own-same = refl; begin-same = λ t b. refl; kind-same = λ h. refl })
+  booked (stage.Delete (del.Removal (rem.FreeLevel a))) e k = hush (stage.Delete (del.Removal (rem.FreeLevel a))) e k _ (cond-elim (Quiet (v .pr p .own) 3) (leb (a .level) 1) _ _ (record { answer = tt; effect = tt; own-same = refl; begin-same = λ t b. refl; kind-same = λ h. refl }) (record { answer = tt; effect = tt; own-same = refl; begin-same = λ t b. refl; kind-same = λ h. refl }))
+  booked (stage.Delete (del.Removal rem.FreeNode)) e k = hush (stage.Delete (del.Removal rem.FreeNode)) e k _ (record { answer = tt; effect = tt; own-same = refl; begin-same = λ t b. refl; kind-same = λ h. refl })
+  booked (stage.Delete (del.Removal rem.Retire)) e k = retire-booked e

@@ -1,0 +1,121 @@
+-- The queue record seen as a view.
+use mathlib.Core.Path.{_≡_, refl, sym, ap, subst, _∙_, fun-ext}
+use mathlib.Core.Bool.{Bool, true, false, _&&_}
+use mathlib.Core.List.{List}
+use Prim.Native.Nat.{ℕ, zero, suc, _+_, _-_, _*_, _≤_, _<_}
+use native.Mathlib.Omega.{arith}
+use native.Mathlib.Decide.{decLe, decLt, ℕ-discrete}
+use lib.Dec.{ltb, leb, eqb}
+use lib.ListN.{length, getD, set}
+use lib.Seq.{getD-set-same, getD-set-other}
+use borrow.Author.Tests.{ltb-true, ltb-false, leb-true, leb-false, eqb-true, eqb-false, lt-ltb, le-ltb, eq-eqb, ne-eqb}
+use mathlib.Core.Bool.{cond}
+use Rattle.record.specs.declared.keys.Key.{Key}
+use Rattle.record.specs.declared.nodes.Node.{Node}
+use Rattle.record.specs.declared.queues.Queue.{Queue}
+use Rattle.record.specs.declared.queues.Processor.{Processor}
+use Rattle.record.specs.declared.nodes.Stamp.{Stamp}
+use Rattle.record.specs.declared.nodes.Stamp.the-variants as stamp
+use Rattle.record.specs.declared.nodes.Use.{Use}
+use Rattle.record.specs.declared.nodes.Use.the-variants as use′
+use Rattle.record.specs.Keys.{nodeKey, keyBefore, headKey, tailKey, entryKey}
+use Rattle.record.specs.Queues.{nodeAt, processorAt, freshProcessor}
+use Rattle.record.specs.Nodes.{freshNode}
+use Rattle.rules.specs.Calls.{sightOf}
+use Rattle.record.specs.Nodes.{stampedBefore, keyOf}
+use Rattle.record.specs.declared.stages.Place.{Place}
+use Rattle.laws.specs.Update.{upd}
+use Rattle.laws.proofs.Updating.{upd-same, upd-other}
+use Rattle.rules.proofs.Put.{ever, put, put-at, Where, here, away}
+use Rattle.rules.proofs.View.{Pr, View, rank, entryRank, last}
+use Rattle.rules.proofs.Machine.{sight}
+use Rattle.rules.proofs.Ranks.{before-rank, rank-at}
+
+abbrev pub levelOf : List ℕ → ℕ → ℕ
+levelOf l i = cond (eqb i 0) 0 (getD l (i - 1) 0)
+
+abbrev pub stampNumber : Stamp → ℕ
+stampNumber stamp.Unset = ever
+stampNumber (stamp.At t) = t
+
+abbrev pub useNumber : Use → ℕ
+useNumber use′.Never = 0
+useNumber use′.InUse = 1
+useNumber (use′.Retired r) = r + 2
+
+abbrev pub markNumber : Bool → ℕ
+markNumber m = cond m 1 0
+
+abbrev pub useOf : ℕ → ℕ → Node → ℕ
+useOf n x d = cond (eqb x 0) 1 (cond (eqb x (n + 1)) 1 (useNumber (d .state)))
+
+abbrev pub prOf : Processor → Pr
+prOf c = record { begin = c .begin; own = c .own; stage = c .stage; saved = λ i. getD (c .saved) (i - 1) 0 }
+
+abbrev pub seenAs : ℕ → ℕ → ℕ → ℕ → (ℕ → Node) → (ℕ → Pr) → View
+seenAs P N L t nd pr = record {
+  procs = P;
+  nodes = N;
+  top = L;
+  clock = t;
+  fwd = λ n. levelOf (nd n .forward);
+  lk = λ n. levelOf (nd n .locks);
+  nl = λ n. nd n .lock;
+  mk = λ n. markNumber (nd n .mark);
+  st = λ n. stampNumber (nd n .stamp);
+  us = λ n. useOf N n (nd n);
+  ht = λ n. nd n .height;
+  due = λ n. nd n .due;
+  tick = λ n. nd n .ticket;
+  item = λ n. nd n .item;
+  pr = pr;
+}
+
+abbrev pub viewOf : Queue → View
+viewOf q = seenAs (q .processors) (q .entries) (q .levels) (q .clock) (nodeAt q) (λ p. prOf (processorAt q p))
+
+pub level-pos : (l : List ℕ) (i : ℕ) → 1 ≤ i → getD l (i - 1) 0 ≡ levelOf l i
+level-pos l i i≥ = rw (ne-eqb i 0 (λ h. omega arith))
+
+pub stamp-before : (s : Stamp) (T : ℕ) → T ≤ ever → stampedBefore s T ≡ ltb (stampNumber s) T
+stamp-before stamp.Unset T T≤ = sym (le-ltb ever T T≤)
+stamp-before (stamp.At t) T T≤ = refl
+
+pub mark-test : (m : Bool) → m ≡ ltb 0 (markNumber m)
+mark-test true = refl
+mark-test false = refl
+
+-- the sight of a step, read from the record and from the view
+module _ (q : Queue) (c : Processor) (a : Place) (a≥ : 1 ≤ a .level) (T≤ : c .begin ≤ ever)
+    (small : (n : ℕ) → n ≤ q .entries + 1 → (nodeAt q n .due ≤ 999999) × (nodeAt q n .ticket ≤ 999999))
+    (next≤ : levelOf (nodeAt q (a .node) .forward) (a .level) ≤ q .entries + 1) (own≤ : c .own ≤ q .entries + 1) where
+  abbrev v : View
+  v = viewOf q
+
+  next-same : getD (nodeAt q (a .node) .forward) (a .level - 1) 0 ≡ v .fwd (a .node) (a .level)
+  next-same = level-pos (nodeAt q (a .node) .forward) (a .level) a≥
+
+  before-same : (y : ℕ) → y ≤ q .entries + 1 → keyBefore (keyOf (q .entries) y (nodeAt q y)) (keyOf (q .entries) (c .own) (nodeAt q (c .own))) ≡ ltb (rank (q .entries) (v .due) (v .tick) y) (rank (q .entries) (v .due) (v .tick) (c .own))
+  before-same y y≤ = rw (rank-at (q .entries) (v .due) (v .tick) y, rank-at (q .entries) (v .due) (v .tick) (c .own))
+      (before-rank (q .entries) y (nodeAt q y .due) (nodeAt q y .ticket) (c .own) (nodeAt q (c .own) .due) (nodeAt q (c .own) .ticket) (small y y≤ .0) (small y y≤ .1) (small (c .own) own≤ .0) (small (c .own) own≤ .1))
+
+  pub sight-same : sightOf q c a ≡ sight v (prOf c) a
+  sight-same = λ i. record {
+    own = c .own;
+    height = nodeAt q (c .own) .height;
+    holder = nodeAt q (c .own) .lock;
+    next = next-same i;
+    before = (ap (λ (y : ℕ). keyBefore (keyOf (q .entries) y (nodeAt q y)) (keyOf (q .entries) (c .own) (nodeAt q (c .own)))) next-same ∙ before-same (v .fwd (a .node) (a .level)) next≤) i;
+    guard = level-pos (nodeAt q (a .node) .locks) (a .level) a≥ i;
+    onward = level-pos (nodeAt q (c .own) .forward) (a .level) a≥ i;
+    latch = level-pos (nodeAt q (c .own) .locks) (a .level) a≥ i;
+    tail = ap (λ (y : ℕ). eqb y (q .entries + 1)) next-same i;
+    levels = q .levels;
+    marked = mark-test (nodeAt q (a .node) .mark) i;
+    stamped = stamp-before (nodeAt q (a .node) .stamp) (c .begin) T≤ i;
+    up = getD (c .saved) (a .level + 1 - 1) 0;
+    down = getD (c .saved) (a .level - 1 - 1) 0;
+    top = getD (c .saved) (nodeAt q (c .own) .height - 1) 0;
+    seen = record { due = nodeAt q (a .node) .due; item = nodeAt q (a .node) .item; ticket = nodeAt q (a .node) .ticket };
+    mine = record { due = nodeAt q (c .own) .due; item = nodeAt q (c .own) .item; ticket = nodeAt q (c .own) .ticket };
+  }

@@ -1,0 +1,158 @@
+-- A step keeps the invariant.
+use mathlib.Core.Path.{_≡_, refl, sym, ap, subst, _∙_}
+use mathlib.Core.Bool.{Bool, true, false}
+use Prim.Native.Nat.{ℕ, suc, _+_, _-_, _≤_, _<_}
+use native.Mathlib.Omega.{arith}
+use lib.Dec.{ltb, leb, eqb}
+use borrow.Author.Tests.{ltb-true, ltb-false, leb-true, leb-false, eqb-true, eqb-false}
+use Rattle.record.specs.declared.stages.Place.{Place}
+use Rattle.record.specs.declared.stages.Seek.{Seek}
+use Rattle.record.specs.declared.stages.Seek.the-variants as seek
+use Rattle.record.specs.declared.stages.Insert.{Insert}
+use Rattle.record.specs.declared.stages.Insert.the-variants as ins
+use Rattle.record.specs.declared.stages.Delete.{Delete}
+use Rattle.record.specs.declared.stages.Delete.the-variants as del
+use Rattle.record.specs.declared.stages.Removal.{Removal}
+use Rattle.record.specs.declared.stages.Removal.the-variants as rem
+use Rattle.record.specs.declared.stages.Stage.{Stage}
+use Rattle.record.specs.declared.stages.Stage.the-variants as stage
+use Rattle.laws.specs.Update.{upd}
+use Rattle.laws.proofs.Booleans.{cond-cases}
+use Rattle.rules.proofs.Put.{ever, put}
+use Rattle.rules.proofs.View.{Pr, View, Info, info, claim, key, tail, last}
+use Rattle.rules.proofs.Inv.{Busy, Inserts, Removes, Inv, sought, NodeHeld}
+use Rattle.rules.proofs.Assemble.{ticked}
+use Rattle.rules.proofs.Machine.{decision, carried, sight}
+use mathlib.Core.Bool.{cond}
+use Rattle.rules.specs.Decide.{insertSearched, insertSought, removalSearched, removalSought}
+use Rattle.rules.proofs.Move.{busy-at, approach-ahead, approach-take, take-waits, take-confirm, confirm-release, release-take}
+use Rattle.rules.proofs.Search.{search-ahead, search-down}
+use Rattle.rules.proofs.InsertSteps
+use Rattle.rules.proofs.DeleteSteps
+
+-- what the ghost function becomes
+abbrev pub untilAfter : View → (ℕ → ℕ → ℕ) → ℕ → Stage → ℕ → ℕ → ℕ
+untilAfter v u p stage.Idle = u
+untilAfter v u p (stage.Insert (ins.Search a)) = u
+untilAfter v u p (stage.Insert (ins.Seek k)) = u
+untilAfter v u p (stage.Insert (ins.Copy a)) = u
+untilAfter v u p (stage.Insert (ins.Link a)) = put u (v .pr p .own) (a .level) ever
+untilAfter v u p (stage.Insert (ins.FreeLevel a)) = u
+untilAfter v u p (stage.Insert ins.FreeNode) = u
+untilAfter v u p (stage.Insert ins.Stamp) = u
+untilAfter v u p (stage.Delete (del.Next a)) = u
+untilAfter v u p (stage.Delete (del.Stamped a)) = u
+untilAfter v u p (stage.Delete (del.Mark a)) = u
+untilAfter v u p (stage.Delete (del.Removal (rem.Search a))) = u
+untilAfter v u p (stage.Delete (del.Removal rem.HoldNode)) = u
+untilAfter v u p (stage.Delete (del.Removal (rem.Seek k))) = u
+untilAfter v u p (stage.Delete (del.Removal (rem.HoldOwn a))) = u
+untilAfter v u p (stage.Delete (del.Removal (rem.Unlink a))) = put u (v .pr p .own) (a .level) (v .clock + 1)
+untilAfter v u p (stage.Delete (del.Removal (rem.Back a))) = u
+untilAfter v u p (stage.Delete (del.Removal (rem.FreeOwn a))) = u
+untilAfter v u p (stage.Delete (del.Removal (rem.FreeLevel a))) = u
+untilAfter v u p (stage.Delete (del.Removal rem.FreeNode)) = u
+untilAfter v u p (stage.Delete (del.Removal rem.Retire)) = u
+
+module _ (v : View) (u : ℕ → ℕ → ℕ) (I : Inv v u) (H : NodeHeld v) (room : v .clock + 1 < ever) (p : ℕ) where
+  insert-own : (i : Insert) → v .pr p .stage ≡ stage.Insert i → 1 ≤ info (v .ht (v .pr p .own)) (stage.Insert i) .kind → info (v .ht (v .pr p .own)) (stage.Insert i) .kind ≡ 1 → (1 ≤ v .pr p .own) × (v .pr p .own ≤ v .nodes)
+  insert-own i e b k = let S = busy-at v u I p (stage.Insert i) e b .inserts k in (S .low, S .high)
+
+  remove-own : (d : Delete) → v .pr p .stage ≡ stage.Delete d → 1 ≤ info (v .ht (v .pr p .own)) (stage.Delete d) .kind → info (v .ht (v .pr p .own)) (stage.Delete d) .kind ≡ 3 → (1 ≤ v .pr p .own) × (v .pr p .own ≤ v .nodes)
+  remove-own d e b k = let S = busy-at v u I p (stage.Delete d) e b .removes k in (S .low, S .high)
+
+  abbrev Kept : Stage → Type 0
+  Kept s = Inv (carried v p (decision v p s)) (untilAfter v u p s)
+
+  abbrev before : Place → Bool
+  before a = ltb (key v (v .fwd (a .node) (a .level))) (key v (v .pr p .own))
+
+  insert-search : (a : Place) → v .pr p .stage ≡ stage.Insert (ins.Search a) → Kept (stage.Insert (ins.Search a))
+  insert-search a e =
+      let own = insert-own (ins.Search a) e (omega arith) refl in
+      cond-cases (λ r. Inv (carried v p (insertSearched (sight v (v .pr p) a) a r)) u) (before a) _ _
+      (λ x. search-ahead v u I room p (λ b. stage.Insert (ins.Search b)) 1 1 0 (λ b. refl) (omega arith) (λ h. omega arith) (own .0) (own .1) refl a e (ltb-true _ _ x))
+      (λ x. cond-cases (λ r. Inv (carried v p (insertSearched (sight v (v .pr p) a) a r)) u) (leb (a .level) 1) _ _
+      (λ y. InsertSteps.insert-left v u I room p a e (leb-true _ _ y))
+      (λ y. search-down v u I room p (λ b. stage.Insert (ins.Search b)) 1 1 0 (λ b. refl) (omega arith) (λ h. omega arith) (own .0) (own .1) refl a e (leb-false _ _ y)))
+
+  insert-seek : (k : Seek) → v .pr p .stage ≡ stage.Insert (ins.Seek k) → Kept (stage.Insert (ins.Seek k))
+  insert-seek (seek.Approach a) e =
+      let own = insert-own (ins.Seek (seek.Approach a)) e (omega arith) refl in
+      cond-cases (λ r. Inv (carried v p (insertSought (sight v (v .pr p) a) r)) u) (before a) _ _ (λ x. approach-ahead v u I room p (λ b. stage.Insert (ins.Seek b)) 1 1 0 (λ h b. refl) (omega arith) (λ h. omega arith) (own .0) (own .1) refl a e (ltb-true _ _ x)) (λ x. approach-take v u I room p (λ b. stage.Insert (ins.Seek b)) 1 1 0 (λ h b. refl) (omega arith) (λ h. omega arith) (own .0) (own .1) refl a e)
+  insert-seek (seek.Take a) e =
+      let own = insert-own (ins.Seek (seek.Take a)) e (omega arith) refl in
+      cond-cases (λ r. Inv (carried v p (insertSought (sight v (v .pr p) a) r)) u) (eqb (v .lk (a .node) (a .level)) 0) _ _ (λ x. take-confirm v u I room p (λ b. stage.Insert (ins.Seek b)) 1 1 0 (λ h b. refl) (omega arith) (λ h. omega arith) (own .0) (own .1) refl a e (eqb-true _ _ x)) (λ x. take-waits v u I room p (λ b. stage.Insert (ins.Seek b)) 1 1 0 (λ h b. refl) (omega arith) (λ h. omega arith) (own .0) (own .1) refl a e)
+  insert-seek (seek.Confirm a) e =
+      let own = insert-own (ins.Seek (seek.Confirm a)) e (omega arith) refl in
+      cond-cases (λ r. Inv (carried v p (insertSought (sight v (v .pr p) a) r)) u) (before a) _ _ (λ x. confirm-release v u I room p (λ b. stage.Insert (ins.Seek b)) 1 1 0 (λ h b. refl) (omega arith) (λ h. omega arith) (own .0) (own .1) refl a e (ltb-true _ _ x)) (λ x. InsertSteps.insert-done v u I room p a e (ltb-false _ _ x))
+  insert-seek (seek.Release a b) e =
+      let own = insert-own (ins.Seek (seek.Release a b)) e (omega arith) refl in
+      release-take v u I room p (λ b. stage.Insert (ins.Seek b)) 1 1 0 (λ h b. refl) (omega arith) (λ h. omega arith) (own .0) (own .1) refl a b e
+
+  delete-search : (a : Place) → v .pr p .stage ≡ stage.Delete (del.Removal (rem.Search a)) → Kept (stage.Delete (del.Removal (rem.Search a)))
+  delete-search a e =
+      let own = remove-own (del.Removal (rem.Search a)) e (omega arith) refl in
+      cond-cases (λ r. Inv (carried v p (removalSearched (sight v (v .pr p) a) a r)) u) (before a) _ _
+      (λ x. search-ahead v u I room p (λ b. stage.Delete (del.Removal (rem.Search b))) 3 0 (v .ht (v .pr p .own)) (λ b. refl) (omega arith) (λ h. omega arith) (own .0) (own .1) refl a e (ltb-true _ _ x))
+      (λ x. cond-cases (λ r. Inv (carried v p (removalSearched (sight v (v .pr p) a) a r)) u) (leb (a .level) 1) _ _
+      (λ y. DeleteSteps.delete-left v u I room p a e (leb-true _ _ y))
+      (λ y. search-down v u I room p (λ b. stage.Delete (del.Removal (rem.Search b))) 3 0 (v .ht (v .pr p .own)) (λ b. refl) (omega arith) (λ h. omega arith) (own .0) (own .1) refl a e (leb-false _ _ y)))
+
+  delete-seek : (k : Seek) → v .pr p .stage ≡ stage.Delete (del.Removal (rem.Seek k)) → Kept (stage.Delete (del.Removal (rem.Seek k)))
+  delete-seek (seek.Approach a) e =
+      let own = remove-own (del.Removal (rem.Seek (seek.Approach a))) e (omega arith) refl in
+      cond-cases (λ r. Inv (carried v p (removalSought (sight v (v .pr p) a) r)) u) (before a) _ _ (λ x. approach-ahead v u I room p (λ b. stage.Delete (del.Removal (rem.Seek b))) 3 0 1 (λ h b. refl) (omega arith) (λ h. omega arith) (own .0) (own .1) refl a e (ltb-true _ _ x)) (λ x. approach-take v u I room p (λ b. stage.Delete (del.Removal (rem.Seek b))) 3 0 1 (λ h b. refl) (omega arith) (λ h. omega arith) (own .0) (own .1) refl a e)
+  delete-seek (seek.Take a) e =
+      let own = remove-own (del.Removal (rem.Seek (seek.Take a))) e (omega arith) refl in
+      cond-cases (λ r. Inv (carried v p (removalSought (sight v (v .pr p) a) r)) u) (eqb (v .lk (a .node) (a .level)) 0) _ _ (λ x. take-confirm v u I room p (λ b. stage.Delete (del.Removal (rem.Seek b))) 3 0 1 (λ h b. refl) (omega arith) (λ h. omega arith) (own .0) (own .1) refl a e (eqb-true _ _ x)) (λ x. take-waits v u I room p (λ b. stage.Delete (del.Removal (rem.Seek b))) 3 0 1 (λ h b. refl) (omega arith) (λ h. omega arith) (own .0) (own .1) refl a e)
+  delete-seek (seek.Confirm a) e =
+      let own = remove-own (del.Removal (rem.Seek (seek.Confirm a))) e (omega arith) refl in
+      cond-cases (λ r. Inv (carried v p (removalSought (sight v (v .pr p) a) r)) u) (before a) _ _ (λ x. confirm-release v u I room p (λ b. stage.Delete (del.Removal (rem.Seek b))) 3 0 1 (λ h b. refl) (omega arith) (λ h. omega arith) (own .0) (own .1) refl a e (ltb-true _ _ x)) (λ x. DeleteSteps.delete-done v u I room p a e (ltb-false _ _ x))
+  delete-seek (seek.Release a b) e =
+      let own = remove-own (del.Removal (rem.Seek (seek.Release a b))) e (omega arith) refl in
+      release-take v u I room p (λ b. stage.Delete (del.Removal (rem.Seek b))) 3 0 1 (λ h b. refl) (omega arith) (λ h. omega arith) (own .0) (own .1) refl a b e
+
+  insert-freed : (a : Place) → v .pr p .stage ≡ stage.Insert (ins.FreeLevel a) → Kept (stage.Insert (ins.FreeLevel a))
+  insert-freed a e = cond-cases (λ d. Inv (carried v p d) u) (ltb (a .level) (v .ht (v .pr p .own))) _ _ (λ x. InsertSteps.insert-up v u I room p a e (ltb-true _ _ x)) (λ x. InsertSteps.insert-top v u I room p a e (ltb-false _ _ x))
+
+  walk : (a : Place) → v .pr p .stage ≡ stage.Delete (del.Next a) → Kept (stage.Delete (del.Next a))
+  walk a e = cond-cases (λ d. Inv (carried v p d) u) (eqb (v .fwd (a .node) 1) (tail v)) _ _ (λ x. DeleteSteps.walk-empty v u I H room p a e) (λ x. DeleteSteps.walk-on v u I H room p a e (eqb-false _ _ x))
+
+  stamp : (a : Place) → v .pr p .stage ≡ stage.Delete (del.Stamped a) → Kept (stage.Delete (del.Stamped a))
+  stamp a e = cond-cases (λ d. Inv (carried v p d) u) (ltb (v .st (a .node)) (v .pr p .begin)) _ _ (λ x. DeleteSteps.stamp-early v u I room p a e (ltb-true _ _ x)) (λ x. DeleteSteps.stamp-late v u I room p a e (ltb-false _ _ x))
+
+  mark : (a : Place) → v .pr p .stage ≡ stage.Delete (del.Mark a) → Kept (stage.Delete (del.Mark a))
+  mark a e = cond-cases (λ d. Inv (carried v p d) u) (ltb 0 (v .mk (a .node))) _ _ (λ x. DeleteSteps.mark-set v u I room p a e (λ h. omega (arith, ltb-true 0 (v .mk (a .node)) x))) (λ x. DeleteSteps.mark-step v u I room p a e (omega (arith, ltb-false 0 (v .mk (a .node)) x)))
+
+  hold-node : v .pr p .stage ≡ stage.Delete (del.Removal rem.HoldNode) → Kept (stage.Delete (del.Removal rem.HoldNode))
+  hold-node e = cond-cases (λ d. Inv (carried v p d) u) (eqb (v .nl (v .pr p .own)) 0) _ _ (λ x. DeleteSteps.node-held v u I room p e (eqb-true _ _ x)) (λ x. DeleteSteps.node-waits v u I room p e)
+
+  hold-own : (a : Place) → v .pr p .stage ≡ stage.Delete (del.Removal (rem.HoldOwn a)) → Kept (stage.Delete (del.Removal (rem.HoldOwn a)))
+  hold-own a e = cond-cases (λ d. Inv (carried v p d) u) (eqb (v .lk (v .pr p .own) (a .level)) 0) _ _ (λ x. DeleteSteps.own-held v u I room p a e (eqb-true _ _ x)) (λ x. DeleteSteps.own-waits v u I room p a e)
+
+  delete-freed : (a : Place) → v .pr p .stage ≡ stage.Delete (del.Removal (rem.FreeLevel a)) → Kept (stage.Delete (del.Removal (rem.FreeLevel a)))
+  delete-freed a e = cond-cases (λ d. Inv (carried v p d) u) (leb (a .level) 1) _ _ (λ x. DeleteSteps.delete-bottom v u I room p a e (leb-true _ _ x)) (λ x. DeleteSteps.delete-down v u I room p a e (leb-false _ _ x))
+
+  pub kept : (s : Stage) → v .pr p .stage ≡ s → 1 ≤ info (v .ht (v .pr p .own)) s .kind → Kept s
+  kept stage.Idle e b = absurd (omega arith)
+  kept (stage.Insert (ins.Search a)) e b = insert-search a e
+  kept (stage.Insert (ins.Seek k)) e b = insert-seek k e
+  kept (stage.Insert (ins.Copy a)) e b = InsertSteps.insert-copy v u I room p a e
+  kept (stage.Insert (ins.Link a)) e b = InsertSteps.insert-link v u I room p a e
+  kept (stage.Insert (ins.FreeLevel a)) e b = insert-freed a e
+  kept (stage.Insert ins.FreeNode) e b = InsertSteps.insert-free v u I room p e
+  kept (stage.Insert ins.Stamp) e b = InsertSteps.insert-stamp v u I room p e
+  kept (stage.Delete (del.Next a)) e b = walk a e
+  kept (stage.Delete (del.Stamped a)) e b = stamp a e
+  kept (stage.Delete (del.Mark a)) e b = mark a e
+  kept (stage.Delete (del.Removal (rem.Search a))) e b = delete-search a e
+  kept (stage.Delete (del.Removal rem.HoldNode)) e b = hold-node e
+  kept (stage.Delete (del.Removal (rem.Seek k))) e b = delete-seek k e
+  kept (stage.Delete (del.Removal (rem.HoldOwn a))) e b = hold-own a e
+  kept (stage.Delete (del.Removal (rem.Unlink a))) e b = DeleteSteps.delete-unlink v u I room p a e
+  kept (stage.Delete (del.Removal (rem.Back a))) e b = DeleteSteps.delete-back v u I room p a e
+  kept (stage.Delete (del.Removal (rem.FreeOwn a))) e b = DeleteSteps.delete-free-own v u I room p a e
+  kept (stage.Delete (del.Removal (rem.FreeLevel a))) e b = delete-freed a e
+  kept (stage.Delete (del.Removal rem.FreeNode)) e b = DeleteSteps.delete-free v u I room p e
+  kept (stage.Delete (del.Removal rem.Retire)) e b = DeleteSteps.delete-retire v u I room p e

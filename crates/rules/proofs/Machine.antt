@@ -1,0 +1,110 @@
+-- The step, on the view.
+use mathlib.Core.Path.{_≡_, refl, sym}
+use mathlib.Core.Bool.{Bool, true, false, _&&_}
+use Prim.Native.Nat.{ℕ, zero, suc, _+_, _-_, _*_, _≤_, _<_}
+use lib.Dec.{ltb, leb, eqb}
+use mathlib.Core.Bool.{cond}
+use Rattle.record.specs.declared.stages.Place.{Place}
+use Rattle.record.specs.declared.stages.Stage.{Stage}
+use Rattle.record.specs.declared.stages.Stage.the-variants as stage
+use Rattle.rules.specs.declared.answers.Entry.{Entry}
+use Rattle.rules.specs.declared.answers.Answer.{Answer}
+use Rattle.rules.specs.declared.decisions.Effect.{Effect}
+use Rattle.rules.specs.declared.decisions.Effect.the-variants as eff
+use Rattle.rules.specs.declared.decisions.Carry.{Carry}
+use Rattle.rules.specs.declared.decisions.Carry.the-variants as carry
+use Rattle.rules.specs.declared.decisions.Decision.{Decision}
+use Rattle.rules.specs.declared.decisions.Sight.{Sight}
+use Rattle.rules.specs.Decide.{decide}
+use Rattle.rules.specs.Calls.{readingPlace}
+use Rattle.rules.specs.Effects.{beginAfter}
+use Rattle.laws.specs.Update.{upd}
+use Rattle.rules.proofs.Put.{ever, put, save-at, clear-to}
+use Rattle.rules.proofs.View.{Pr, View, key, tail}
+use Rattle.rules.proofs.Assemble.{ticked}
+
+abbrev pub entryAt : View → ℕ → Entry
+entryAt v n = record { due = v .due n; item = v .item n; ticket = v .tick n }
+
+-- what a step of c at the place a reads
+abbrev pub sight : View → Pr → Place → Sight
+sight v c a = record {
+  own = c .own;
+  height = v .ht (c .own);
+  holder = v .nl (c .own);
+  next = v .fwd (a .node) (a .level);
+  before = ltb (key v (v .fwd (a .node) (a .level))) (key v (c .own));
+  guard = v .lk (a .node) (a .level);
+  onward = v .fwd (c .own) (a .level);
+  latch = v .lk (c .own) (a .level);
+  tail = eqb (v .fwd (a .node) (a .level)) (tail v);
+  levels = v .top;
+  marked = ltb 0 (v .mk (a .node));
+  stamped = ltb (v .st (a .node)) (c .begin);
+  up = c .saved (a .level + 1);
+  down = c .saved (a .level - 1);
+  top = c .saved (v .ht (c .own));
+  seen = entryAt v (a .node);
+  mine = entryAt v (c .own);
+}
+
+abbrev pub withLocks : View → (ℕ → ℕ → ℕ) → (ℕ → ℕ) → View
+withLocks w lk nl = record { procs = w .procs; nodes = w .nodes; top = w .top; clock = w .clock; fwd = w .fwd; lk = lk; nl = nl; mk = w .mk; st = w .st; us = w .us; ht = w .ht; due = w .due; tick = w .tick; item = w .item; pr = w .pr }
+
+abbrev pub withFwd : View → (ℕ → ℕ → ℕ) → View
+withFwd w fwd = record { procs = w .procs; nodes = w .nodes; top = w .top; clock = w .clock; fwd = fwd; lk = w .lk; nl = w .nl; mk = w .mk; st = w .st; us = w .us; ht = w .ht; due = w .due; tick = w .tick; item = w .item; pr = w .pr }
+
+abbrev pub withStatus : View → (ℕ → ℕ) → (ℕ → ℕ) → (ℕ → ℕ) → View
+withStatus w mk st us = record { procs = w .procs; nodes = w .nodes; top = w .top; clock = w .clock; fwd = w .fwd; lk = w .lk; nl = w .nl; mk = mk; st = st; us = us; ht = w .ht; due = w .due; tick = w .tick; item = w .item; pr = w .pr }
+
+-- the levels 1 to l of node x made w
+abbrev pub relevel : (ℕ → ℕ → ℕ) → ℕ → ℕ → ℕ → ℕ → ℕ → ℕ
+relevel f x l w = upd f x (λ i. cond (ltb 0 i && leb i l) w (f x i))
+
+-- node x filled in for an Insert of processor p
+abbrev pub filled : View → ℕ → ℕ → ℕ → ℕ → ℕ → (ℕ → ℕ → ℕ) → (ℕ → ℕ → ℕ) → View
+filled v p x d t h fwd lk = record {
+  procs = v .procs;
+  nodes = v .nodes;
+  top = v .top;
+  clock = v .clock;
+  fwd = fwd;
+  lk = lk;
+  nl = upd (v .nl) x (suc p);
+  mk = upd (v .mk) x 0;
+  st = upd (v .st) x ever;
+  us = upd (v .us) x 1;
+  ht = upd (v .ht) x h;
+  due = upd (v .due) x d;
+  tick = upd (v .tick) x (v .clock + 1);
+  item = upd (v .item) x t;
+  pr = v .pr;
+}
+
+abbrev pub effected : View → Effect → ℕ → View
+effected v eff.Keep p = v
+effected v (eff.HoldLevel a) p = withLocks v (put (v .lk) (a .node) (a .level) (suc p)) (v .nl)
+effected v (eff.FreeLevel a) p = withLocks v (put (v .lk) (a .node) (a .level) 0) (v .nl)
+effected v (eff.Lead a x) p = withFwd v (put (v .fwd) (a .node) (a .level) x)
+effected v (eff.HoldNode x) p = withLocks v (v .lk) (upd (v .nl) x (suc p))
+effected v (eff.FreeNode x) p = withLocks v (v .lk) (upd (v .nl) x 0)
+effected v (eff.Mark x) p = withStatus v (upd (v .mk) x 1) (v .st) (v .us)
+effected v (eff.Stamp x) p = withStatus v (v .mk) (upd (v .st) x (v .clock + 1)) (v .us)
+effected v (eff.Retire x) p = withStatus v (v .mk) (v .st) (upd (v .us) x (v .clock + 1 + 2))
+effected v (eff.Fill x d i h) p = filled v p x d i h (relevel (v .fwd) x (v .top) (tail v)) (relevel (v .lk) x (v .top) 0)
+
+abbrev pub savedAfter : ℕ → (ℕ → ℕ) → Carry → ℕ → ℕ
+savedAfter l s carry.Keep = s
+savedAfter l s (carry.Save a) = save-at s (a .level) (a .node)
+savedAfter l s carry.Clear = clear-to l s
+savedAfter l s carry.Begin = s
+
+abbrev pub prAfter : ℕ → ℕ → Pr → Decision → Pr
+prAfter l t c d = record { begin = beginAfter t (c .begin) (d .carry); own = d .own; stage = d .stage; saved = savedAfter l (c .saved) (d .carry) }
+
+abbrev pub decision : View → ℕ → Stage → Decision
+decision v p s = decide (sight v (v .pr p) (readingPlace s)) s
+
+-- a decision applied
+abbrev pub carried : View → ℕ → Decision → View
+carried v p d = ticked (effected v (d .effect) p) p (prAfter (v .top) (v .clock + 1) (v .pr p) d)

@@ -1,0 +1,55 @@
+-- Keys as numbers: document 01's order of keys is the order of their ranks. Assumes nothing.
+use mathlib.Core.Path.{_≡_, refl, sym, ap, _∙_}
+use mathlib.Core.Bool.{Bool, true, false, cond}
+use Prim.Native.Nat.{ℕ, zero, suc, _+_, _-_, _*_, _≤_, _<_}
+use native.Mathlib.Omega.{arith}
+use lib.Dec.{ltb, leb, eqb}
+use borrow.Author.Tests.{ltb-true, ltb-false, eqb-true, eqb-false, lt-ltb, le-ltb, eq-eqb, ne-eqb}
+use Rattle.record.specs.Keys.{nodeKey, keyBefore, headKey, tailKey, entryKey}
+use Rattle.rules.proofs.View.{rank, entryRank, last}
+
+-- keys as numbers
+abbrev pub rankAt : ℕ → ℕ → ℕ → ℕ → ℕ
+rankAt n x d t = cond (eqb x 0) 0 (cond (eqb x (n + 1)) last (entryRank d t))
+
+data Which (n x d t : ℕ) : Type 0 where
+  head : nodeKey n x d t ≡ headKey → rankAt n x d t ≡ 0 → x ≡ 0 → Which n x d t
+  tail : nodeKey n x d t ≡ tailKey → rankAt n x d t ≡ last → x ≡ n + 1 → Which n x d t
+  entry : nodeKey n x d t ≡ entryKey d t → rankAt n x d t ≡ entryRank d t → (x ≡ n + 1 → ⊥) → Which n x d t
+
+which : (n x d t : ℕ) → Which n x d t
+which n x d t = go (eqb x 0) refl (eqb (x - 1) n) refl (eqb x (n + 1)) refl
+  where
+    go : (a : Bool) → eqb x 0 ≡ a → (b : Bool) → eqb (x - 1) n ≡ b → (c : Bool) → eqb x (n + 1) ≡ c → Which n x d t
+    go true e b f c g = head (rw e) (rw e) (eqb-true x 0 e)
+    go false e true f true g = tail (rw (e, f)) (rw (e, g)) (eqb-true x (n + 1) g)
+    go false e true f false g = absurd (eqb-false x (n + 1) g (let z : (x ≡ 0 → ⊥) = eqb-false x 0 e in omega (arith, eqb-true (x - 1) n f)))
+    go false e false f true g = absurd (eqb-false (x - 1) n f (omega (arith, eqb-true x (n + 1) g)))
+    go false e false f false g = entry (rw (e, f)) (rw (e, g)) (eqb-false x (n + 1) g)
+
+pub entries-before : (d t d′ t′ : ℕ) → t ≤ 999999 → t′ ≤ 999999 → keyBefore (entryKey d t) (entryKey d′ t′) ≡ ltb (entryRank d t) (entryRank d′ t′)
+entries-before d t d′ t′ t≤ t′≤ = go (eqb d d′) refl (ltb t t′) refl (ltb d d′) refl
+  where
+    go : (a : Bool) → eqb d d′ ≡ a → (b : Bool) → ltb t t′ ≡ b → (c : Bool) → ltb d d′ ≡ c → cond a b c ≡ ltb (entryRank d t) (entryRank d′ t′)
+    go true e true f c g = sym (lt-ltb (entryRank d t) (entryRank d′ t′) (omega (arith, eqb-true d d′ e, ltb-true t t′ f)))
+    go true e false f c g = sym (le-ltb (entryRank d t) (entryRank d′ t′) (omega (arith, eqb-true d d′ e, ltb-false t t′ f)))
+    go false e b f true g = sym (lt-ltb (entryRank d t) (entryRank d′ t′) (omega (arith, ltb-true d d′ g)))
+    go false e b f false g = sym (le-ltb (entryRank d t) (entryRank d′ t′) (let z : (d ≡ d′ → ⊥) = eqb-false d d′ e in omega (arith, ltb-false d d′ g)))
+
+pub before-rank : (n x d t y d′ t′ : ℕ) → d ≤ 999999 → t ≤ 999999 → d′ ≤ 999999 → t′ ≤ 999999 → keyBefore (nodeKey n x d t) (nodeKey n y d′ t′) ≡ ltb (rankAt n x d t) (rankAt n y d′ t′)
+before-rank n x d t y d′ t′ d≤ t≤ d′≤ t′≤ = go (which n x d t) (which n y d′ t′)
+  where
+    go : Which n x d t → Which n y d′ t′ → keyBefore (nodeKey n x d t) (nodeKey n y d′ t′) ≡ ltb (rankAt n x d t) (rankAt n y d′ t′)
+    go (head e f j) (head g h i) = rw (e, f, g, h)
+    go (head e f j) (tail g h i) = rw (e, f, g, h)
+    go (head e f j) (entry g h i) = rw (e, f, g, h) (sym (lt-ltb 0 (entryRank d′ t′) (omega arith)))
+    go (tail e f j) (head g h i) = rw (e, f, g, h)
+    go (tail e f j) (tail g h i) = rw (e, f, g, h)
+    go (tail e f j) (entry g h i) = rw (e, f, g, h) (sym (le-ltb last (entryRank d′ t′) (omega arith)))
+    go (entry e f j) (head g h i) = rw (e, f, g, h) (sym (le-ltb (entryRank d t) 0 (omega arith)))
+    go (entry e f j) (tail g h i) = rw (e, f, g, h) (sym (lt-ltb (entryRank d t) last (omega arith)))
+    go (entry e f j) (entry g h i) = rw (e, f, g, h) (entries-before d t d′ t′ t≤ t′≤)
+
+pub rank-at : (n : ℕ) (due tick : ℕ → ℕ) (x : ℕ) → rank n due tick x ≡ rankAt n x (due x) (tick x)
+unfolding rank
+rank-at n due tick x = refl

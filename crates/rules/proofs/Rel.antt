@@ -1,0 +1,180 @@
+-- The book and the record: B1 and B2, kept by every step.
+use mathlib.Core.Path.{_≡_, refl, sym, ap, subst, _∙_}
+use mathlib.Core.Bool.{Bool, true, false, _&&_}
+use Prim.Native.Nat.{ℕ, zero, suc, _+_, _-_, _*_, _≤_, _<_}
+use native.Mathlib.Omega.{arith}
+use native.Mathlib.Decide.{decLe, decLt, ℕ-discrete}
+use lib.Dec.{ltb, leb, eqb}
+use borrow.Author.Tests.{ltb-true, ltb-false, eqb-true, eqb-false, lt-ltb, eq-eqb}
+use mathlib.Core.Bool.{cond}
+use Rattle.record.specs.declared.stages.Place.{Place}
+use Rattle.rules.specs.declared.answers.Entry.{Entry}
+use Rattle.rules.specs.declared.answers.Answer.{Answer}
+use Rattle.rules.specs.declared.answers.Answer.the-variants as ans
+use Rattle.rules.specs.declared.decisions.Effect.{Effect}
+use Rattle.rules.specs.declared.decisions.Effect.the-variants as eff
+use Rattle.rules.specs.declared.decisions.Decision.{Decision}
+use Rattle.record.specs.declared.stages.Stage.{Stage}
+use Rattle.record.specs.declared.stages.Stage.the-variants as stage
+use Rattle.laws.specs.Update.{upd}
+use Rattle.laws.proofs.Updating.{upd-same, upd-other}
+use Rattle.rules.specs.Effects.{beginAfter}
+use Rattle.rules.proofs.Put.{ever}
+use Rattle.rules.proofs.View.{Pr, View, Info, info, claim, key, tail, last, entryRank}
+use Rattle.rules.proofs.Inv.{Inv, Eligible, Entered}
+use Rattle.rules.proofs.Facts.{kind-any}
+use Rattle.rules.proofs.Assemble.{ticked}
+use Rattle.rules.proofs.Machine.{effected, prAfter, carried, entryAt}
+use Rattle.rules.proofs.Begin.{rank-entry}
+use Rattle.rules.specs.Book.{Line, Open, nothing, inserting, deleting, delivering, Book, Verdict, agrees, differs, turned, moves, feedStep}
+
+-- B1: what a processor has open, by its kind, its begin and its own node's ticket
+abbrev pub opens : ℕ → ℕ → ℕ → Open
+opens zero T t = nothing
+opens (suc zero) T t = inserting t
+opens (suc (suc zero)) T t = deleting T
+opens (suc (suc (suc k))) T t = delivering t
+
+abbrev pub lineOf : (ℕ → ℕ) → (ℕ → ℕ) → (ℕ → ℕ) → (ℕ → ℕ) → ℕ → Line
+lineOf due item st mk n = record { written = true; due = due n; item = item n; answeredAt = st n; marked = ltb 0 (mk n); handedOut = false }
+
+-- a call that moves or waits
+abbrev pub counted : Book → Book
+counted b = record { count = b .count + 1; entry = b .entry; opened = b .opened }
+
+pub record Found (us tick : ℕ → ℕ) (nodes t : ℕ) : Type 0 where
+  pub node : ℕ
+  pub low : 1 ≤ node
+  pub high : node ≤ nodes
+  pub used : us node ≡ 1
+  pub ticket : tick node ≡ t
+
+-- the book has an entry with the node's ticket, due and item
+pub record Filed (entry : ℕ → Line) (tick dues items : ℕ → ℕ) (n : ℕ) : Type 0 where
+  pub written : entry (tick n) .written ≡ true
+  pub due : entry (tick n) .due ≡ dues n
+  pub item : entry (tick n) .item ≡ items n
+
+pub record Rel (v : View) (b : Book) : Type 0 where
+  pub count : b .count ≡ v .clock
+  pub opened : (p : ℕ) → b .opened p ≡ opens (claim v p .kind) (v .pr p .begin) (v .tick (v .pr p .own))
+  -- B2
+  pub kept : (n : ℕ) → 1 ≤ n → n ≤ v .nodes → v .us n ≡ 1 → b .entry (v .tick n) ≡ lineOf (v .due) (v .item) (v .st) (v .mk) n
+  pub found : (t : ℕ) → b .entry t .written ≡ true → b .entry t .marked ≡ false → Found (v .us) (v .tick) (v .nodes) t
+  -- the entry of an open Insert, whose node may be retired already
+  pub filed : (q : ℕ) → claim v q .kind ≡ 1 → Filed (b .entry) (v .tick) (v .due) (v .item) (v .pr q .own)
+  -- tickets are times
+  pub late : (t : ℕ) → b .entry t .written ≡ true → 1 ≤ t
+
+pub record Booked (v : View) (p : ℕ) (b : Book) (d : Decision) : Type 0 where
+  pub after : Book
+  pub fed : feedStep b p (d .answer) ≡ agrees after
+  pub rel : Rel (carried v p d) after
+
+-- a step that neither begins, answers nor marks
+abbrev pub moving : Answer → Type 0
+moving (ans.Refused n) = ⊥
+moving (ans.Began t) = ⊥
+moving ans.Moved = Unit {0}
+moving ans.Waits = Unit {0}
+moving ans.Empty = ⊥
+moving (ans.Marked e) = ⊥
+moving (ans.Inserted e) = ⊥
+moving (ans.HandedOut e) = ⊥
+
+abbrev pub quiet : Effect → Type 0
+quiet eff.Keep = Unit {0}
+quiet (eff.HoldLevel a) = Unit {0}
+quiet (eff.FreeLevel a) = Unit {0}
+quiet (eff.Lead a x) = Unit {0}
+quiet (eff.HoldNode x) = Unit {0}
+quiet (eff.FreeNode x) = Unit {0}
+quiet (eff.Mark x) = ⊥
+quiet (eff.Stamp x) = ⊥
+quiet (eff.Retire x) = ⊥
+quiet (eff.Fill x d i h) = ⊥
+
+pub record Quiet (own kind : ℕ) (d : Decision) : Type 0 where
+  pub answer : moving (d .answer)
+  pub effect : quiet (d .effect)
+  pub own-same : d .own ≡ own
+  pub begin-same : (t begin : ℕ) → beginAfter t begin (d .carry) ≡ begin
+  pub kind-same : (h : ℕ) → info h (d .stage) .kind ≡ kind
+
+rel-effected : (v : View) (p : ℕ) (b : Book) (e : Effect) → quiet e → Rel v b → Rel (effected v e p) b
+rel-effected v p b eff.Keep q R = R
+rel-effected v p b (eff.HoldLevel a) q R = record { count = R .count; opened = R .opened; kept = R .kept; found = R .found; filed = R .filed; late = R .late }
+rel-effected v p b (eff.FreeLevel a) q R = record { count = R .count; opened = R .opened; kept = R .kept; found = R .found; filed = R .filed; late = R .late }
+rel-effected v p b (eff.Lead a x) q R = record { count = R .count; opened = R .opened; kept = R .kept; found = R .found; filed = R .filed; late = R .late }
+rel-effected v p b (eff.HoldNode x) q R = record { count = R .count; opened = R .opened; kept = R .kept; found = R .found; filed = R .filed; late = R .late }
+rel-effected v p b (eff.FreeNode x) q R = record { count = R .count; opened = R .opened; kept = R .kept; found = R .found; filed = R .filed; late = R .late }
+rel-effected v p b (eff.Mark x) q R = absurd q
+rel-effected v p b (eff.Stamp x) q R = absurd q
+rel-effected v p b (eff.Retire x) q R = absurd q
+rel-effected v p b (eff.Fill x d i h) q R = absurd q
+
+pub pr-same : (v : View) (p : ℕ) (e : Effect) → effected v e p .pr ≡ v .pr
+pr-same v p eff.Keep = refl
+pr-same v p (eff.HoldLevel a) = refl
+pr-same v p (eff.FreeLevel a) = refl
+pr-same v p (eff.Lead a x) = refl
+pr-same v p (eff.HoldNode x) = refl
+pr-same v p (eff.FreeNode x) = refl
+pr-same v p (eff.Mark x) = refl
+pr-same v p (eff.Stamp x) = refl
+pr-same v p (eff.Retire x) = refl
+pr-same v p (eff.Fill x d i h) = refl
+
+pub procs-same : (v : View) (p : ℕ) (e : Effect) → effected v e p .procs ≡ v .procs
+procs-same v p eff.Keep = refl
+procs-same v p (eff.HoldLevel a) = refl
+procs-same v p (eff.FreeLevel a) = refl
+procs-same v p (eff.Lead a x) = refl
+procs-same v p (eff.HoldNode x) = refl
+procs-same v p (eff.FreeNode x) = refl
+procs-same v p (eff.Mark x) = refl
+procs-same v p (eff.Stamp x) = refl
+procs-same v p (eff.Retire x) = refl
+procs-same v p (eff.Fill x d i h) = refl
+
+rel-ticked : (w : View) (b : Book) (p : ℕ) (c : Pr) → Rel w b → c .begin ≡ w .pr p .begin → c .own ≡ w .pr p .own →
+    info (w .ht (c .own)) (c .stage) .kind ≡ claim w p .kind → Rel (ticked w p c) (counted b)
+rel-ticked w b p c R began own kind =
+    record { count = omega (arith, R .count); opened = λ q. opened q (ℕ-discrete q p); kept = R .kept; found = R .found; filed = λ q. filed q (ℕ-discrete q p); late = R .late }
+  where
+    filed : (q : ℕ) → Dec (q ≡ p) → claim (ticked w p c) q .kind ≡ 1 → Filed (b .entry) (w .tick) (w .due) (w .item) (upd (w .pr) p c q .own)
+    filed q (yes e) = rw (e, upd-same (w .pr) p c) λ k. subst (λ (n : ℕ). Filed (b .entry) (w .tick) (w .due) (w .item) n) (sym own) (R .filed p (sym kind ∙ k))
+    filed q (no d) = rw (upd-other (w .pr) p c q d) (R .filed q)
+
+    opened : (q : ℕ) → Dec (q ≡ p) → b .opened q ≡ opens (claim (ticked w p c) q .kind) (upd (w .pr) p c q .begin) (w .tick (upd (w .pr) p c q .own))
+    opened q (yes e) = rw (e, upd-same (w .pr) p c) (R .opened p ∙ sym (ap (λ (k : ℕ). opens k (c .begin) (w .tick (c .own))) kind ∙ ap (λ (k : ℕ). opens (claim w p .kind) k (w .tick (c .own))) began ∙ ap (λ (k : ℕ). opens (claim w p .kind) (w .pr p .begin) (w .tick k)) own))
+    opened q (no d) = rw (upd-other (w .pr) p c q d) (R .opened q)
+
+moves-busy : (b : Book) (k T t : ℕ) → 1 ≤ k → moves b (opens k T t) ≡ agrees (counted b)
+moves-busy b zero T t k≥ = absurd (omega arith)
+moves-busy b (suc zero) T t k≥ = refl
+moves-busy b (suc (suc zero)) T t k≥ = refl
+moves-busy b (suc (suc (suc k))) T t k≥ = refl
+
+fed-moving : (b : Book) (p : ℕ) (k T t : ℕ) → 1 ≤ k → b .opened p ≡ opens k T t → (a : Answer) → moving a → feedStep b p a ≡ agrees (counted b)
+fed-moving b p k T t k≥ e (ans.Refused n) m = absurd m
+fed-moving b p k T t k≥ e (ans.Began n) m = absurd m
+fed-moving b p k T t k≥ e ans.Moved m = rw e (moves-busy b k T t k≥)
+fed-moving b p k T t k≥ e ans.Waits m = rw e (moves-busy b k T t k≥)
+fed-moving b p k T t k≥ e ans.Empty m = absurd m
+fed-moving b p k T t k≥ e (ans.Marked x) m = absurd m
+fed-moving b p k T t k≥ e (ans.Inserted x) m = absurd m
+fed-moving b p k T t k≥ e (ans.HandedOut x) m = absurd m
+
+pub quiet-booked : (v : View) (p : ℕ) (b : Book) (d : Decision) → Rel v b → 1 ≤ claim v p .kind → Quiet (v .pr p .own) (claim v p .kind) d → Booked v p b d
+quiet-booked v p b d R busy Q =
+    record {
+      after = counted b;
+      fed = fed-moving b p (claim v p .kind) (v .pr p .begin) (v .tick (v .pr p .own)) busy (R .opened p) (d .answer) (Q .answer);
+      rel = rel-ticked (effected v (d .effect) p) b p (prAfter (v .top) (v .clock + 1) (v .pr p) d) (rel-effected v p b (d .effect) (Q .effect) R)
+          (Q .begin-same (v .clock + 1) (v .pr p .begin) ∙ ap (λ (f : ℕ → Pr). f p .begin) (sym same)) (Q .own-same ∙ ap (λ (f : ℕ → Pr). f p .own) (sym same))
+          (Q .kind-same _ ∙ kind-any _ _ (v .pr p .stage) ∙ ap (λ (f : ℕ → Pr). info (effected v (d .effect) p .ht (f p .own)) (f p .stage) .kind) (sym same));
+    }
+  where
+    same : effected v (d .effect) p .pr ≡ v .pr
+    same = pr-same v p (d .effect)

@@ -1,0 +1,205 @@
+-- What is kept by every call of a list: the invariant of the record's view, its relation to the book, and the arrays' lengths.
+use mathlib.Core.Path.{_≡_, refl, sym, ap, subst, _∙_}
+use mathlib.Core.Bool.{Bool, true, false, cond, _||_}
+use Prim.Native.Nat.{ℕ, zero, suc, _+_, _-_, _≤_, _<_}
+use native.Mathlib.Omega.{arith}
+use native.Mathlib.Decide.{decLe, decLt, ℕ-discrete}
+use lib.Dec.{ltb, leb, eqb}
+use lib.ListN.{getD, set}
+use lib.Seq.{getD-set-other}
+use borrow.Author.Tests.{ltb-true, ltb-false, leb-true, leb-false, eqb-true, eqb-false, eq-eqb}
+use Rattle.laws.specs.Update.{upd}
+use Rattle.laws.proofs.Updating.{upd-same, upd-other}
+use Rattle.record.specs.declared.queues.Queue.{Queue}
+use Rattle.record.specs.declared.queues.Processor.{Processor}
+use Rattle.record.specs.declared.stages.Stage.{Stage}
+use Rattle.record.specs.declared.stages.Stage.the-variants as stage
+use Rattle.record.specs.Check.{valid}
+use Rattle.record.specs.Making.{outside}
+use Rattle.record.specs.Queues.{processorAt, freshProcessor}
+use Rattle.record.specs.Stages.{isIdle}
+use Rattle.rules.specs.declared.answers.Answer.{Answer}
+use Rattle.rules.specs.declared.answers.Answer.the-variants as ans
+use Rattle.rules.specs.declared.answers.Outcome.{Outcome}
+use Rattle.rules.specs.declared.decisions.Decision.{Decision}
+use Rattle.rules.specs.Answers.{refused}
+use Rattle.rules.specs.Book.{Book, Open, nothing, inserting, deleting, Verdict, agrees, differs, turned, feed, feedInsert, feedDelete, feedStep, deleteBegins, insertBegins}
+use Rattle.rules.specs.Calls.{stepDecision, insertDecision, deleteDecision, onNumbers, beginInsert, beginDelete, step}
+use Rattle.rules.specs.Choice.{chosen}
+use Rattle.rules.specs.Effects.{applied, accepted, processorAfter}
+use Rattle.rules.specs.Runs.{Call, insert, deleteMin, steps, backlog, Reply, answered, counted, after, reply}
+use Rattle.rules.proofs.Put.{ever}
+use Rattle.rules.proofs.View.{Pr, View, info, claim, tail}
+use Rattle.rules.proofs.Inv.{Inv}
+use Rattle.rules.proofs.Assemble.{ticked}
+use Rattle.rules.proofs.Machine.{carried, decision, filled, relevel}
+use Rattle.laws.proofs.Booleans.{cond-cases, or-left, or-right}
+use Rattle.rules.proofs.Kept.{kept, untilAfter}
+use Rattle.rules.proofs.StageKinds.{kind-idle, kind-busy, idle-false}
+use Rattle.rules.proofs.Begin.{walker, inserter, begin-delete, begin-insert, cleared, own-ne}
+use Rattle.rules.proofs.Rel.{opens, Rel}
+use Rattle.rules.proofs.RelInsert.{rel-insert}
+use Rattle.rules.proofs.Booked.{booked, rel-open}
+use Rattle.rules.proofs.Concrete.{viewOf}
+use Rattle.rules.proofs.Refine.{Sized, Reach, applied-view, sized-applied, reaches, decision-same}
+use Rattle.rules.proofs.Lead.{sure}
+use Rattle.rules.proofs.Held.{Lock, Holds, by-place, by-own, by-node, Held, Takes, Passes, held-carried, node-held, passes}
+use Rattle.rules.proofs.Choose.{Free, chosen-free}
+
+pub record Sound (q : Queue) (b : Book) : Type 0 where
+  pub sized : Sized q
+  -- the ghost function
+  pub until : ℕ → ℕ → ℕ
+  pub inv : Inv (viewOf q) until
+  -- whoever holds a lock says so
+  pub held : Held (viewOf q)
+  pub rel : Rel (viewOf q) b
+  -- the processors from P on are idle
+  pub confined : (r : ℕ) → q .processors ≤ r → isIdle (processorAt q r .stage) ≡ true
+
+-- the book agrees with the answer of an outcome, and what is kept is kept
+pub record Agrees (feeds : Answer → Verdict) (o : Outcome) : Type 0 where
+  pub book : Book
+  pub fed : feeds (o .answer) ≡ agrees book
+  pub sound : Sound (o .queue) book
+
+module _ (q : Queue) (b : Book) (S : Sound q b) where
+  abbrev v : View
+  v = viewOf q
+
+  refused-agrees : (feeds : Answer → Verdict) (n : ℕ) → feeds (ans.Refused n) ≡ agrees b → Agrees feeds (refused q n)
+  refused-agrees feeds n e = record { book = b; fed = e; sound = S }
+
+  -- an accepted call, by what its decision does to the view
+  accepted-agrees : (feeds : Answer → Verdict) (p : ℕ) (d : Decision) (b′ : Book) (u : ℕ → ℕ → ℕ) → p < q .processors → q .clock + 1 ≤ 999999 → Reach (q .entries) d →
+      Passes (claim v p) (v .pr p .own) d → feeds (d .answer) ≡ agrees b′ → Inv (carried v p d) u → Rel (carried v p d) b′ → Agrees feeds (accepted q p d)
+  accepted-agrees feeds p d b′ u p< t≤ R P e I rel =
+      let p16 : p < 16 = omega (arith, S .sized .procs) in
+      let same = applied-view q (S .sized) p d p16 (S .inv .core .size) (S .inv .core .levels-high) R in
+      record {
+        book = b′;
+        fed = e;
+        sound = record {
+          sized = sized-applied q (S .sized) p d p16 (S .inv .core .size) t≤ R;
+          until = u;
+          inv = subst (λ (w : View). Inv w u) (sym same) I;
+          held = subst Held (sym same) (held-carried v p (S .held) d P);
+          rel = subst (λ (w : View). Rel w b′) (sym same) rel;
+          confined = λ r h. rw (getD-set-other (q .callers) p r (processorAfter (q .levels) (q .clock + 1) (processorAt q p) d) freshProcessor (λ g. omega arith)) (S .confined r h);
+        };
+      }
+
+  -- the tests that every begin and step makes first
+  tested : (feeds : Answer → Verdict) → ((n : ℕ) → feeds (ans.Refused n) ≡ agrees b) → (p : ℕ) (o : Outcome) →
+      (q .clock + 1 ≤ 999999 → p < q .processors → Agrees feeds o) →
+      Agrees feeds (cond (valid q) (cond (leb 999999 (q .clock)) (refused q 31) (cond (leb (q .processors) p) (refused q 32) o)) (refused q 21))
+  tested feeds r p o h =
+      cond-cases (Agrees feeds) (valid q) _ _
+      (λ _. cond-cases (Agrees feeds) (leb 999999 (q .clock)) _ _ (λ _. refused-agrees feeds 31 (r 31))
+      (λ x. cond-cases (Agrees feeds) (leb (q .processors) p) _ _ (λ _. refused-agrees feeds 32 (r 32))
+      (λ y. h (omega (arith, leb-false 999999 (q .clock) x)) (leb-false (q .processors) p y))))
+      (λ _. refused-agrees feeds 21 (r 21))
+
+  -- an idle processor holds nothing
+  idle-passes : (p : ℕ) → claim v p .kind ≡ 0 → (d : Decision) → ((h : ℕ) (l : Lock) → Takes (d .effect) l → Holds (info h (d .stage)) (d .own) l) → Passes (claim v p) (v .pr p .own) d
+  idle-passes p K d gains = record { keeps = λ h l H. absurd (none H); gains = gains }
+    where
+      none : {l : Lock} → Holds (claim v p) (v .pr p .own) l → ⊥
+      none (by-place x e) = sure v p .place-kind x K
+      none (by-own x e) = omega (arith, sure v p .own-own x)
+      none (by-node x e) = omega (arith, sure v p .node-kind x)
+
+  module _ (p : ℕ) where
+    -- what an idle processor has open
+    open-idle : isIdle (processorAt q p .stage) ≡ true → b .opened p ≡ nothing
+    open-idle i = S .rel .opened p ∙ ap (λ (n : ℕ). opens n (v .pr p .begin) (v .tick (v .pr p .own))) (kind-idle (v .ht (v .pr p .own)) (processorAt q p .stage) i)
+
+    pub step-agrees : Agrees (feedStep b p) (step q p)
+    step-agrees = tested (feedStep b p) (λ n. refl) p _
+        (λ t≤ p<. cond-cases (Agrees (feedStep b p)) (isIdle (processorAt q p .stage)) _ _ (λ _. refused-agrees (feedStep b p) 34 refl) (busy t≤ p<))
+      where
+        busy : q .clock + 1 ≤ 999999 → p < q .processors → isIdle (processorAt q p .stage) ≡ false → Agrees (feedStep b p) (accepted q p (stepDecision q (processorAt q p)))
+        busy t≤ p< i =
+            let s = processorAt q p .stage in
+            let k = kind-busy (v .ht (v .pr p .own)) s i in
+            let room : v .clock + 1 < ever = omega arith in
+            let B = booked v (S .until) (S .inv) (node-held v (S .held)) room b (S .rel) p s refl k in
+            subst (λ (d : Decision). Agrees (feedStep b p) (accepted q p d)) (sym (decision-same q (S .until) (S .sized) (S .inv) p k))
+            (accepted-agrees (feedStep b p) p (decision v p s) (B .after) (untilAfter v (S .until) p s) p< t≤ (reaches v (S .until) (S .inv) p s refl k) (passes v p (v .ht (v .pr p .own)) s)
+            (B .fed) (kept v (S .until) (S .inv) (node-held v (S .held)) room p s refl k) (B .rel))
+
+    pub delete-agrees : Agrees (feedDelete b p) (beginDelete q p)
+    delete-agrees = tested (feedDelete b p) (λ n. refl) p _
+        (λ t≤ p<. cond-cases (Agrees (feedDelete b p)) (isIdle (processorAt q p .stage)) _ _ (begun t≤ p<) (λ _. refused-agrees (feedDelete b p) 33 refl))
+      where
+        begun : q .clock + 1 ≤ 999999 → p < q .processors → isIdle (processorAt q p .stage) ≡ true → Agrees (feedDelete b p) (accepted q p (deleteDecision q))
+        begun t≤ p< i =
+            let K = kind-idle (v .ht (v .pr p .own)) (processorAt q p .stage) i in
+            accepted-agrees (feedDelete b p) p (deleteDecision q) (turned b (b .entry) p (deleting (q .clock + 1))) (S .until) p< t≤ (record { effect = tt; saves = tt; little = tt }) (idle-passes p K (deleteDecision q) (λ h l t. absurd t))
+            (rw (open-idle i, eq-eqb (q .clock + 1) (b .count + 1) (omega (arith, S .rel .count))))
+            (begin-delete v (S .until) (S .inv) (omega arith) p K) (rel-open v b (S .rel) p (walker v p) (deleting (q .clock + 1)) refl (λ k. omega arith))
+
+    module _ (due item height : ℕ) where
+      insert-begun : q .clock + 1 ≤ 999999 → p < q .processors → isIdle (processorAt q p .stage) ≡ true → due ≤ 999999 → 1 ≤ height → height ≤ q .levels → (x : ℕ) → Free q x →
+          Agrees (feedInsert b p due item) (accepted q p (insertDecision q x due item height))
+      insert-begun t≤ p< i due≤ h≥ h≤ x F =
+          let room : v .clock + 1 < ever = omega arith in
+          let K = kind-idle (v .ht (v .pr p .own)) (processorAt q p .stage) i in
+          accepted-agrees (feedInsert b p due item) p (insertDecision q x due item height)
+          (turned b (upd (b .entry) (q .clock + 1) (record { written = true; due = due; item = item; answeredAt = ever; marked = false; handedOut = false })) p (inserting (q .clock + 1)))
+          (cleared (S .until) x) p< t≤ (record { effect = (F .low, F .high); saves = tt; little = due≤ }) (idle-passes p K (insertDecision q x due item height) (λ h l t. by-node refl t))
+          (rw (open-idle i, eq-eqb (q .clock + 1) (b .count + 1) (omega (arith, S .rel .count))))
+          (begin-insert v (S .until) (S .inv) room p K x due item height fw lw (F .low) (F .high) due≤ h≥ h≤ (F .unused) older unseen fw-same lw-same)
+          (rel-insert v (S .until) (S .inv) b (S .rel) p x due item height fw lw (F .low) (F .high) (F .unused)
+          (own-ne v (S .until) (S .inv) room p K x due item height fw lw (F .low) (F .high) due≤ h≥ h≤ (F .unused) older unseen fw-same lw-same))
+        where
+          fw : ℕ → ℕ → ℕ
+          fw = relevel (v .fwd) x (v .top) (tail v)
+
+          lw : ℕ → ℕ → ℕ
+          lw = relevel (v .lk) x (v .top) 0
+
+          fw-same : (n j : ℕ) → (n ≡ x → ⊥) → fw n j ≡ v .fwd n j
+          fw-same n j ne = ap (λ (f : ℕ → ℕ). f j) (upd-other (v .fwd) x _ n ne)
+
+          lw-same : (n j : ℕ) → (n ≡ x → ⊥) → lw n j ≡ v .lk n j
+          lw-same n j ne = ap (λ (f : ℕ → ℕ). f j) (upd-other (v .lk) x _ n ne)
+
+          below : (r : ℕ) → 1 ≤ claim v r .kind → r < q .processors
+          below r k = elim (decLt r (q .processors)) [ yes lt ↦ lt | no ge ↦ absurd (omega (arith, kind-idle (v .ht (v .pr r .own)) (v .pr r .stage) (S .confined r (omega arith)))) ]
+
+          -- a node that may be taken was retired before every busy processor began
+          older : (r : ℕ) → 1 ≤ claim v r .kind → v .us x < v .pr r .begin + 2
+          older r k = elim (decLe 2 (v .us x)) [
+            | yes two ↦ omega (arith, F .after two r (below r k) (idle-false (v .ht (v .pr r .own)) (v .pr r .stage) k))
+            | no less ↦ omega arith
+          ]
+
+          -- and is seen by none
+          unseen : (r j : ℕ) → 1 ≤ claim v r .kind → 1 ≤ j → S .until x j < v .pr r .begin
+          unseen r j k j≥ =
+              let E = S .inv .core .entered x (F .low) (omega (arith, F .high)) in
+              elim (ℕ-discrete (v .us x) 0) [
+                | yes z ↦ omega (arith, E .never z j, S .inv .busy r k .begun)
+                | no z ↦ let two : 2 ≤ v .us x = let f : (v .us x ≡ 1 → ⊥) = F .unused in omega arith in
+                    omega (arith, E .retired (v .us x - 2) (omega arith) j j≥, F .after two r (below r k) (idle-false (v .ht (v .pr r .own)) (v .pr r .stage) k))
+              ]
+
+      pub insert-agrees : Agrees (feedInsert b p due item) (beginInsert q p due item height)
+      insert-agrees = tested (feedInsert b p due item) (λ n. refl) p _
+          (λ t≤ p<. cond-cases A (isIdle (processorAt q p .stage)) _ _ (λ i. numbers t≤ p< i) (λ _. refused-agrees (feedInsert b p due item) 33 refl))
+        where
+          A : Outcome → Type 0
+          A = Agrees (feedInsert b p due item)
+
+          begun : q .clock + 1 ≤ 999999 → p < q .processors → isIdle (processorAt q p .stage) ≡ true → (ltb 999999 due || ltb 999999 item) ≡ false → outside height (q .levels) ≡ false → eqb (chosen q) 0 ≡ false →
+              A (accepted q p (insertDecision q (chosen q) due item height))
+          begun t≤ p< i x y z =
+              let x≥ : 1 ≤ chosen q = let ne : (chosen q ≡ 0 → ⊥) = eqb-false (chosen q) 0 z in omega arith in
+              insert-begun t≤ p< i (ltb-false 999999 due (or-left (ltb 999999 due) (ltb 999999 item) x)) (ltb-false height 1 (or-left (ltb height 1) (ltb (q .levels) height) y))
+              (ltb-false (q .levels) height (or-right (ltb height 1) (ltb (q .levels) height) y)) (chosen q) (chosen-free q x≥)
+
+          numbers : q .clock + 1 ≤ 999999 → p < q .processors → isIdle (processorAt q p .stage) ≡ true → A (onNumbers q due item height (accepted q p (insertDecision q (chosen q) due item height)))
+          numbers t≤ p< i = cond-cases A (ltb 999999 due || ltb 999999 item) _ _ (λ _. refused-agrees (feedInsert b p due item) 35 refl)
+              (λ x. cond-cases A (outside height (q .levels)) _ _ (λ _. refused-agrees (feedInsert b p due item) 36 refl)
+              (λ y. cond-cases A (eqb (chosen q) 0) _ _ (λ _. refused-agrees (feedInsert b p due item) 37 refl) (λ z. begun t≤ p< i x y z)))

@@ -1,0 +1,62 @@
+-- A stage's kind: idle or busy. Assumes nothing.
+use mathlib.Core.Path.{_≡_, refl}
+use mathlib.Core.Bool.{Bool, true, false}
+use Prim.Native.Nat.{ℕ, _≤_}
+use native.Mathlib.Omega.{arith}
+use Rattle.record.specs.declared.stages.Seek.{Seek}
+use Rattle.record.specs.declared.stages.Seek.the-variants as seek
+use Rattle.record.specs.declared.stages.Insert.{Insert}
+use Rattle.record.specs.declared.stages.Insert.the-variants as ins
+use Rattle.record.specs.declared.stages.Removal.{Removal}
+use Rattle.record.specs.declared.stages.Removal.the-variants as rem
+use Rattle.record.specs.declared.stages.Delete.{Delete}
+use Rattle.record.specs.declared.stages.Delete.the-variants as del
+use Rattle.record.specs.declared.stages.Stage.{Stage}
+use Rattle.record.specs.declared.stages.Stage.the-variants as stage
+use Rattle.record.specs.Stages.{isIdle}
+use Rattle.rules.proofs.View.{info}
+
+pub kind-idle : (h : ℕ) (s : Stage) → isIdle s ≡ true → info h s .kind ≡ 0
+kind-idle h stage.Idle e = refl
+kind-idle h (stage.Insert i) e = let z : _≡_ {A = ℕ} 0 1 = cc in absurd (omega arith)
+kind-idle h (stage.Delete i) e = let z : _≡_ {A = ℕ} 0 1 = cc in absurd (omega arith)
+
+kind-insert : (h : ℕ) (i : Insert) → 1 ≤ info h (stage.Insert i) .kind
+kind-insert h (ins.Search a) = omega arith
+kind-insert h (ins.Seek (seek.Approach a)) = omega arith
+kind-insert h (ins.Seek (seek.Take a)) = omega arith
+kind-insert h (ins.Seek (seek.Confirm a)) = omega arith
+kind-insert h (ins.Seek (seek.Release a b)) = omega arith
+kind-insert h (ins.Copy a) = omega arith
+kind-insert h (ins.Link a) = omega arith
+kind-insert h (ins.FreeLevel a) = omega arith
+kind-insert h ins.FreeNode = omega arith
+kind-insert h ins.Stamp = omega arith
+
+kind-delete : (h : ℕ) (i : Delete) → 1 ≤ info h (stage.Delete i) .kind
+kind-delete h (del.Next a) = omega arith
+kind-delete h (del.Stamped a) = omega arith
+kind-delete h (del.Mark a) = omega arith
+kind-delete h (del.Removal (rem.Search a)) = omega arith
+kind-delete h (del.Removal rem.HoldNode) = omega arith
+kind-delete h (del.Removal (rem.Seek (seek.Approach a))) = omega arith
+kind-delete h (del.Removal (rem.Seek (seek.Take a))) = omega arith
+kind-delete h (del.Removal (rem.Seek (seek.Confirm a))) = omega arith
+kind-delete h (del.Removal (rem.Seek (seek.Release a b))) = omega arith
+kind-delete h (del.Removal (rem.HoldOwn a)) = omega arith
+kind-delete h (del.Removal (rem.Unlink a)) = omega arith
+kind-delete h (del.Removal (rem.Back a)) = omega arith
+kind-delete h (del.Removal (rem.FreeOwn a)) = omega arith
+kind-delete h (del.Removal (rem.FreeLevel a)) = omega arith
+kind-delete h (del.Removal rem.FreeNode) = omega arith
+kind-delete h (del.Removal rem.Retire) = omega arith
+
+pub kind-busy : (h : ℕ) (s : Stage) → isIdle s ≡ false → 1 ≤ info h s .kind
+kind-busy h stage.Idle e = let z : _≡_ {A = ℕ} 0 1 = cc in absurd (omega arith)
+kind-busy h (stage.Insert i) e = kind-insert h i
+kind-busy h (stage.Delete i) e = kind-delete h i
+
+pub idle-false : (h : ℕ) (s : Stage) → 1 ≤ info h s .kind → isIdle s ≡ false
+idle-false h stage.Idle e = absurd (omega arith)
+idle-false h (stage.Insert i) e = refl
+idle-false h (stage.Delete i) e = refl

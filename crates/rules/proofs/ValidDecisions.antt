@@ -1,0 +1,385 @@
+-- On a record that passes check 21 every call leaves the record as it is, or it applies a decision whose numbers are in range. Assumes nothing.
+use mathlib.Core.Path.{_≡_, refl}
+use mathlib.Core.Bool.{Bool, true, false, _&&_, _||_, true≢false, false≢true}
+use Prim.Native.Nat.{ℕ, zero, suc, _+_, _-_, _≤_, _<_}
+use native.Mathlib.Omega.{arith}
+use lib.Dec.{ltb, leb, eqb}
+use borrow.Author.Tests.{ltb-true, ltb-false, leb-false, eqb-false}
+use Rattle.record.specs.declared.check.Sizes.{Sizes}
+use Rattle.record.specs.declared.nodes.Stamp.{Stamp}
+use Rattle.record.specs.declared.nodes.Stamp.the-variants as stamp
+use Rattle.record.specs.declared.nodes.Use.{Use}
+use Rattle.record.specs.declared.queues.Processor.{Processor}
+use Rattle.record.specs.declared.queues.Queue.{Queue}
+use Rattle.record.specs.declared.stages.Place.{Place}
+use Rattle.record.specs.declared.stages.Seek.{Seek}
+use Rattle.record.specs.declared.stages.Seek.the-variants as seek
+use Rattle.record.specs.declared.stages.Insert.{Insert}
+use Rattle.record.specs.declared.stages.Insert.the-variants as ins
+use Rattle.record.specs.declared.stages.Removal.{Removal}
+use Rattle.record.specs.declared.stages.Removal.the-variants as rem
+use Rattle.record.specs.declared.stages.Delete.{Delete}
+use Rattle.record.specs.declared.stages.Delete.the-variants as del
+use Rattle.record.specs.declared.stages.Stage.{Stage}
+use Rattle.record.specs.declared.stages.Stage.the-variants as stage
+use Rattle.record.specs.Check.{sizesOf, valid}
+use Rattle.record.specs.Limits.{maxNumber}
+use Rattle.record.specs.Making.{outside}
+use Rattle.record.specs.Nodes.{stampedBefore}
+use Rattle.record.specs.Queues.{nodeAt, processorAt}
+use Rattle.record.specs.Stages.{place, at, seekCarried, carried, isIdle}
+use Rattle.rules.specs.declared.answers.Answer.{Answer}
+use Rattle.rules.specs.declared.answers.Outcome.{Outcome}
+use Rattle.rules.specs.declared.decisions.Effect.{Effect}
+use Rattle.rules.specs.declared.decisions.Effect.the-variants as eff
+use Rattle.rules.specs.declared.decisions.Carry.{Carry}
+use Rattle.rules.specs.declared.decisions.Carry.the-variants as carry
+use Rattle.rules.specs.declared.decisions.Decision.{Decision}
+use Rattle.rules.specs.declared.decisions.Sight.{Sight}
+use Rattle.rules.specs.declared.decisions.Searched.{Searched}
+use Rattle.rules.specs.declared.decisions.Searched.the-variants as srch
+use Rattle.rules.specs.declared.decisions.Sought.{Sought}
+use Rattle.rules.specs.declared.decisions.Sought.the-variants as sght
+use Rattle.rules.specs.Choice.{isNever, isRetired, neverUsed, longestRetired, stateOf, allBeganAfter, retirement, chosen}
+use Rattle.rules.specs.Decide
+use Rattle.rules.specs.Effects.{applied}
+use Rattle.rules.specs.Calls.{readingPlace, sightOf, stepDecision, insertDecision, deleteDecision, onRecord, onProcessor}
+use Rattle.rules.specs.Runs.{Call, insert, deleteMin, steps, backlog, after}
+use Rattle.laws.proofs.Booleans.{cond-cases}
+use Rattle.rules.proofs.ValidFacts.{Within, ValidPlace, ValidCarried, ValidProcessor, ValidQueue, valid-facts}
+
+-- the node x that an Insert takes, and its numbers
+pub record ValidFill (s : Sizes) (x d i h : ℕ) : Type 0 where
+  pub node : Within x (s .entries)
+  pub due : d ≤ maxNumber
+  pub item : i ≤ maxNumber
+  pub height : Within h (s .levels)
+
+pub record ValidLead (s : Sizes) (a : Place) (x : ℕ) : Type 0 where
+  pub place : ValidPlace s a
+  pub to : x ≤ s .entries + 1
+
+-- the numbers of an effect, of what becomes of the saved nodes, and of a decision
+abbrev pub ValidEffect : Sizes → Effect → Type 0
+ValidEffect s eff.Keep = Unit {0}
+ValidEffect s (eff.HoldLevel a) = ValidPlace s a
+ValidEffect s (eff.FreeLevel a) = ValidPlace s a
+ValidEffect s (eff.Lead a x) = ValidLead s a x
+ValidEffect s (eff.HoldNode x) = Within x (s .entries)
+ValidEffect s (eff.FreeNode x) = Within x (s .entries)
+ValidEffect s (eff.Mark x) = Within x (s .entries)
+ValidEffect s (eff.Stamp x) = Within x (s .entries)
+ValidEffect s (eff.Retire x) = Within x (s .entries)
+ValidEffect s (eff.Fill x due item height) = ValidFill s x due item height
+
+abbrev pub ValidCarry : Sizes → Carry → Type 0
+ValidCarry s carry.Keep = Unit {0}
+ValidCarry s (carry.Save a) = ValidPlace s a
+ValidCarry s carry.Clear = Unit {0}
+ValidCarry s carry.Begin = Unit {0}
+
+pub record ValidDecision (s : Sizes) (d : Decision) : Type 0 where
+  pub effect : ValidEffect s (d .effect)
+  pub carry : ValidCarry s (d .carry)
+  pub carries : ValidCarried s (carried (d .stage)) (d .own)
+
+-- what a step reads at the place a; the saved node one level up is in range below level L
+pub record ValidSight (s : Sizes) (a : Place) (v : Sight) : Type 0 where
+  pub height : Within (v .height) (s .levels)
+  pub next : v .next ≤ s .entries + 1
+  pub onward : v .onward ≤ s .entries + 1
+  pub levels : v .levels ≡ s .levels
+  pub stamped : v .stamped ≡ true → Within (a .node) (s .entries)
+  pub up : a .level < s .levels → v .up ≤ s .entries + 1
+  pub down : v .down ≤ s .entries + 1
+  pub top : v .top ≤ s .entries + 1
+
+stamped-before : (u : Stamp) (t : ℕ) → stampedBefore u t ≡ true → (k : ℕ) × (u ≡ stamp.At k)
+stamped-before stamp.Unset t h = absurd (false≢true h)
+stamped-before (stamp.At k) t h = (k, refl)
+
+pub sight-valid : (q : Queue) (c : Processor) (a : Place) → ValidQueue q → ValidProcessor (sizesOf q) c → ValidPlace (sizesOf q) a → ValidSight (sizesOf q) a (sightOf q c a)
+sight-valid q c a Q C P =
+    let L = P .level in
+    let N = Q .nodes (a .node) (P .node) in
+    let O = Q .nodes (c .own) (C .carries .own-high) in
+    let H = O .height in
+    record {
+      height = H;
+      next = N .forward (a .level - 1) (omega arith);
+      onward = O .forward (a .level - 1) (omega arith);
+      levels = refl;
+      stamped = λ h. let k = stamped-before (nodeAt q (a .node) .stamp) (c .begin) h in N .stamped (k .0) (k .1);
+      up = λ h. C .saved (a .level + 1 - 1) (omega arith);
+      down = C .saved (a .level - 1 - 1) (omega arith);
+      top = C .saved (nodeAt q (c .own) .height - 1) (omega arith);
+    }
+
+module _ (s : Sizes) (levels : 1 ≤ s .levels) where
+  -- a stage with an own node, and one without
+  owning : (own : ℕ) (a : Place) → Within own (s .entries) → ValidPlace s a → ValidCarried s (at true a) own
+  owning own a O P = record { own-high = omega arith; has-own = λ e. O; place = P; ahead = P .node; marks = λ e. absurd (false≢true e) }
+
+  ownless : (own : ℕ) (a : Place) → own ≤ s .entries + 1 → ValidPlace s a → ValidCarried s (at false a) own
+  ownless own a O P = record { own-high = O; has-own = λ e. absurd (false≢true e); place = P; ahead = P .node; marks = λ e. absurd (false≢true e) }
+
+  head-place : (i : ℕ) → Within i (s .levels) → ValidPlace s (place 0 i)
+  head-place i I = record { node = omega arith; level = I }
+
+  level-one : Within 1 (s .levels)
+  level-one = omega arith
+
+  owning-head : (own : ℕ) → Within own (s .entries) → ValidCarried s (at true (place 0 1)) own
+  owning-head own O = owning own (place 0 1) O (head-place 1 level-one)
+
+  moved-valid : (v : Sight) (e : Effect) (g : Stage) → ValidEffect s e → ValidCarried s (carried g) (v .own) → ValidDecision s (Decide.moved v e g)
+  moved-valid v e g E G = record { effect = E; carry = tt; carries = G }
+
+  waits-valid : (v : Sight) (g : Stage) → ValidCarried s (carried g) (v .own) → ValidDecision s (Decide.waits v g)
+  waits-valid v g G = record { effect = tt; carry = tt; carries = G }
+
+  saving-valid : (v : Sight) (a : Place) (g : Stage) → ValidPlace s a → ValidCarried s (carried g) (v .own) → ValidDecision s (Decide.saving v a g)
+  saving-valid v a g A G = record { effect = tt; carry = A; carries = G }
+
+  answers-valid : (e : Effect) (r : Answer) → ValidEffect s e → ValidDecision s (Decide.answers e r)
+  answers-valid e r E = record { effect = E; carry = tt; carries = ownless 0 (place 0 1) (omega arith) (head-place 1 level-one) }
+
+  -- a step of a Search and of a Lock-seek
+  search-cases : (v : Sight) (a : Place) → ValidSight s a v → ValidPlace s a → (P : Searched → Type 0) →
+      ((b : Place) → ValidPlace s b → P (srch.Ahead b)) → ((b : Place) → ValidPlace s b → P (srch.Down b)) → P (srch.Left a) → P (Decide.searchStep v a)
+  search-cases v a W A P ahead down left =
+      cond-cases P (v .before) _ _ (λ x. ahead _ (record { node = W .next; level = A .level }))
+      (λ x. cond-cases P (leb (a .level) 1) _ _ (λ y. left)
+      (λ y. down _ (record { node = A .node; level = let l = leb-false (a .level) 1 y in omega arith })))
+
+  -- what follows a step of a Lock-seek of an operation with this own node
+  abbrev ValidSought : ℕ → Sought → Type 0
+  ValidSought own (sght.Goes e k) = (ValidEffect s e) × (ValidCarried s (seekCarried k) own)
+  ValidSought own (sght.Waits k) = ValidCarried s (seekCarried k) own
+  ValidSought own (sght.Done a) = ValidPlace s a
+
+  seek-valid : (v : Sight) (k : Seek) → ValidSight s (seekCarried k .place) v → ValidCarried s (seekCarried k) (v .own) → ValidSought (v .own) (Decide.seekStep v k)
+  seek-valid v (seek.Approach a) W G =
+      cond-cases (ValidSought (v .own)) (v .before) _ _
+      (λ x. (tt, owning (v .own) (place (v .next) (a .level)) (G .has-own refl) (record { node = W .next; level = G .place .level })))
+      (λ x. (tt, owning (v .own) a (G .has-own refl) (G .place)))
+  seek-valid v (seek.Take a) W G =
+      cond-cases (ValidSought (v .own)) (eqb (v .guard) 0) _ _
+      (λ x. (G .place, owning (v .own) a (G .has-own refl) (G .place))) (λ x. owning (v .own) a (G .has-own refl) (G .place))
+  seek-valid v (seek.Confirm a) W G =
+      cond-cases (ValidSought (v .own)) (v .before) _ _
+      (λ x. (tt, record { own-high = G .own-high; has-own = G .has-own; place = G .place; ahead = W .next; marks = λ e. absurd (false≢true e) }))
+      (λ x. G .place)
+  seek-valid v (seek.Release a b) W G =
+      (G .place, owning (v .own) (place b (a .level)) (G .has-own refl) (record { node = G .ahead; level = G .place .level }))
+
+  insert-sought-valid : (v : Sight) (r : Sought) → Within (v .own) (s .entries) → ValidSought (v .own) r → ValidDecision s (Decide.insertSought v r)
+  insert-sought-valid v (sght.Goes e k) O R = moved-valid v e (stage.Insert (ins.Seek k)) (R .0) (R .1)
+  insert-sought-valid v (sght.Waits k) O R = waits-valid v (stage.Insert (ins.Seek k)) R
+  insert-sought-valid v (sght.Done a) O R = moved-valid v eff.Keep (stage.Insert (ins.Copy a)) tt (owning (v .own) a O R)
+
+  removal-sought-valid : (v : Sight) (r : Sought) → Within (v .own) (s .entries) → ValidSought (v .own) r → ValidDecision s (Decide.removalSought v r)
+  removal-sought-valid v (sght.Goes e k) O R = moved-valid v e (Decide.removing (rem.Seek k)) (R .0) (R .1)
+  removal-sought-valid v (sght.Waits k) O R = waits-valid v (Decide.removing (rem.Seek k)) R
+  removal-sought-valid v (sght.Done a) O R = moved-valid v eff.Keep (Decide.removing (rem.HoldOwn a)) tt (owning (v .own) a O R)
+
+  seek-own : (k : Seek) → seekCarried k .own ≡ true
+  seek-own (seek.Approach a) = refl
+  seek-own (seek.Take a) = refl
+  seek-own (seek.Confirm a) = refl
+  seek-own (seek.Release a b) = refl
+
+  -- at a place of the own node
+  own-place : (own i : ℕ) → Within own (s .entries) → Within i (s .levels) → ValidPlace s (place own i)
+  own-place own i O I = record { node = omega arith; level = I }
+
+  insert-freed-valid : (v : Sight) (a : Place) → ValidSight s a v → Within (v .own) (s .entries) → ValidPlace s a → ValidDecision s (Decide.insertFreed v a)
+  insert-freed-valid v a W O A =
+      cond-cases (λ d. ValidDecision s d) (ltb (a .level) (v .height)) _ _
+      (λ x. let lower = ltb-true (a .level) (v .height) x in let H = W .height in
+      moved-valid v (eff.FreeLevel a) (stage.Insert (ins.Seek (seek.Approach (place (v .up) (a .level + 1))))) A
+      (owning (v .own) (place (v .up) (a .level + 1)) O (record { node = W .up (omega arith); level = omega arith })))
+      (λ x. moved-valid v (eff.FreeLevel a) (stage.Insert ins.FreeNode) A (owning-head (v .own) O))
+
+  insert-valid : (v : Sight) (i : Insert) → ValidSight s (readingPlace (stage.Insert i)) v → ValidCarried s (carried (stage.Insert i)) (v .own) → ValidDecision s (Decide.insertStep v i)
+  insert-valid v (ins.Search a) W G =
+      search-cases v a W (G .place) (λ r. ValidDecision s (Decide.insertSearched v a r))
+      (λ b B. moved-valid v eff.Keep (stage.Insert (ins.Search b)) tt (owning (v .own) b (G .has-own refl) B))
+      (λ b B. saving-valid v a (stage.Insert (ins.Search b)) (G .place) (owning (v .own) b (G .has-own refl) B))
+      (saving-valid v a (stage.Insert (ins.Seek (seek.Approach a))) (G .place) (owning (v .own) a (G .has-own refl) (G .place)))
+  insert-valid v (ins.Seek k) W G = insert-sought-valid v (Decide.seekStep v k) (G .has-own (seek-own k)) (seek-valid v k W G)
+  insert-valid v (ins.Copy a) W G =
+      moved-valid v (eff.Lead (place (v .own) (a .level)) (v .next)) (stage.Insert (ins.Link a))
+      (record { place = own-place (v .own) (a .level) (G .has-own refl) (G .place .level); to = W .next }) G
+  insert-valid v (ins.Link a) W G = moved-valid v (eff.Lead a (v .own)) (stage.Insert (ins.FreeLevel a)) (record { place = G .place; to = G .own-high }) G
+  insert-valid v (ins.FreeLevel a) W G = insert-freed-valid v a W (G .has-own refl) (G .place)
+  insert-valid v ins.FreeNode W G = moved-valid v (eff.FreeNode (v .own)) (stage.Insert ins.Stamp) (G .has-own refl) G
+  insert-valid v ins.Stamp W G = answers-valid (eff.Stamp (v .own)) _ (G .has-own refl)
+
+  removal-freed-valid : (v : Sight) (a : Place) → ValidSight s a v → Within (v .own) (s .entries) → ValidPlace s a → ValidDecision s (Decide.removalFreed v a)
+  removal-freed-valid v a W O A =
+      cond-cases (λ d. ValidDecision s d) (leb (a .level) 1) _ _
+      (λ x. moved-valid v (eff.FreeLevel a) (Decide.removing rem.FreeNode) A (owning-head (v .own) O))
+      (λ x. let above = leb-false (a .level) 1 x in let l = A .level in
+      moved-valid v (eff.FreeLevel a) (Decide.removing (rem.Seek (seek.Approach (place (v .down) (a .level - 1))))) A
+      (owning (v .own) (place (v .down) (a .level - 1)) O (record { node = W .down; level = omega arith })))
+
+  removal-valid : (v : Sight) (r : Removal) → ValidSight s (readingPlace (Decide.removing r)) v → ValidCarried s (carried (Decide.removing r)) (v .own) → ValidDecision s (Decide.removalStep v r)
+  removal-valid v (rem.Search a) W G =
+      search-cases v a W (G .place) (λ r. ValidDecision s (Decide.removalSearched v a r))
+      (λ b B. moved-valid v eff.Keep (Decide.removing (rem.Search b)) tt (owning (v .own) b (G .has-own refl) B))
+      (λ b B. saving-valid v a (Decide.removing (rem.Search b)) (G .place) (owning (v .own) b (G .has-own refl) B))
+      (saving-valid v a (Decide.removing rem.HoldNode) (G .place) (owning-head (v .own) (G .has-own refl)))
+  removal-valid v rem.HoldNode W G =
+      cond-cases (λ d. ValidDecision s d) (eqb (v .holder) 0) _ _
+      (λ x. moved-valid v (eff.HoldNode (v .own)) (Decide.removing (rem.Seek (seek.Approach (place (v .top) (v .height))))) (G .has-own refl)
+      (owning (v .own) (place (v .top) (v .height)) (G .has-own refl) (record { node = W .top; level = W .height })))
+      (λ x. waits-valid v (Decide.removing rem.HoldNode) G)
+  removal-valid v (rem.Seek k) W G = removal-sought-valid v (Decide.seekStep v k) (G .has-own (seek-own k)) (seek-valid v k W G)
+  removal-valid v (rem.HoldOwn a) W G =
+      cond-cases (λ d. ValidDecision s d) (eqb (v .latch) 0) _ _
+      (λ x. moved-valid v (eff.HoldLevel (place (v .own) (a .level))) (Decide.removing (rem.Unlink a)) (own-place (v .own) (a .level) (G .has-own refl) (G .place .level)) G)
+      (λ x. waits-valid v (Decide.removing (rem.HoldOwn a)) G)
+  removal-valid v (rem.Unlink a) W G = moved-valid v (eff.Lead a (v .onward)) (Decide.removing (rem.Back a)) (record { place = G .place; to = W .onward }) G
+  removal-valid v (rem.Back a) W G =
+      moved-valid v (eff.Lead (place (v .own) (a .level)) (a .node)) (Decide.removing (rem.FreeOwn a))
+      (record { place = own-place (v .own) (a .level) (G .has-own refl) (G .place .level); to = G .place .node }) G
+  removal-valid v (rem.FreeOwn a) W G =
+      moved-valid v (eff.FreeLevel (place (v .own) (a .level))) (Decide.removing (rem.FreeLevel a)) (own-place (v .own) (a .level) (G .has-own refl) (G .place .level)) G
+  removal-valid v (rem.FreeLevel a) W G = removal-freed-valid v a W (G .has-own refl) (G .place)
+  removal-valid v rem.FreeNode W G = moved-valid v (eff.FreeNode (v .own)) (Decide.removing rem.Retire) (G .has-own refl) G
+  removal-valid v rem.Retire W G = answers-valid (eff.Retire (v .own)) _ (G .has-own refl)
+
+  mark-valid : (v : Sight) (a : Place) → v .levels ≡ s .levels → v .own ≤ s .entries + 1 → ValidPlace s a → Within (a .node) (s .entries) → ValidDecision s (Decide.markTest v a)
+  mark-valid v a l O A M =
+      cond-cases (λ d. ValidDecision s d) (v .marked) _ _
+      (λ x. moved-valid v eff.Keep (stage.Delete (del.Next a)) tt (ownless (v .own) a O A))
+      (λ x. record { effect = M; carry = tt; carries = owning (a .node) (place 0 (v .levels)) M (head-place (v .levels) (omega arith)) })
+
+  delete-valid : (v : Sight) (d : Delete) → ValidSight s (readingPlace (stage.Delete d)) v → ValidCarried s (carried (stage.Delete d)) (v .own) → ValidDecision s (Decide.deleteStep v d)
+  delete-valid v (del.Next a) W G =
+      cond-cases (λ d. ValidDecision s d) (v .tail) _ _
+      (λ x. answers-valid eff.Keep _ tt)
+      (λ x. moved-valid v eff.Keep (stage.Delete (del.Stamped (place (v .next) 1))) tt
+      (ownless (v .own) (place (v .next) 1) (G .own-high) (record { node = W .next; level = level-one })))
+  delete-valid v (del.Stamped a) W G =
+      cond-cases (λ d. ValidDecision s d) (v .stamped) _ _
+      (λ x. moved-valid v eff.Keep (stage.Delete (del.Mark a)) tt
+      (record { own-high = G .own-high; has-own = G .has-own; place = G .place; ahead = G .ahead; marks = λ e. W .stamped x }))
+      (λ x. moved-valid v eff.Keep (stage.Delete (del.Next a)) tt G)
+  delete-valid v (del.Mark a) W G = mark-valid v a (W .levels) (G .own-high) (G .place) (G .marks refl)
+  delete-valid v (del.Removal r) W G = removal-valid v r W G
+
+  pub decide-valid : (v : Sight) (g : Stage) → ValidSight s (readingPlace g) v → ValidCarried s (carried g) (v .own) → ValidDecision s (Decide.decide v g)
+  decide-valid v stage.Idle W G = waits-valid v stage.Idle G
+  decide-valid v (stage.Insert i) W G = insert-valid v i W G
+  decide-valid v (stage.Delete d) W G = delete-valid v d W G
+
+  pub reading-valid : (g : Stage) (own : ℕ) → ValidCarried s (carried g) own → ValidPlace s (readingPlace g)
+  reading-valid stage.Idle own G = G .place
+  reading-valid (stage.Insert i) own G = G .place
+  reading-valid (stage.Delete (del.Next a)) own G = record { node = G .place .node; level = level-one }
+  reading-valid (stage.Delete (del.Stamped a)) own G = record { node = G .place .node; level = level-one }
+  reading-valid (stage.Delete (del.Mark a)) own G = record { node = G .place .node; level = level-one }
+  reading-valid (stage.Delete (del.Removal r)) own G = G .place
+
+-- both halves of a test that fails
+or-left : (a b : Bool) → (a || b) ≡ false → a ≡ false
+or-left true b h = absurd (true≢false h)
+or-left false b h = refl
+
+or-right : (a b : Bool) → (a || b) ≡ false → b ≡ false
+or-right true b h = absurd (true≢false h)
+or-right false b h = h
+
+-- the node that an Insert takes is one of 0 to N
+never-used-high : (state : ℕ → Use) (k : ℕ) → neverUsed state k ≤ k
+never-used-high state zero = omega arith
+never-used-high state (suc k) =
+    cond-cases (λ x. x ≤ suc k) (ltb 0 (neverUsed state k)) _ _ (λ h. omega (arith, never-used-high state k))
+    (λ h. cond-cases (λ x. x ≤ suc k) (isNever (state (suc k))) _ _ (λ e. omega arith) (λ e. omega arith))
+
+longest-retired-high : (state : ℕ → Use) (k : ℕ) → longestRetired state k ≤ k
+longest-retired-high state zero = omega arith
+longest-retired-high state (suc k) =
+    let best = longestRetired state k in
+    cond-cases (λ x. x ≤ suc k) (isRetired (state (suc k))) _ _
+    (λ h. cond-cases (λ x. x ≤ suc k) (eqb best 0 || ltb (retirement (state (suc k))) (retirement (state best))) _ _ (λ e. omega arith) (λ e. omega (arith, longest-retired-high state k)))
+    (λ h. omega (arith, longest-retired-high state k))
+
+pub chosen-high : (q : Queue) → chosen q ≤ q .entries
+chosen-high q =
+    let best = longestRetired (stateOf q) (q .entries) in
+    cond-cases (λ x. x ≤ q .entries) (ltb 0 (neverUsed (stateOf q) (q .entries))) _ _ (λ h. never-used-high (stateOf q) (q .entries))
+    (λ h. cond-cases (λ x. x ≤ q .entries) (ltb 0 best && allBeganAfter q (retirement (stateOf q best))) _ _ (λ e. longest-retired-high (stateOf q) (q .entries)) (λ e. omega arith))
+
+pub step-valid : (q : Queue) (c : Processor) → ValidQueue q → ValidProcessor (sizesOf q) c → ValidDecision (sizesOf q) (stepDecision q c)
+step-valid q c Q C =
+    let levels = Q .sizes .levels .low in
+    let A = reading-valid (sizesOf q) levels (c .stage) (c .own) (C .carries) in
+    decide-valid (sizesOf q) levels (sightOf q c (readingPlace (c .stage))) (c .stage) (sight-valid q c (readingPlace (c .stage)) Q C A) (C .carries)
+
+pub insert-begins-valid : (q : Queue) (x due item height : ℕ) → ValidQueue q → ValidFill (sizesOf q) x due item height → ValidDecision (sizesOf q) (insertDecision q x due item height)
+insert-begins-valid q x due item height Q F =
+    let levels = Q .sizes .levels .low in
+    record { effect = F; carry = tt; carries = owning (sizesOf q) levels x (place 0 (q .levels)) (F .node) (head-place (sizesOf q) levels (q .levels) (omega arith)) }
+
+pub delete-begins-valid : (q : Queue) → ValidQueue q → ValidDecision (sizesOf q) (deleteDecision q)
+delete-begins-valid q Q =
+    let levels = Q .sizes .levels .low in
+    record { effect = tt; carry = tt; carries = ownless (sizesOf q) levels 0 (place 0 1) (omega arith) (head-place (sizesOf q) levels 1 (omega arith)) }
+
+-- what a call does to the record q: nothing, or it applies a decision in range, made on a record that passes check 21
+pub data Does (q : Queue) : Queue → Type 0 where
+  unchanged : Does q q
+  applies : (p : ℕ) (d : Decision) → ValidQueue q → q .clock < maxNumber → p < q .processors → ValidDecision (sizesOf q) d → Does q (applied q p d)
+
+abbrev Leaves : Queue → Outcome → Type 0
+Leaves q o = Does q (o .queue)
+
+-- the refusals that all begins and steps have, and what follows them
+on-processor : (q : Queue) (p : ℕ) (r : Outcome) → (ValidQueue q → q .clock < maxNumber → p < q .processors → Leaves q r) → Leaves q (onRecord q (onProcessor q p r))
+on-processor q p r h =
+    cond-cases (Leaves q) (valid q) _ _
+    (λ v. cond-cases (Leaves q) (leb maxNumber (q .clock)) _ _ (λ x. unchanged)
+    (λ x. cond-cases (Leaves q) (leb (q .processors) p) _ _ (λ y. unchanged)
+    (λ y. h (valid-facts q v) (leb-false _ _ x) (leb-false _ _ y))))
+    (λ v. unchanged)
+
+in-range : (x top : ℕ) → outside x top ≡ false → Within x top
+in-range x top h = record { low = ltb-false x 1 (or-left _ _ h); high = ltb-false top x (or-right (ltb x 1) (ltb top x) h) }
+
+insert-does : (q : Queue) (p due item height : ℕ) → Does q (after q (insert p due item height))
+insert-does q p due item height =
+    on-processor q p _ (λ Q c< p<.
+    cond-cases (Leaves q) (isIdle (processorAt q p .stage)) _ _
+    (λ w. cond-cases (Leaves q) (ltb maxNumber due || ltb maxNumber item) _ _ (λ x. unchanged)
+    (λ x. cond-cases (Leaves q) (outside height (q .levels)) _ _ (λ y. unchanged)
+    (λ y. cond-cases (Leaves q) (eqb (chosen q) 0) _ _ (λ z. unchanged)
+    (λ z. applies p (insertDecision q (chosen q) due item height) Q c< p<
+    (insert-begins-valid q (chosen q) due item height Q
+    (record {
+      node = let some : (chosen q ≡ 0 → ⊥) = eqb-false (chosen q) 0 z in omega (arith, chosen-high q);
+      due = ltb-false _ _ (or-left _ _ x);
+      item = ltb-false _ _ (or-right (ltb maxNumber due) (ltb maxNumber item) x);
+      height = in-range height (q .levels) y;
+    }))))))
+    (λ w. unchanged))
+
+delete-does : (q : Queue) (p : ℕ) → Does q (after q (deleteMin p))
+delete-does q p =
+    on-processor q p _ (λ Q c< p<.
+    cond-cases (Leaves q) (isIdle (processorAt q p .stage)) _ _
+    (λ w. applies p (deleteDecision q) Q c< p< (delete-begins-valid q Q)) (λ w. unchanged))
+
+step-does : (q : Queue) (p : ℕ) → Does q (after q (steps p))
+step-does q p =
+    on-processor q p _ (λ Q c< p<.
+    cond-cases (Leaves q) (isIdle (processorAt q p .stage)) _ _
+    (λ w. unchanged) (λ w. applies p (stepDecision q (processorAt q p)) Q c< p< (step-valid q (processorAt q p) Q (Q .callers p p<))))
+
+pub does : (q : Queue) (c : Call) → Does q (after q c)
+does q (insert p due item height) = insert-does q p due item height
+does q (deleteMin p) = delete-does q p
+does q (steps p) = step-does q p
+does q backlog = unchanged

@@ -1,0 +1,124 @@
+-- The record as functions of numbers, and what a stage claims of its processor.
+use mathlib.Core.Path.{_≡_, refl}
+use mathlib.Core.Bool.{Bool, true, false}
+use Prim.Native.Nat.{ℕ, zero, suc, _+_, _-_, _*_, _≤_, _<_}
+use lib.Dec.{ltb, leb, eqb}
+use mathlib.Core.Bool.{cond}
+use Rattle.record.specs.declared.stages.Place.{Place}
+use Rattle.record.specs.declared.stages.Seek.{Seek}
+use Rattle.record.specs.declared.stages.Seek.the-variants as seek
+use Rattle.record.specs.declared.stages.Insert.{Insert}
+use Rattle.record.specs.declared.stages.Insert.the-variants as ins
+use Rattle.record.specs.declared.stages.Delete.{Delete}
+use Rattle.record.specs.declared.stages.Delete.the-variants as del
+use Rattle.record.specs.declared.stages.Removal.{Removal}
+use Rattle.record.specs.declared.stages.Removal.the-variants as rem
+use Rattle.record.specs.declared.stages.Stage.{Stage}
+use Rattle.record.specs.declared.stages.Stage.the-variants as stage
+use Rattle.laws.specs.Update.{upd}
+use Rattle.rules.proofs.Put.{ever, put}
+
+-- a processor: saved is a function of the level
+pub record Pr : Type 0 where
+  pub begin : ℕ
+  pub own : ℕ
+  pub stage : Stage
+  pub saved : ℕ → ℕ
+
+-- lk: 0 is free, q + 1 is held by q.  mk: 0 is unmarked.  st: ever is no stamp.
+-- us: 0 is never used, 1 is in use (the head and the tail too), 2 + r is retired at r.
+pub record View : Type 0 where
+  pub procs : ℕ
+  pub nodes : ℕ
+  pub top : ℕ
+  pub clock : ℕ
+  pub fwd : ℕ → ℕ → ℕ
+  pub lk : ℕ → ℕ → ℕ
+  pub nl : ℕ → ℕ
+  pub mk : ℕ → ℕ
+  pub st : ℕ → ℕ
+  pub us : ℕ → ℕ
+  pub ht : ℕ → ℕ
+  pub due : ℕ → ℕ
+  pub tick : ℕ → ℕ
+  pub item : ℕ → ℕ
+  pub pr : ℕ → Pr
+
+abbrev pub tail : View → ℕ
+tail v = v .nodes + 1
+
+-- above every entry's rank
+abbrev pub last : ℕ
+last = 2000000000000
+
+abbrev pub entryRank : ℕ → ℕ → ℕ
+entryRank d t = d * 1000000 + t + 1
+
+unfoldable pub rank : ℕ → (ℕ → ℕ) → (ℕ → ℕ) → ℕ → ℕ
+rank n due tick x = cond (eqb x 0) 0 (cond (eqb x (n + 1)) last (entryRank (due x) (tick x)))
+
+abbrev pub key : View → ℕ → ℕ
+key v = rank (v .nodes) (v .due) (v .tick)
+
+-- What a stage says of its processor.
+--   kind: 0 idle, 1 an Insert, 2 a walk, 3 a remover with an own node
+--   node, level: the place.  b: the b of G4, elsewhere the place's node
+--   hp, ho, hn: 1 if it holds the place's lock, own's lock at the level, own's node lock
+--   nx: what it knows of a's forward number: 1 at I1, 2 at I2, 3 at L2 and L3, 4 at L4
+--   lo: own is linked at the levels 1 to lo
+--   from: the saved nodes of the levels from this one on are of this operation
+--   strict: 1 at W1 (every eligible key is above the place's).  early: 1 at W3 (the place's stamp is before the begin)
+--   past: 1 for a remover past L1
+pub record Info : Type 0 where
+  pub kind : ℕ
+  pub node : ℕ
+  pub level : ℕ
+  pub b : ℕ
+  pub hp : ℕ
+  pub ho : ℕ
+  pub hn : ℕ
+  pub nx : ℕ
+  pub lo : ℕ
+  pub from : ℕ
+  pub strict : ℕ
+  pub early : ℕ
+  pub past : ℕ
+
+abbrev pub seeks : ℕ → ℕ → ℕ → Seek → Info
+seeks k lo past (seek.Approach a) = record { kind = k; node = a .node; level = a .level; b = a .node; hp = 0; ho = 0; hn = 1; nx = 0; lo = a .level - lo; from = 1; strict = 0; early = 0; past = past }
+seeks k lo past (seek.Take a) = record { kind = k; node = a .node; level = a .level; b = a .node; hp = 0; ho = 0; hn = 1; nx = 0; lo = a .level - lo; from = 1; strict = 0; early = 0; past = past }
+seeks k lo past (seek.Confirm a) = record { kind = k; node = a .node; level = a .level; b = a .node; hp = 1; ho = 0; hn = 1; nx = 0; lo = a .level - lo; from = 1; strict = 0; early = 0; past = past }
+seeks k lo past (seek.Release a b) = record { kind = k; node = a .node; level = a .level; b = b; hp = 1; ho = 0; hn = 1; nx = 0; lo = a .level - lo; from = 1; strict = 0; early = 0; past = past }
+
+abbrev pub inserts : ℕ → Insert → Info
+inserts h (ins.Search a) = record { kind = 1; node = a .node; level = a .level; b = a .node; hp = 0; ho = 0; hn = 1; nx = 0; lo = 0; from = a .level + 1; strict = 0; early = 0; past = 0 }
+inserts h (ins.Seek k) = seeks 1 1 0 k
+inserts h (ins.Copy a) = record { kind = 1; node = a .node; level = a .level; b = a .node; hp = 1; ho = 0; hn = 1; nx = 1; lo = a .level - 1; from = 1; strict = 0; early = 0; past = 0 }
+inserts h (ins.Link a) = record { kind = 1; node = a .node; level = a .level; b = a .node; hp = 1; ho = 0; hn = 1; nx = 2; lo = a .level - 1; from = 1; strict = 0; early = 0; past = 0 }
+inserts h (ins.FreeLevel a) = record { kind = 1; node = a .node; level = a .level; b = a .node; hp = 1; ho = 0; hn = 1; nx = 0; lo = a .level; from = 1; strict = 0; early = 0; past = 0 }
+inserts h ins.FreeNode = record { kind = 1; node = 0; level = 1; b = 0; hp = 0; ho = 0; hn = 1; nx = 0; lo = h; from = 9; strict = 0; early = 0; past = 0 }
+inserts h ins.Stamp = record { kind = 1; node = 0; level = 1; b = 0; hp = 0; ho = 0; hn = 0; nx = 0; lo = h; from = 9; strict = 0; early = 0; past = 0 }
+
+abbrev pub removes : ℕ → Delete → Info
+removes h (del.Next a) = record { kind = 2; node = a .node; level = 1; b = a .node; hp = 0; ho = 0; hn = 0; nx = 0; lo = 0; from = 9; strict = 1; early = 0; past = 0 }
+removes h (del.Stamped a) = record { kind = 2; node = a .node; level = 1; b = a .node; hp = 0; ho = 0; hn = 0; nx = 0; lo = 0; from = 9; strict = 0; early = 0; past = 0 }
+removes h (del.Mark a) = record { kind = 2; node = a .node; level = 1; b = a .node; hp = 0; ho = 0; hn = 0; nx = 0; lo = 0; from = 9; strict = 0; early = 1; past = 0 }
+removes h (del.Removal (rem.Search a)) = record { kind = 3; node = a .node; level = a .level; b = a .node; hp = 0; ho = 0; hn = 0; nx = 0; lo = h; from = a .level + 1; strict = 0; early = 0; past = 0 }
+removes h (del.Removal rem.HoldNode) = record { kind = 3; node = 0; level = 1; b = 0; hp = 0; ho = 0; hn = 0; nx = 0; lo = h; from = 1; strict = 0; early = 0; past = 0 }
+removes h (del.Removal (rem.Seek k)) = seeks 3 0 1 k
+removes h (del.Removal (rem.HoldOwn a)) = record { kind = 3; node = a .node; level = a .level; b = a .node; hp = 1; ho = 0; hn = 1; nx = 3; lo = a .level - 0; from = 1; strict = 0; early = 0; past = 1 }
+removes h (del.Removal (rem.Unlink a)) = record { kind = 3; node = a .node; level = a .level; b = a .node; hp = 1; ho = 1; hn = 1; nx = 3; lo = a .level - 0; from = 1; strict = 0; early = 0; past = 1 }
+removes h (del.Removal (rem.Back a)) = record { kind = 3; node = a .node; level = a .level; b = a .node; hp = 1; ho = 1; hn = 1; nx = 4; lo = a .level - 1; from = 1; strict = 0; early = 0; past = 1 }
+removes h (del.Removal (rem.FreeOwn a)) = record { kind = 3; node = a .node; level = a .level; b = a .node; hp = 1; ho = 1; hn = 1; nx = 0; lo = a .level - 1; from = 1; strict = 0; early = 0; past = 1 }
+removes h (del.Removal (rem.FreeLevel a)) = record { kind = 3; node = a .node; level = a .level; b = a .node; hp = 1; ho = 0; hn = 1; nx = 0; lo = a .level - 1; from = 1; strict = 0; early = 0; past = 1 }
+removes h (del.Removal rem.FreeNode) = record { kind = 3; node = 0; level = 1; b = 0; hp = 0; ho = 0; hn = 1; nx = 0; lo = 0; from = 9; strict = 0; early = 0; past = 1 }
+removes h (del.Removal rem.Retire) = record { kind = 3; node = 0; level = 1; b = 0; hp = 0; ho = 0; hn = 0; nx = 0; lo = 0; from = 9; strict = 0; early = 0; past = 1 }
+
+abbrev pub info : ℕ → Stage → Info
+info h stage.Idle = record { kind = 0; node = 0; level = 1; b = 0; hp = 0; ho = 0; hn = 0; nx = 0; lo = 0; from = 9; strict = 0; early = 0; past = 0 }
+info h (stage.Insert i) = inserts h i
+info h (stage.Delete d) = removes h d
+
+-- what processor q claims in v
+abbrev pub claim : View → ℕ → Info
+claim v q = info (v .ht (v .pr q .own)) (v .pr q .stage)

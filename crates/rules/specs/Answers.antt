@@ -1,0 +1,28 @@
+-- Answers. "An accepted begin returns its time. A step reports moved, waits, EMPTY, or, each with due, item and ticket, marked, inserted or
+-- handed out." "A refusal returns its number."
+use Prim.Native.Nat.{ℕ}
+use mathlib.Core.List.{List, [], _∷_}
+use Rattle.record.specs.declared.queues.Queue.{Queue}
+use Rattle.record.specs.Report.{Report, report}
+use Rattle.rules.specs.declared.answers.Entry.{Entry}
+use Rattle.rules.specs.declared.answers.Answer.{Answer}
+use Rattle.rules.specs.declared.answers.Answer.the-variants as ans
+use Rattle.rules.specs.declared.answers.Outcome.{Outcome}
+
+abbrev pub entryValues : Entry → List ℕ
+entryValues e = e .due ∷ (e .item ∷ (e .ticket ∷ []))
+
+-- an answer in document 01's numbers: of a refusal its number; of the rest 0 for a begin, and 1 to 6 in the order of the sentence above
+abbrev pub reported : Answer → Report
+reported (ans.Refused n) = report n []
+reported (ans.Began t) = report 0 (t ∷ [])
+reported ans.Moved = report 1 []
+reported ans.Waits = report 2 []
+reported ans.Empty = report 3 []
+reported (ans.Marked e) = report 4 (entryValues e)
+reported (ans.Inserted e) = report 5 (entryValues e)
+reported (ans.HandedOut e) = report 6 (entryValues e)
+
+-- "A refusal returns its number and leaves everything lent untouched; the clock doesn't tick."
+abbrev pub refused : Queue → ℕ → Outcome
+refused q n = record { queue = q; answer = ans.Refused n }

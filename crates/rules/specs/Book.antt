@@ -1,0 +1,203 @@
+-- The book of document 01: which answers to a list of calls are right. It is fed the calls and what they give back, and never sees the record.
+use Prim.Native.Nat.{ℕ, zero, suc, _+_}
+use mathlib.Core.Bool.{Bool, true, false, cond, _&&_, _||_, not}
+use mathlib.Core.List.{List, [], _∷_}
+use lib.Dec.{ltb, eqb}
+use Rattle.laws.specs.Update.{upd}
+use Rattle.record.specs.declared.queues.Queue.{Queue}
+use Rattle.record.specs.Keys.{entryKey, keyBefore}
+use Rattle.rules.specs.declared.answers.Answer.{Answer}
+use Rattle.rules.specs.declared.answers.Answer.the-variants as ans
+use Rattle.rules.specs.declared.answers.Entry.{Entry}
+use Rattle.rules.specs.Runs.{Call, insert, deleteMin, steps, backlog, Reply, answered, counted, after, reply}
+
+-- later than every clock: the time of an answer that has not come
+abbrev pub never : ℕ
+never = 1000000
+
+-- an entry of the book
+pub record Line : Type 0 where
+  pub written : Bool
+  pub due : ℕ
+  pub item : ℕ
+  pub answeredAt : ℕ
+  pub marked : Bool
+  pub handedOut : Bool
+
+-- what a processor has open: nothing, the Insert of the entry with this ticket, a Delete_Min begun at this time with nothing marked, or a Delete_Min
+-- that marked the entry with this ticket
+pub data Open : Type 0 where
+  nothing : Open
+  inserting : ℕ → Open
+  deleting : ℕ → Open
+  delivering : ℕ → Open
+
+-- the entries stand under their tickets
+pub record Book : Type 0 where
+  pub count : ℕ
+  pub entry : ℕ → Line
+  pub opened : ℕ → Open
+
+abbrev pub unwritten : Line
+unwritten = record { written = false; due = 0; item = 0; answeredAt = never; marked = false; handedOut = false }
+
+-- "At first the count is 0, no entry is written, and no processor has anything open."
+abbrev pub emptyBook : Book
+emptyBook = record { count = 0; entry = λ t. unwritten; opened = λ p. nothing }
+
+-- the book after an answer, or that the answer is not right
+pub data Verdict : Type 0 where
+  agrees : Book → Verdict
+  differs : Verdict
+
+abbrev pub provided : Bool → Book → Verdict
+provided right b = cond right (agrees b) differs
+
+-- "Any other call adds 1 to the count, and the new count is its time."
+abbrev pub now : Book → ℕ
+now b = b .count + 1
+
+-- the count goes up, and the entries and what processor p has open become these
+abbrev pub turned : Book → (ℕ → Line) → ℕ → Open → Book
+turned b entry p o = record { count = now b; entry = entry; opened = upd (b .opened) p o }
+
+-- "The pick of an open Delete_Min: of the entries answered at a time before its begin and not marked, the earliest by due, then ticket."
+abbrev pub candidate : Book → ℕ → ℕ → Bool
+candidate b begin t = b .entry t .written && (ltb (b .entry t .answeredAt) begin && not (b .entry t .marked))
+
+abbrev pub earlier : Book → ℕ → ℕ → Bool
+earlier b t u = keyBefore (entryKey (b .entry t .due) t) (entryKey (b .entry u .due) u)
+
+-- of the candidate t and the best so far, 0 where there is none, the earlier
+abbrev pub better : Book → ℕ → ℕ → ℕ → ℕ
+better b begin t best = cond (candidate b begin t && (eqb best 0 || earlier b t best)) t best
+
+-- the pick among the tickets 1 to n, or 0
+unfoldable pub pickTo : Book → ℕ → ℕ → ℕ
+pickTo b begin zero = 0
+pickTo b begin (suc n) = better b begin (suc n) (pickTo b begin n)
+
+abbrev pub pick : Book → ℕ → ℕ
+pick b begin = pickTo b begin (b .count)
+
+-- the answer gives the due, item and ticket of the entry t
+abbrev pub gives : Book → Entry → ℕ → Bool
+gives b e t = eqb (e .due) (b .entry t .due) && (eqb (e .item) (b .entry t .item) && eqb (e .ticket) t)
+
+abbrev pub withAnswer : Line → ℕ → Line
+withAnswer l t = record { written = l .written; due = l .due; item = l .item; answeredAt = t; marked = l .marked; handedOut = l .handedOut }
+
+abbrev pub withMark : Line → Line
+withMark l = record { written = l .written; due = l .due; item = l .item; answeredAt = l .answeredAt; marked = true; handedOut = l .handedOut }
+
+abbrev pub withHandOut : Line → Line
+withHandOut l = record { written = l .written; due = l .due; item = l .item; answeredAt = l .answeredAt; marked = l .marked; handedOut = true }
+
+-- "A begin is accepted only where its processor has nothing open." "Begin of an Insert returns its time. An entry is written with due, item and this
+-- time as its ticket, unanswered and unmarked. Its Insert is open."
+abbrev pub insertBegins : Book → ℕ → ℕ → ℕ → ℕ → Open → Verdict
+insertBegins b p due item t nothing =
+    provided (eqb t (now b))
+    (turned b (upd (b .entry) t (record { written = true; due = due; item = item; answeredAt = never; marked = false; handedOut = false })) p (inserting t))
+insertBegins b p due item t (inserting x) = differs
+insertBegins b p due item t (deleting x) = differs
+insertBegins b p due item t (delivering x) = differs
+
+-- "Begin of a Delete_Min returns its time. The Delete_Min is open, with nothing marked."
+abbrev pub deleteBegins : Book → ℕ → ℕ → Open → Verdict
+deleteBegins b p t nothing = provided (eqb t (now b)) (turned b (b .entry) p (deleting t))
+deleteBegins b p t (inserting x) = differs
+deleteBegins b p t (deleting x) = differs
+deleteBegins b p t (delivering x) = differs
+
+-- "Inserted: an Insert is open, and the answer gives its entry's due, item and ticket. The entry is answered at this time; nothing is open."
+abbrev pub inserted : Book → ℕ → Entry → Open → Verdict
+inserted b p e nothing = differs
+inserted b p e (inserting t) = provided (gives b e t) (turned b (upd (b .entry) t (withAnswer (b .entry t) (now b))) p nothing)
+inserted b p e (deleting x) = differs
+inserted b p e (delivering x) = differs
+
+-- "Marked: a Delete_Min is open with nothing marked, it has a pick, and the answer gives the pick's due, item and ticket. That entry is marked, by this
+-- Delete_Min."
+abbrev pub marks : Book → ℕ → Entry → Open → Verdict
+marks b p e nothing = differs
+marks b p e (inserting x) = differs
+marks b p e (deleting begin) =
+    provided (ltb 0 (pick b begin) && gives b e (pick b begin))
+    (turned b (upd (b .entry) (pick b begin) (withMark (b .entry (pick b begin)))) p (delivering (pick b begin)))
+marks b p e (delivering x) = differs
+
+-- "EMPTY: a Delete_Min is open with nothing marked, and it has no pick. Nothing is open."
+abbrev pub empties : Book → ℕ → Open → Verdict
+empties b p nothing = differs
+empties b p (inserting x) = differs
+empties b p (deleting begin) = provided (eqb (pick b begin) 0) (turned b (b .entry) p nothing)
+empties b p (delivering x) = differs
+
+-- "Handed out: a Delete_Min is open that marked an entry, and the answer gives that entry's due, item and ticket. It had not been handed out before.
+-- Nothing is open."
+abbrev pub handsOut : Book → ℕ → Entry → Open → Verdict
+handsOut b p e nothing = differs
+handsOut b p e (inserting x) = differs
+handsOut b p e (deleting x) = differs
+handsOut b p e (delivering t) =
+    provided (gives b e t && not (b .entry t .handedOut)) (turned b (upd (b .entry) t (withHandOut (b .entry t))) p nothing)
+
+-- "a step only where it has" something open. "Moved or waits: nothing more changes."
+abbrev pub moves : Book → Open → Verdict
+moves b nothing = differs
+moves b (inserting x) = agrees (record { count = now b; entry = b .entry; opened = b .opened })
+moves b (deleting x) = agrees (record { count = now b; entry = b .entry; opened = b .opened })
+moves b (delivering x) = agrees (record { count = now b; entry = b .entry; opened = b .opened })
+
+-- "A refused call and a reading call change nothing." An answer of another kind of call differs.
+abbrev pub feedInsert : Book → ℕ → ℕ → ℕ → Answer → Verdict
+feedInsert b p due item (ans.Refused n) = agrees b
+feedInsert b p due item (ans.Began t) = insertBegins b p due item t (b .opened p)
+feedInsert b p due item ans.Moved = differs
+feedInsert b p due item ans.Waits = differs
+feedInsert b p due item ans.Empty = differs
+feedInsert b p due item (ans.Marked e) = differs
+feedInsert b p due item (ans.Inserted e) = differs
+feedInsert b p due item (ans.HandedOut e) = differs
+
+abbrev pub feedDelete : Book → ℕ → Answer → Verdict
+feedDelete b p (ans.Refused n) = agrees b
+feedDelete b p (ans.Began t) = deleteBegins b p t (b .opened p)
+feedDelete b p ans.Moved = differs
+feedDelete b p ans.Waits = differs
+feedDelete b p ans.Empty = differs
+feedDelete b p (ans.Marked e) = differs
+feedDelete b p (ans.Inserted e) = differs
+feedDelete b p (ans.HandedOut e) = differs
+
+abbrev pub feedStep : Book → ℕ → Answer → Verdict
+feedStep b p (ans.Refused n) = agrees b
+feedStep b p (ans.Began t) = differs
+feedStep b p ans.Moved = moves b (b .opened p)
+feedStep b p ans.Waits = moves b (b .opened p)
+feedStep b p ans.Empty = empties b p (b .opened p)
+feedStep b p (ans.Marked e) = marks b p e (b .opened p)
+feedStep b p (ans.Inserted e) = inserted b p e (b .opened p)
+feedStep b p (ans.HandedOut e) = handsOut b p e (b .opened p)
+
+-- a call and what it gave back
+abbrev pub feed : Book → Call → Reply → Verdict
+feed b (insert p due item height) (answered a) = feedInsert b p due item a
+feed b (insert p due item height) (counted k) = differs
+feed b (deleteMin p) (answered a) = feedDelete b p a
+feed b (deleteMin p) (counted k) = differs
+feed b (steps p) (answered a) = feedStep b p a
+feed b (steps p) (counted k) = differs
+feed b backlog (answered a) = differs
+feed b backlog (counted k) = agrees b
+
+-- what follows an answer that agrees
+abbrev pub thenFeed : Verdict → (Book → Verdict) → Verdict
+thenFeed (agrees b) f = f b
+thenFeed differs f = differs
+
+-- the book fed with a list of calls on the record q and with what they give back, one after the other
+unfoldable pub judged : Book → Queue → List Call → Verdict
+judged b q [] = agrees b
+judged b q (c ∷ cs) = thenFeed (feed b c (reply q c)) (λ b′. judged b′ (after q c) cs)

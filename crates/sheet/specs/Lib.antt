@@ -1,0 +1,6 @@
+pub mod Letters
+pub mod Columns
+pub mod Lines
+pub mod Events
+pub mod Sheets
+pub mod Program

@@ -1,0 +1,79 @@
+-- A line of a sheet. "Each line of the sheet is thirty bytes: a letter, four numbers right-justified in 7 columns, a line feed."
+use Prim.Native.Nat.{ℕ, zero, suc, _+_, _-_, _*_, _/_}
+use mathlib.Core.Bool.{Bool, true, false, cond, _&&_, not}
+use mathlib.Core.List.{List, [], _∷_}
+use lib.Dec.{leb, eqb}
+use lib.ListN.{length, getD, drop}
+use Rattle.sheet.specs.declared.lines.Line.{Line}
+use Rattle.sheet.specs.declared.lines.Reading.{Reading}
+use Rattle.sheet.specs.declared.lines.Reading.the-variants as reading
+use Rattle.sheet.specs.declared.lines.Rule.{Rule}
+use Rattle.sheet.specs.Columns.{width, field, inForm, valueOf}
+use Rattle.sheet.specs.Letters.{lineFeed, letterQ, letterRules}
+
+abbrev pub lineLength : ℕ
+lineLength = 30
+
+-- a rule that no line keeps: what the table has past its end
+abbrev pub noRule : Rule
+noRule = record { letter = 0; used = []; low = []; high = [] }
+
+-- the place of a letter in the table; past its end if the letter is none of the sheet's
+abbrev pub ruleIndex : List Rule → ℕ → ℕ
+ruleIndex [] c = 0
+ruleIndex (r ∷ rs) c = cond (eqb (r .letter) c) 0 (suc (ruleIndex rs c))
+
+-- field k, from 0, of the line that s starts with
+abbrev pub fieldAt : List ℕ → ℕ → ℕ
+fieldAt s k = valueOf (field (drop (1 + width * k) s))
+
+-- its columns are in form and its number lies between the letter's bounds
+abbrev pub fieldKeeps : Rule → List ℕ → ℕ → Bool
+fieldKeeps r s k =
+    inForm (field (drop (1 + width * k) s))
+    && (leb (getD (r .low) k 0) (fieldAt s k) && leb (fieldAt s k) (getD (r .high) k 0))
+
+abbrev pub fieldsKeep : Rule → List ℕ → Bool
+fieldsKeep r s = fieldKeeps r s 0 && fieldKeeps r s 1 && fieldKeeps r s 2 && fieldKeeps r s 3
+
+abbrev pub keepsForm : List ℕ → ℕ → Bool
+keepsForm s index =
+    leb lineLength (length s)
+    && leb (suc index) (length letterRules)
+    && fieldsKeep (getD letterRules index noRule) s
+    && eqb (getD s (lineLength - 1) 0) lineFeed
+
+abbrev pub lineInForm : List ℕ → Bool
+lineInForm s = keepsForm s (ruleIndex letterRules (getD s 0 0))
+
+-- the line that s starts with
+abbrev pub lineOf : List ℕ → Line
+lineOf s = record { letter = getD s 0 0; first = fieldAt s 0; second = fieldAt s 1; third = fieldAt s 2; fourth = fieldAt s 3 }
+
+abbrev pub readLine : List ℕ → Reading
+readLine s = cond (lineInForm s) (reading.Form (lineOf s)) reading.Bad
+
+-- the part of the sheet that starts at its line k, from 1
+abbrev pub partAt : List ℕ → ℕ → List ℕ
+partAt s k = drop (lineLength * (k - 1)) s
+
+-- how many lines there are, a short last one included
+abbrev pub lineCount : List ℕ → ℕ
+lineCount s = (length s + (lineLength - 1)) / lineLength
+
+-- of the lines 1 to n the first for which the test fails, or 0
+abbrev pub firstFailing : (ℕ → Bool) → ℕ → ℕ
+firstFailing keeps zero = 0
+firstFailing keeps (suc n) =
+    cond (leb 1 (firstFailing keeps n)) (firstFailing keeps n) (cond (keeps (suc n)) 0 (suc n))
+
+-- 41: "a line not in form, or a short last one; first such line, from 1"
+abbrev pub firstOutOfForm : List ℕ → ℕ
+firstOutOfForm s = firstFailing (λ k. lineInForm (partAt s k)) (lineCount s)
+
+-- 42: "first line not Q, or a later Q; that line (empty sheet: 1)"
+abbrev pub rightLetter : List ℕ → ℕ → Bool
+rightLetter s k = cond (eqb k 1) (eqb (lineOf (partAt s k) .letter) letterQ) (not (eqb (lineOf (partAt s k) .letter) letterQ))
+
+abbrev pub firstMisplaced : List ℕ → ℕ
+firstMisplaced s = cond (eqb (lineCount s) 0) 1 (firstFailing (rightLetter s) (lineCount s))

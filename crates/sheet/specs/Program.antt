@@ -1,0 +1,25 @@
+-- What the program prints. "The program reads the first 64 KiB of standard input and lends 64 KiB for the history. It prints the history, or the refusal
+-- number, a space, the line number and a line feed."
+use Prim.Native.Nat.{ℕ}
+use mathlib.Core.List.{List, [], _∷_, _++_}
+use lib.ListN.{take}
+use Rattle.sheet.specs.declared.events.Ran.{Ran}
+use Rattle.sheet.specs.declared.events.Ran.the-variants as ran
+use Rattle.sheet.specs.Columns.{decimal}
+use Rattle.sheet.specs.Letters.{space, lineFeed}
+use Rattle.sheet.specs.Lines.{lineOf, partAt}
+use Rattle.sheet.specs.Sheets.{ranSheet, historyOf}
+
+abbrev pub lent : ℕ
+lent = 65536
+
+abbrev pub printedOf : List ℕ → Ran → List ℕ
+printedOf h (ran.Refused n k) = decimal n ++ (space ∷ (decimal k ++ (lineFeed ∷ [])))
+printedOf h (ran.Length n) = h
+
+abbrev pub printed : List ℕ → List ℕ
+printed s = printedOf (historyOf s (lineOf (partAt s 1))) (ranSheet s lent)
+
+-- the whole of the input may be longer
+abbrev pub programPrints : List ℕ → List ℕ
+programPrints input = printed (take lent input)

@@ -1,0 +1,63 @@
+-- The run of a sheet: refusals 41, 42, 11 to 13 and 43 in their order, the history, its length, and the area that is lent for it.
+use Prim.Native.Nat.{ℕ, zero, suc, _+_, _-_, _*_}
+use mathlib.Core.Bool.{Bool, true, false, cond}
+use mathlib.Core.List.{List, [], _∷_, _++_}
+use lib.Dec.{ltb, eqb}
+use lib.ListN.{length, drop}
+use Rattle.record.specs.declared.queues.Queue.{Queue}
+use Rattle.record.specs.Making.{made}
+use Rattle.rules.specs.Calls.{beginInsert, beginDelete}
+use Rattle.sheet.specs.declared.events.Event.{Event}
+use Rattle.sheet.specs.declared.events.Ran.{Ran}
+use Rattle.sheet.specs.declared.events.Ran.the-variants as ran
+use Rattle.sheet.specs.declared.lines.Line.{Line}
+use Rattle.sheet.specs.Events.{Running, running, insertLine, deleteLine, stepsLine, historyBytes}
+use Rattle.sheet.specs.Letters.{letterI, letterD}
+use Rattle.sheet.specs.Lines.{lineOf, partAt, lineCount, firstOutOfForm, firstMisplaced}
+
+-- a line after the Q line: I, D, or S
+abbrev pub runLine : Running → Line → Running
+runLine r l =
+    cond (eqb (l .letter) letterI) (insertLine r l (beginInsert (r .queue) (l .first) (l .second) (l .third) (l .fourth)))
+    (cond (eqb (l .letter) letterD) (deleteLine r l (beginDelete (r .queue) (l .first)))
+    (stepsLine r (l .first) (l .second)))
+
+-- the lines 2 to k + 1
+unfoldable pub runLines : List ℕ → Running → ℕ → Running
+runLines s r zero = r
+runLines s r (suc k) = runLine (runLines s r k) (lineOf (partAt s (k + 2)))
+
+-- the history of a sheet whose lines are in form and in place, on the queue that its Q line makes
+abbrev pub history : List ℕ → Queue → List ℕ
+history s q = historyBytes (runLines s (running q []) (lineCount s - 1) .events)
+
+-- 43: "history longer than its area; line 0"
+abbrev pub fitted : List ℕ → ℕ → Ran
+fitted h room = cond (ltb room (length h)) (ran.Refused 43 0) (ran.Length (length h))
+
+-- the Q line makes the queue, or is refused
+abbrev pub runMade : List ℕ → ℕ → ℕ → Queue → Ran
+runMade s room refusal q = cond (eqb refusal 0) (fitted (history s q) room) (ran.Refused refusal 1)
+
+abbrev pub runQueue : List ℕ → ℕ → Line → Ran
+runQueue s room l =
+    runMade s room (made (l .first) (l .second) (l .third) .refusal) (made (l .first) (l .second) (l .third) .queue)
+
+-- the outcome of a sheet, with room for so many bytes of history
+abbrev pub ranSheet : List ℕ → ℕ → Ran
+ranSheet s room =
+    cond (ltb 0 (firstOutOfForm s)) (ran.Refused 41 (firstOutOfForm s))
+    (cond (ltb 0 (firstMisplaced s)) (ran.Refused 42 (firstMisplaced s))
+    (runQueue s room (lineOf (partAt s 1))))
+
+-- "A refusal returns its number and leaves everything lent untouched." "The rest of the area is untouched."
+abbrev pub written : List ℕ → List ℕ → Ran → List ℕ
+written h area (ran.Refused n k) = area
+written h area (ran.Length n) = h ++ drop n area
+
+abbrev pub historyOf : List ℕ → Line → List ℕ
+historyOf s l = history s (made (l .first) (l .second) (l .third) .queue)
+
+-- the area afterwards
+abbrev pub areaAfter : List ℕ → List ℕ → List ℕ
+areaAfter s area = written (historyOf s (lineOf (partAt s 1))) area (ranSheet s (length area))
