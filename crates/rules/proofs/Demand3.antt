@@ -1,13 +1,17 @@
--- Demand 3: the answers to every list of calls on a queue that is just made agree with the book. Assumes nothing.
-use mathlib.Core.Path.{_≡_, refl, sym, ap, subst, _∙_}
+-- Demand 3: the answers to every list of calls on a queue that is just made agree with the book. Meaning.antt proves what that means, LockFacts.antt
+-- what is said of the locks. Assumes nothing.
+use mathlib.Core.Path.{_≡_, refl}
 use mathlib.Core.List.{List, [], _∷_}
-use Prim.Native.Nat.{ℕ, _≤_, _<_}
+use Prim.Native.Nat.{ℕ}
 use Rattle.record.specs.declared.queues.Queue.{Queue}
 use Rattle.record.specs.Queues.{freshQueue}
-use Rattle.rules.specs.Book.{Book, emptyBook, Verdict, agrees, differs, feed, thenFeed, judged}
+use Rattle.rules.specs.Book.{Book, emptyBook, agrees, feed, judged}
+use Rattle.rules.specs.Demand3.{InRange, Demand3, ReachedIsValid, OutsideIsUntouched}
 use Rattle.rules.specs.Runs.{Call, insert, deleteMin, steps, backlog, after, reply, afterAll}
-use Rattle.rules.proofs.Sound.{Sound, Agrees, insert-agrees, delete-agrees, step-agrees}
+use Rattle.rules.proofs.Sound.{Sound, insert-agrees, delete-agrees, step-agrees}
 use Rattle.rules.proofs.Fresh.{fresh-sound}
+use Rattle.rules.proofs.Untouched.{untouched-all}
+use Rattle.rules.proofs.Valid.{reached-valid}
 
 -- a call: the book agrees, and what is kept is kept
 pub record Turned (q : Queue) (b : Book) (c : Call) : Type 0 where
@@ -35,7 +39,15 @@ all-judged (c ∷ cs) q b S =
     let J = all-judged cs (after q c) (T .book) (T .sound) in
     record { book = J .book; judges = rw (T .fed) (J .judges); sound = J .sound }
 
-pub demand-three : (P N L : ℕ) → P ≤ 16 → N ≤ 200 → 1 ≤ L → L ≤ 8 → (cs : List Call) → (b : Book) × (judged emptyBook (freshQueue P N L) cs ≡ agrees b)
-demand-three P N L P≤ N≤ L≥ L≤ cs =
-    let J = all-judged cs (freshQueue P N L) emptyBook (fresh-sound P N L P≤ N≤ L≥ L≤) in
-    (J .book, J .judges)
+-- a list of calls on a queue that is just made
+pub reached : (P N L : ℕ) → InRange P N L → (cs : List Call) → Judged (freshQueue P N L) emptyBook cs
+reached P N L R cs = all-judged cs (freshQueue P N L) emptyBook (fresh-sound P N L (R .processors-high) (R .entries-high) (R .levels-low) (R .levels-high))
+
+pub demand-three : Demand3
+demand-three P N L R cs = let J = reached P N L R cs in (J .book, J .judges)
+
+pub reached-is-valid : ReachedIsValid
+reached-is-valid P N L R cs = reached-valid P N L (R .processors-low) (R .processors-high) (R .entries-low) (R .entries-high) (R .levels-low) (R .levels-high) cs
+
+pub outside-is-untouched : OutsideIsUntouched
+outside-is-untouched q cs = untouched-all q cs

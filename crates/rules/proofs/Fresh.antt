@@ -23,7 +23,8 @@ use Rattle.rules.proofs.Begin.{rank-entry}
 use Rattle.rules.specs.Book.{Book, emptyBook}
 use Rattle.rules.proofs.Rel.{Rel}
 use Rattle.rules.proofs.Sound.{Sound}
-use Rattle.rules.proofs.Held.{Lock, level, node, Held}
+use Rattle.rules.proofs.Held.{Held}
+use Rattle.rules.specs.Locks.{Lock, level, node}
 use Rattle.laws.proofs.Booleans.{cond-elim}
 use mathlib.Core.List.{List}
 use Rattle.rules.proofs.Concrete.{viewOf, levelOf, level-pos, useNumber, stampNumber}

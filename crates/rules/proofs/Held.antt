@@ -27,6 +27,7 @@ use Rattle.rules.specs.declared.decisions.Searched.the-variants as srch
 use Rattle.rules.specs.declared.decisions.Sought.{Sought}
 use Rattle.rules.specs.declared.decisions.Sought.the-variants as sght
 use Rattle.record.specs.Stages.{place}
+use Rattle.rules.specs.Locks.{Lock, level, node}
 use Rattle.rules.specs.Decide.{insertSearched, insertSought, removalSearched, removalSought, seekStep, searchStep}
 use Rattle.laws.specs.Update.{upd}
 use Rattle.laws.proofs.Updating.{upd-same, upd-other}
@@ -39,11 +40,6 @@ use Rattle.rules.proofs.Machine.{effected, prAfter, carried, decision, 
 use Rattle.rules.proofs.Facts.{info-any}
 use Rattle.rules.proofs.Inv.{NodeHeld}
 use Rattle.rules.proofs.Rel.{pr-same}
-
--- a lock of a node: of a level, or the node's own
-pub data Lock : Type 0 where
-  level : ℕ → ℕ → Lock
-  node : ℕ → Lock
 
 abbrev pub holder : View → Lock → ℕ
 holder v (level n i) = v .lk n i

@@ -31,9 +31,12 @@ pub mod Refine
 pub mod Choose
 pub mod Sound
 pub mod Fresh
-pub mod Demand3
 pub mod Slots
 pub mod ValidFacts
 pub mod ValidDecisions
 pub mod Untouched
 pub mod Valid
+pub mod Demand3
+pub mod BookLaws
+pub mod Meaning
+pub mod LockFacts

@@ -14,8 +14,8 @@ use Rattle.record.specs.declared.queues.Queue.{Queue}
 use Rattle.record.specs.declared.queues.Processor.{Processor}
 use Rattle.record.specs.declared.stages.Stage.{Stage}
 use Rattle.record.specs.declared.stages.Stage.the-variants as stage
-use Rattle.record.specs.Check.{valid}
-use Rattle.record.specs.Making.{outside}
+use Rattle.checks.specs.Check.{valid}
+use Rattle.checks.specs.Making.{outside}
 use Rattle.record.specs.Queues.{processorAt, freshProcessor}
 use Rattle.record.specs.Stages.{isIdle}
 use Rattle.rules.specs.declared.answers.Answer.{Answer}
@@ -43,7 +43,8 @@ use Rattle.rules.proofs.Booked.{booked, rel-open}
 use Rattle.rules.proofs.Concrete.{viewOf}
 use Rattle.rules.proofs.Refine.{Sized, Reach, applied-view, sized-applied, reaches, decision-same}
 use Rattle.rules.proofs.Lead.{sure}
-use Rattle.rules.proofs.Held.{Lock, Holds, by-place, by-own, by-node, Held, Takes, Passes, held-carried, node-held, passes}
+use Rattle.rules.proofs.Held.{Holds, by-place, by-own, by-node, Held, Takes, Passes, held-carried, node-held, passes}
+use Rattle.rules.specs.Locks.{Lock}
 use Rattle.rules.proofs.Choose.{Free, chosen-free}
 
 pub record Sound (q : Queue) (b : Book) : Type 0 where

@@ -6,7 +6,7 @@ use mathlib.Core.List.{List, [], _∷_}
 use Prim.Native.Nat.{ℕ, _+_, _-_, _≤_, _<_}
 use native.Mathlib.Omega.{arith}
 use lib.ListN.{getD}
-use Rattle.record.specs.declared.check.Sizes.{Sizes}
+use Rattle.checks.specs.declared.check.Sizes.{Sizes}
 use Rattle.record.specs.declared.nodes.Node.{Node}
 use Rattle.record.specs.declared.nodes.Stamp.{Stamp}
 use Rattle.record.specs.declared.nodes.Stamp.the-variants as stamp
@@ -14,7 +14,7 @@ use Rattle.record.specs.declared.queues.Processor.{Processor}
 use Rattle.record.specs.declared.queues.Queue.{Queue}
 use Rattle.record.specs.declared.stages.Carried.{Carried}
 use Rattle.record.specs.declared.stages.Place.{Place}
-use Rattle.record.specs.Check.{sizesOf, valid}
+use Rattle.checks.specs.Check.{sizesOf, valid}
 use Rattle.record.specs.Limits.{maxNumber}
 use Rattle.record.specs.Nodes.{freshNode, withForward, withLock, withHolder, withMark, withStamp, retiredAt, filled}
 use Rattle.record.specs.Queues.{nodeAt, processorAt, freshProcessor, freshQueue}

@@ -5,7 +5,7 @@ use Prim.Native.Nat.{ℕ, zero, suc, _+_, _-_, _≤_, _<_}
 use native.Mathlib.Omega.{arith}
 use lib.Dec.{ltb, leb, eqb}
 use borrow.Author.Tests.{ltb-true, ltb-false, leb-false, eqb-false}
-use Rattle.record.specs.declared.check.Sizes.{Sizes}
+use Rattle.checks.specs.declared.check.Sizes.{Sizes}
 use Rattle.record.specs.declared.nodes.Stamp.{Stamp}
 use Rattle.record.specs.declared.nodes.Stamp.the-variants as stamp
 use Rattle.record.specs.declared.nodes.Use.{Use}
@@ -22,9 +22,9 @@ use Rattle.record.specs.declared.stages.Delete.{Delete}
 use Rattle.record.specs.declared.stages.Delete.the-variants as del
 use Rattle.record.specs.declared.stages.Stage.{Stage}
 use Rattle.record.specs.declared.stages.Stage.the-variants as stage
-use Rattle.record.specs.Check.{sizesOf, valid}
+use Rattle.checks.specs.Check.{sizesOf, valid}
 use Rattle.record.specs.Limits.{maxNumber}
-use Rattle.record.specs.Making.{outside}
+use Rattle.checks.specs.Making.{outside}
 use Rattle.record.specs.Nodes.{stampedBefore}
 use Rattle.record.specs.Queues.{nodeAt, processorAt}
 use Rattle.record.specs.Stages.{place, at, seekCarried, carried, isIdle}

@@ -9,7 +9,7 @@ use lib.ListN.{getD}
 use borrow.Author.Tests.{leb-true, le-leb}
 use Rattle.laws.specs.Every.{allAtMost}
 use Rattle.laws.proofs.Counting.{and-left, and-right, and-both, every-at, every-of}
-use Rattle.record.specs.declared.check.Sizes.{Sizes}
+use Rattle.checks.specs.declared.check.Sizes.{Sizes}
 use Rattle.record.specs.declared.nodes.Node.{Node}
 use Rattle.record.specs.declared.nodes.Stamp.{Stamp}
 use Rattle.record.specs.declared.nodes.Stamp.the-variants as stamp
@@ -19,7 +19,7 @@ use Rattle.record.specs.declared.queues.Processor.{Processor}
 use Rattle.record.specs.declared.queues.Queue.{Queue}
 use Rattle.record.specs.declared.stages.Carried.{Carried}
 use Rattle.record.specs.declared.stages.Place.{Place}
-use Rattle.record.specs.Check.{within, sizesOf, sizesValid, stampValid, useValid, nodeValid, placeValid, ownValid, markingValid, carriedValid, processorValid, valid}
+use Rattle.checks.specs.Check.{within, sizesOf, sizesValid, stampValid, useValid, nodeValid, placeValid, ownValid, markingValid, carriedValid, processorValid, valid}
 use Rattle.record.specs.Limits.{maxProcessors, maxEntries, maxLevels, maxNumber}
 use Rattle.record.specs.Queues.{nodeAt, processorAt}
 use Rattle.record.specs.Stages.{carried}

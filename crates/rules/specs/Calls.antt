@@ -17,10 +17,10 @@ use Rattle.record.specs.declared.stages.Stage.the-variants as stage
 use Rattle.record.specs.declared.nodes.Node.{Node}
 use Rattle.record.specs.declared.queues.Processor.{Processor}
 use Rattle.record.specs.declared.queues.Queue.{Queue}
-use Rattle.record.specs.Check.{valid}
+use Rattle.checks.specs.Check.{valid}
 use Rattle.record.specs.Keys.{keyBefore}
 use Rattle.record.specs.Limits.{maxNumber}
-use Rattle.record.specs.Making.{outside}
+use Rattle.checks.specs.Making.{outside}
 use Rattle.record.specs.Nodes.{forwardAt, lockAt, keyOf, stampedBefore}
 use Rattle.record.specs.Queues.{nodeAt, processorAt, savedAt}
 use Rattle.record.specs.Stages.{place, insertCarried, removalCarried, isIdle}

@@ -2,9 +2,9 @@
 -- record, as Backlog, may stand anywhere."
 use Prim.Native.Nat.{ℕ}
 use mathlib.Core.List.{List, [], _∷_}
-use Rattle.record.specs.declared.counting.Count.{Count}
+use Rattle.checks.specs.declared.counting.Count.{Count}
 use Rattle.record.specs.declared.queues.Queue.{Queue}
-use Rattle.record.specs.Backlog.{backlogOf}
+use Rattle.checks.specs.Backlog.{backlogOf}
 use Rattle.rules.specs.declared.answers.Answer.{Answer}
 use Rattle.rules.specs.declared.answers.Outcome.{Outcome}
 use Rattle.rules.specs.Calls.{beginInsert, beginDelete, step}

@@ -4,13 +4,13 @@ use Prim.Native.Nat.{ℕ}
 use mathlib.Core.Path.{_≡_}
 use mathlib.Core.List.{List, [], _∷_, _++_}
 use lib.ListN.{replicate}
-use Rattle.record.specs.declared.counting.Count.{Count}
-use Rattle.record.specs.declared.counting.Count.the-variants as count
+use Rattle.checks.specs.declared.counting.Count.{Count}
+use Rattle.checks.specs.declared.counting.Count.the-variants as count
 use Rattle.record.specs.declared.queues.Queue.{Queue}
-use Rattle.record.specs.declared.seconds.Minutes.{Minutes}
-use Rattle.record.specs.declared.seconds.Minutes.the-variants as minutes
-use Rattle.record.specs.Due.{minutesOf}
-use Rattle.record.specs.Making.{made}
+use Rattle.checks.specs.declared.seconds.Minutes.{Minutes}
+use Rattle.checks.specs.declared.seconds.Minutes.the-variants as minutes
+use Rattle.checks.specs.Due.{minutesOf}
+use Rattle.checks.specs.Making.{made}
 use Rattle.record.specs.Queues.{freshQueue, processorAt}
 use Rattle.rules.specs.Answers.{reported}
 use Rattle.rules.specs.Runs.{Call, insert, deleteMin, steps, backlog, Reply, answered, counted, after, reply, afterAll}

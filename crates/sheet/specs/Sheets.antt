@@ -5,7 +5,7 @@ use mathlib.Core.List.{List, [], _∷_, _++_}
 use lib.Dec.{ltb, eqb}
 use lib.ListN.{length, drop}
 use Rattle.record.specs.declared.queues.Queue.{Queue}
-use Rattle.record.specs.Making.{made}
+use Rattle.checks.specs.Making.{made}
 use Rattle.rules.specs.Calls.{beginInsert, beginDelete}
 use Rattle.sheet.specs.declared.events.Event.{Event}
 use Rattle.sheet.specs.declared.events.Ran.{Ran}

@@ -1,0 +1,100 @@
+-- Check 21: "P, N, L, clock, or a stored node, level, height, due, item or holder number out of its range (own nodes and the place at W3:
+-- 1 to N), a stamp on the head or tail, or a stored time after the clock; slots past P, N+1 and L are not looked at". The head and the tail are
+-- looked at like every node, and an idle processor like a busy one. An own node is one of 1 to N where the stage has one; where it has none, the
+-- number that is stored is that of any node.
+use Prim.Native.Nat.{ℕ, _+_}
+use mathlib.Core.Bool.{Bool, true, false, cond, _&&_, not}
+use lib.Dec.{leb, eqb}
+use Rattle.laws.specs.Every.{everyBelow, allAtMost}
+use Rattle.checks.specs.declared.check.Sizes.{Sizes}
+use Rattle.record.specs.declared.nodes.Node.{Node}
+use Rattle.record.specs.declared.nodes.Stamp.{Stamp}
+use Rattle.record.specs.declared.nodes.Stamp.the-variants as stamp
+use Rattle.record.specs.declared.nodes.Use.{Use}
+use Rattle.record.specs.declared.nodes.Use.the-variants as use′
+use Rattle.record.specs.declared.queues.Processor.{Processor}
+use Rattle.record.specs.declared.queues.Queue.{Queue}
+use Rattle.record.specs.declared.stages.Carried.{Carried}
+use Rattle.record.specs.declared.stages.Place.{Place}
+use Rattle.record.specs.Limits.{maxProcessors, maxEntries, maxLevels, maxNumber}
+use Rattle.record.specs.Queues.{nodeAt, processorAt}
+use Rattle.record.specs.Stages.{carried}
+
+-- x is one of 1 to top
+abbrev pub within : ℕ → ℕ → Bool
+within x top = leb 1 x && leb x top
+
+abbrev pub sizesOf : Queue → Sizes
+sizesOf q = record { processors = q .processors; entries = q .entries; levels = q .levels; clock = q .clock }
+
+abbrev pub sizesValid : Sizes → Bool
+sizesValid s =
+    within (s .processors) maxProcessors
+    && within (s .entries) maxEntries
+    && within (s .levels) maxLevels
+    && leb (s .clock) maxNumber
+
+-- forward numbers and holders, of the levels 1 to L
+abbrev pub linksValid : Sizes → Node → Bool
+linksValid s n =
+    allAtMost (n .forward) (s .levels) (s .entries + 1)
+    && allAtMost (n .locks) (s .levels) (s .processors)
+    && leb (n .lock) (s .processors)
+
+-- due, item, ticket and height
+abbrev pub entryValid : Sizes → Node → Bool
+entryValid s n =
+    leb (n .due) maxNumber
+    && leb (n .item) maxNumber
+    && leb (n .ticket) (s .clock)
+    && within (n .height) (s .levels)
+
+-- a stamp, on a node that is for an entry or is the head or the tail
+abbrev pub stampValid : Stamp → Bool → ℕ → Bool
+stampValid stamp.Unset entry clock = true
+stampValid (stamp.At t) entry clock = entry && leb t clock
+
+abbrev pub useValid : Use → ℕ → Bool
+useValid use′.Never clock = true
+useValid use′.InUse clock = true
+useValid (use′.Retired t) clock = leb t clock
+
+-- node x
+abbrev pub nodeValid : Sizes → ℕ → Node → Bool
+nodeValid s x n =
+    linksValid s n
+    && entryValid s n
+    && stampValid (n .stamp) (within x (s .entries)) (s .clock)
+    && useValid (n .state) (s .clock)
+
+abbrev pub placeValid : Sizes → Place → Bool
+placeValid s a = leb (a .node) (s .entries + 1) && within (a .level) (s .levels)
+
+-- the own node: one of 1 to N where the stage has one
+abbrev pub ownValid : Sizes → Bool → ℕ → Bool
+ownValid s has x = cond has (within x (s .entries)) (leb x (s .entries + 1))
+
+-- the place at W3: one of 1 to N
+abbrev pub markingValid : Sizes → Bool → ℕ → Bool
+markingValid s marking x = cond marking (within x (s .entries)) true
+
+-- what a stage carries
+abbrev pub carriedValid : Sizes → Carried → ℕ → Bool
+carriedValid s g own =
+    ownValid s (g .own) own
+    && placeValid s (g .place)
+    && leb (g .ahead) (s .entries + 1)
+    && markingValid s (g .marking) (g .place .node)
+
+abbrev pub processorValid : Sizes → Processor → Bool
+processorValid s c =
+    leb (c .begin) (s .clock)
+    && allAtMost (c .saved) (s .levels) (s .entries + 1)
+    && carriedValid s (carried (c .stage)) (c .own)
+
+-- nodes 0 to N + 1 and processors 0 to P - 1
+abbrev pub valid : Queue → Bool
+valid q =
+    sizesValid (sizesOf q)
+    && everyBelow (λ x. nodeValid (sizesOf q) x (nodeAt q x)) (q .entries + 2)
+    && everyBelow (λ p. processorValid (sizesOf q) (processorAt q p)) (q .processors)

@@ -1,0 +1,167 @@
+-- Laws of the book alone: what an answer that agrees says, and that a mark and a hand-out stay. Assumes nothing.
+use mathlib.Core.Path.{_≡_, sym, subst}
+use mathlib.Core.Bool.{Bool, true, _&&_, not}
+use mathlib.Core.List.{List, [], _∷_}
+use Prim.Native.Nat.{ℕ, _≤_}
+use native.Mathlib.Omega.{arith}
+use native.Mathlib.Decide.{ℕ-discrete}
+use lib.Dec.{ltb, eqb}
+use borrow.Author.Tests.{eqb-true}
+use Rattle.laws.specs.Update.{upd}
+use Rattle.laws.proofs.Booleans.{cond-cases}
+use Rattle.laws.proofs.Counting.{and-left, and-right}
+use Rattle.laws.proofs.Updating.{upd-same, upd-other}
+use Rattle.record.specs.declared.queues.Queue.{Queue}
+use Rattle.rules.specs.declared.answers.Answer.{Answer}
+use Rattle.rules.specs.declared.answers.Answer.the-variants as ans
+use Rattle.rules.specs.declared.answers.Entry.{Entry}
+use Rattle.rules.specs.Book.{Line, Open, nothing, inserting, deleting, delivering, Book, Verdict, agrees, differs, provided, now, turned, pick, gives, withAnswer, withMark, withHandOut, insertBegins, deleteBegins, inserted, marks, empties, handsOut, moves, feedInsert, feedDelete, feedStep, feed, thenFeed, judged}
+use Rattle.rules.specs.Runs.{Call, insert, deleteMin, steps, backlog, Reply, answered, counted, after, reply}
+
+-- what holds of the book of an answer that agrees
+abbrev pub Right : (Book → Type 0) → Verdict → Type 0
+Right P (agrees b) = P b
+Right P differs = Unit {0}
+
+pub right-book : (P : Book → Type 0) (v : Verdict) (b : Book) → v ≡ agrees b → Right P v → P b
+right-book P v b e h = subst (Right P) e h
+
+-- an answer that is right only where a test holds
+pub right-provided : (P : Book → Type 0) (t : Bool) (b : Book) → (t ≡ true → P b) → Right P (provided t b)
+right-provided P t b h = cond-cases (Right P) t (agrees b) differs h (λ _. tt)
+
+-- the answer gives the entry t
+pub record Given (b : Book) (e : Entry) (t : ℕ) : Type 0 where
+  pub due : e .due ≡ b .entry t .due
+  pub item : e .item ≡ b .entry t .item
+  pub ticket : e .ticket ≡ t
+
+pub given : (b : Book) (e : Entry) (t : ℕ) → gives b e t ≡ true → Given b e t
+given b e t h =
+    let x = eqb (e .due) (b .entry t .due) in
+    let y = eqb (e .item) (b .entry t .item) in
+    let z = eqb (e .ticket) t in
+    let r = and-right x (y && z) h in
+    record { due = eqb-true _ _ (and-left x (y && z) h); item = eqb-true _ _ (and-left y z r); ticket = eqb-true _ _ (and-right y z r) }
+
+-- a flag of a line that no change of the line takes back stays up: the entry's ticket is not a time to come
+pub record Stays (flag : Line → Bool) (t : ℕ) (b : Book) : Type 0 where
+  pub low : t ≤ b .count
+  pub up : flag (b .entry t) ≡ true
+
+module _ (flag : Line → Bool) (t : ℕ) (answer-keeps : (l : Line) (n : ℕ) → flag l ≡ true → flag (withAnswer l n) ≡ true)
+    (mark-keeps : (l : Line) → flag l ≡ true → flag (withMark l) ≡ true) (hand-out-keeps : (l : Line) → flag l ≡ true → flag (withHandOut l) ≡ true) where
+  -- a line that is written over another
+  written : (b : Book) (p : ℕ) (o : Open) (x : ℕ) (l : Line) → (x ≡ t → flag l ≡ true) → Stays flag t b → Stays flag t (turned b (upd (b .entry) x l) p o)
+  written b p o x l h S = record { low = omega arith; up = go (ℕ-discrete t x) }
+    where
+      go : Dec (t ≡ x) → flag (upd (b .entry) x l t) ≡ true
+      go (yes e) = subst (λ (n : ℕ). flag (upd (b .entry) x l n) ≡ true) (sym e) (rw (upd-same (b .entry) x l) (h (sym e)))
+      go (no d) = rw (upd-other (b .entry) x l t d) (S .up)
+
+  module _ (b : Book) (S : Stays flag t b) where
+    abbrev K : Verdict → Type 0
+    K = Right (Stays flag t)
+
+    -- the line under x is the one whose flag is up, if x is t
+    flagged : (x : ℕ) → x ≡ t → flag (b .entry x) ≡ true
+    flagged x e = rw e (S .up)
+
+    same : Stays flag t (record { count = now b; entry = b .entry; opened = b .opened })
+    same = record { low = omega arith; up = S .up }
+
+    opens-only : (p : ℕ) (o : Open) → Stays flag t (turned b (b .entry) p o)
+    opens-only p o = record { low = omega arith; up = S .up }
+
+    insert-begins : (p due item x : ℕ) (o : Open) → K (insertBegins b p due item x o)
+    insert-begins p due item x nothing = right-provided (Stays flag t) (eqb x (now b)) _ (λ e. written b p (inserting x) x _ (λ g. absurd (omega (arith, eqb-true x (now b) e))) S)
+    insert-begins p due item x (inserting y) = tt
+    insert-begins p due item x (deleting y) = tt
+    insert-begins p due item x (delivering y) = tt
+
+    delete-begins : (p x : ℕ) (o : Open) → K (deleteBegins b p x o)
+    delete-begins p x nothing = right-provided (Stays flag t) (eqb x (now b)) _ (λ e. opens-only p (deleting x))
+    delete-begins p x (inserting y) = tt
+    delete-begins p x (deleting y) = tt
+    delete-begins p x (delivering y) = tt
+
+    insert-answers : (p : ℕ) (e : Entry) (o : Open) → K (inserted b p e o)
+    insert-answers p e nothing = tt
+    insert-answers p e (inserting x) = right-provided (Stays flag t) (gives b e x) _ (λ _. written b p nothing x _ (λ g. answer-keeps (b .entry x) (now b) (flagged x g)) S)
+    insert-answers p e (deleting y) = tt
+    insert-answers p e (delivering y) = tt
+
+    delete-marks : (p : ℕ) (e : Entry) (o : Open) → K (marks b p e o)
+    delete-marks p e nothing = tt
+    delete-marks p e (inserting y) = tt
+    delete-marks p e (deleting T) = right-provided (Stays flag t) (ltb 0 (pick b T) && gives b e (pick b T)) _
+        (λ _. written b p (delivering (pick b T)) (pick b T) _ (λ g. mark-keeps (b .entry (pick b T)) (flagged (pick b T) g)) S)
+    delete-marks p e (delivering y) = tt
+
+    delete-empties : (p : ℕ) (o : Open) → K (empties b p o)
+    delete-empties p nothing = tt
+    delete-empties p (inserting y) = tt
+    delete-empties p (deleting T) = right-provided (Stays flag t) (eqb (pick b T) 0) _ (λ _. opens-only p nothing)
+    delete-empties p (delivering y) = tt
+
+    delete-hands-out : (p : ℕ) (e : Entry) (o : Open) → K (handsOut b p e o)
+    delete-hands-out p e nothing = tt
+    delete-hands-out p e (inserting y) = tt
+    delete-hands-out p e (deleting y) = tt
+    delete-hands-out p e (delivering x) = right-provided (Stays flag t) (gives b e x && not (b .entry x .handedOut)) _
+        (λ _. written b p nothing x _ (λ g. hand-out-keeps (b .entry x) (flagged x g)) S)
+
+    step-moves : (o : Open) → K (moves b o)
+    step-moves nothing = tt
+    step-moves (inserting y) = same
+    step-moves (deleting y) = same
+    step-moves (delivering y) = same
+
+    fed-insert : (p due item : ℕ) (a : Answer) → K (feedInsert b p due item a)
+    fed-insert p due item (ans.Refused n) = S
+    fed-insert p due item (ans.Began x) = insert-begins p due item x (b .opened p)
+    fed-insert p due item ans.Moved = tt
+    fed-insert p due item ans.Waits = tt
+    fed-insert p due item ans.Empty = tt
+    fed-insert p due item (ans.Marked e) = tt
+    fed-insert p due item (ans.Inserted e) = tt
+    fed-insert p due item (ans.HandedOut e) = tt
+
+    fed-delete : (p : ℕ) (a : Answer) → K (feedDelete b p a)
+    fed-delete p (ans.Refused n) = S
+    fed-delete p (ans.Began x) = delete-begins p x (b .opened p)
+    fed-delete p ans.Moved = tt
+    fed-delete p ans.Waits = tt
+    fed-delete p ans.Empty = tt
+    fed-delete p (ans.Marked e) = tt
+    fed-delete p (ans.Inserted e) = tt
+    fed-delete p (ans.HandedOut e) = tt
+
+    fed-step : (p : ℕ) (a : Answer) → K (feedStep b p a)
+    fed-step p (ans.Refused n) = S
+    fed-step p (ans.Began x) = tt
+    fed-step p ans.Moved = step-moves (b .opened p)
+    fed-step p ans.Waits = step-moves (b .opened p)
+    fed-step p ans.Empty = delete-empties p (b .opened p)
+    fed-step p (ans.Marked e) = delete-marks p e (b .opened p)
+    fed-step p (ans.Inserted e) = insert-answers p e (b .opened p)
+    fed-step p (ans.HandedOut e) = delete-hands-out p e (b .opened p)
+
+    fed : (c : Call) (r : Reply) → K (feed b c r)
+    fed (insert p due item height) (answered a) = fed-insert p due item a
+    fed (insert p due item height) (counted k) = tt
+    fed (deleteMin p) (answered a) = fed-delete p a
+    fed (deleteMin p) (counted k) = tt
+    fed (steps p) (answered a) = fed-step p a
+    fed (steps p) (counted k) = tt
+    fed backlog (answered a) = tt
+    fed backlog (counted k) = S
+
+  then-fed : (v : Verdict) (f : Book → Verdict) → Right (Stays flag t) v → ((b : Book) → Stays flag t b → Right (Stays flag t) (f b)) → Right (Stays flag t) (thenFeed v f)
+  then-fed (agrees b) f S h = h b S
+  then-fed differs f S h = tt
+
+  pub stays : (cs : List Call) (q : Queue) (b : Book) → Stays flag t b → Right (Stays flag t) (judged b q cs)
+  unfolding judged
+  stays [] q b S = S
+  stays (c ∷ cs) q b S = then-fed (feed b c (reply q c)) (λ b′. judged b′ (after q c) cs) (fed b S c (reply q c)) (stays cs (after q c))

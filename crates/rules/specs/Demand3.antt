@@ -1,0 +1,120 @@
+-- Demand 3, and what it means. Everything here is a statement; proofs/Demand3.antt and the files that it names prove each of them.
+use Prim.Native.Nat.{ℕ, suc, _+_, _≤_, _<_}
+use mathlib.Core.Path.{_≡_}
+use mathlib.Core.Bool.{Bool, true, false}
+use mathlib.Core.List.{List, [], _∷_, _++_}
+use lib.ListN.{getD}
+use Rattle.record.specs.declared.queues.Processor.{Processor}
+use Rattle.record.specs.declared.queues.Queue.{Queue}
+use Rattle.checks.specs.Check.{valid}
+use Rattle.record.specs.Queues.{freshQueue, nodeAt, processorAt}
+use Rattle.rules.specs.declared.answers.Answer.the-variants as ans
+use Rattle.rules.specs.declared.answers.Entry.{Entry}
+use Rattle.rules.specs.Book.{Book, Open, deleting, delivering, emptyBook, Verdict, agrees, judged, earlier}
+use Rattle.rules.specs.Locks.{Lock, level, node, holderOf, Claims}
+use Rattle.rules.specs.Runs.{Call, insert, deleteMin, steps, backlog, Reply, answered, reply, afterAll}
+
+-- "The queue is just made, with any P, N and L in range."
+pub record InRange (P N L : ℕ) : Type 0 where
+  pub processors-low : 1 ≤ P
+  pub processors-high : P ≤ 16
+  pub entries-low : 1 ≤ N
+  pub entries-high : N ≤ 200
+  pub levels-low : 1 ≤ L
+  pub levels-high : L ≤ 8
+
+-- b is the book after this list of calls on a queue that was just made: every answer agreed with it
+abbrev pub BookAfter : (P N L : ℕ) → List Call → Book → Type 0
+BookAfter P N L cs b = judged emptyBook (freshQueue P N L) cs ≡ agrees b
+
+-- DEMAND 3. "Every answer agrees with this book": for every list of calls, in any order, with any numbers, refused ones included.
+abbrev pub Demand3 : Type 0
+Demand3 = (P N L : ℕ) → InRange P N L → (cs : List Call) → (b : Book) × BookAfter P N L cs b
+
+-- What it means. In the statements below cs is any list of calls on a fresh queue, b the book after it, and the next call is a step of processor p.
+abbrev pub stepReply : (P N L : ℕ) → List Call → ℕ → Reply
+stepReply P N L cs p = reply (afterAll (freshQueue P N L) cs) (steps p)
+
+-- the entry with ticket t was answered before this begin, and no earlier step marked it
+pub record Left (b : Book) (begin t : ℕ) : Type 0 where
+  pub written : b .entry t .written ≡ true
+  pub answered-before : b .entry t .answeredAt < begin
+  pub unmarked : b .entry t .marked ≡ false
+
+-- e is what the book has under e's ticket
+pub record Entered (b : Book) (e : Entry) : Type 0 where
+  pub due : b .entry (e .ticket) .due ≡ e .due
+  pub item : b .entry (e .ticket) .item ≡ e .item
+
+-- "An entry that a Delete_Min marks is the earliest, by due and then by begin of its Insert, among those whose Insert had answered before this
+-- Delete_Min began and that no earlier step had marked"; and of those for one minute it is the one that was begun first.
+pub record Earliest (b : Book) (p : ℕ) (e : Entry) : Type 0 where
+  pub begin : ℕ
+  pub opened : b .opened p ≡ deleting begin
+  pub left : Left b begin (e .ticket)
+  pub entered : Entered b e
+  pub first : (t : ℕ) → Left b begin t → earlier b t (e .ticket) ≡ false
+  pub one-minute : (t : ℕ) → Left b begin t → b .entry t .due ≡ e .due → e .ticket ≤ t
+
+abbrev pub MarkedIsEarliest : Type 0
+MarkedIsEarliest =
+    (P N L : ℕ) → InRange P N L → (cs : List Call) (b : Book) → BookAfter P N L cs b → (p : ℕ) (e : Entry) → stepReply P N L cs p ≡ answered (ans.Marked e) → Earliest b p e
+
+-- "EMPTY means that no such entry is left."
+pub record NoneLeft (b : Book) (p : ℕ) : Type 0 where
+  pub begin : ℕ
+  pub opened : b .opened p ≡ deleting begin
+  pub none : (t : ℕ) → Left b begin t → ⊥
+
+abbrev pub EmptyIsTrue : Type 0
+EmptyIsTrue =
+    (P N L : ℕ) → InRange P N L → (cs : List Call) (b : Book) → BookAfter P N L cs b → (p : ℕ) → stepReply P N L cs p ≡ answered ans.Empty → NoneLeft b p
+
+-- "What is handed out is the due, item and ticket that this Delete_Min marked"
+pub record Delivered (b : Book) (p : ℕ) (e : Entry) : Type 0 where
+  pub opened : b .opened p ≡ delivering (e .ticket)
+  pub entered : Entered b e
+  pub not-before : b .entry (e .ticket) .handedOut ≡ false
+
+abbrev pub HandedOutIsMarked : Type 0
+HandedOutIsMarked =
+    (P N L : ℕ) → InRange P N L → (cs : List Call) (b : Book) → BookAfter P N L cs b → (p : ℕ) (e : Entry) → stepReply P N L cs p ≡ answered (ans.HandedOut e) → Delivered b p e
+
+-- "No entry is marked twice or handed out twice": a step of p and, any calls later, one of r
+abbrev pub MarkedOnce : Type 0
+MarkedOnce =
+    (P N L : ℕ) → InRange P N L → (cs ds : List Call) (p r : ℕ) (e f : Entry) → stepReply P N L cs p ≡ answered (ans.Marked e) →
+    stepReply P N L (cs ++ (steps p ∷ ds)) r ≡ answered (ans.Marked f) → e .ticket ≡ f .ticket → ⊥
+
+abbrev pub HandedOutOnce : Type 0
+HandedOutOnce =
+    (P N L : ℕ) → InRange P N L → (cs ds : List Call) (p r : ℕ) (e f : Entry) → stepReply P N L cs p ≡ answered (ans.HandedOut e) →
+    stepReply P N L (cs ++ (steps p ∷ ds)) r ≡ answered (ans.HandedOut f) → e .ticket ≡ f .ticket → ⊥
+
+-- Every record reached passes check 21, so that 21 is never the answer in a run.
+abbrev pub ReachedIsValid : Type 0
+ReachedIsValid = (P N L : ℕ) → InRange P N L → (cs : List Call) → valid (afterAll (freshQueue P N L) cs) ≡ true
+
+-- No call changes a slot past P, N+1 or L, on any record: slot k of a node's or a processor's array is level k + 1.
+pub record SameOutside (q r : Queue) : Type 0 where
+  pub processors : r .processors ≡ q .processors
+  pub entries : r .entries ≡ q .entries
+  pub levels : r .levels ≡ q .levels
+  pub nodes : (x : ℕ) → q .entries + 1 < x → nodeAt r x ≡ nodeAt q x
+  pub callers : (p : ℕ) → q .processors ≤ p → processorAt r p ≡ processorAt q p
+  pub forward : (x k : ℕ) → q .levels ≤ k → getD (nodeAt r x .forward) k 0 ≡ getD (nodeAt q x .forward) k 0
+  pub locks : (x k : ℕ) → q .levels ≤ k → getD (nodeAt r x .locks) k 0 ≡ getD (nodeAt q x .locks) k 0
+  pub saved : (p k : ℕ) → q .levels ≤ k → getD (processorAt r p .saved) k 0 ≡ getD (processorAt q p .saved) k 0
+
+abbrev pub OutsideIsUntouched : Type 0
+OutsideIsUntouched = (q : Queue) (cs : List Call) → SameOutside q (afterAll q cs)
+
+-- The locks of a reached record: whoever's stage says that it holds a lock is the record's holder, and a held lock is held by a processor whose stage
+-- says so.
+pub record LocksAgree (q : Queue) : Type 0 where
+  pub claimed-is-held : (p : ℕ) (l : Lock) → Claims (processorAt q p) l → holderOf q l ≡ suc p
+  pub held-is-claimed : (p n i : ℕ) → 1 ≤ i → holderOf q (level n i) ≡ suc p → Claims (processorAt q p) (level n i)
+  pub node-held-is-claimed : (p n : ℕ) → holderOf q (node n) ≡ suc p → Claims (processorAt q p) (node n)
+
+abbrev pub ReachedLocksAgree : Type 0
+ReachedLocksAgree = (P N L : ℕ) → InRange P N L → (cs : List Call) → LocksAgree (afterAll (freshQueue P N L) cs)
