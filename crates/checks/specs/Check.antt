@@ -3,8 +3,8 @@
 -- looked at like every node, and an idle processor like a busy one. An own node is one of 1 to N where the stage has one; where it has none, the
 -- number that is stored is that of any node.
 use Prim.Native.Nat.{ℕ, _+_}
-use mathlib.Core.Bool.{Bool, true, false, cond, _&&_, not}
-use lib.Dec.{leb, eqb}
+use mathlib.Core.Bool.{Bool, true, cond, _&&_}
+use lib.Dec.{leb}
 use Rattle.laws.specs.Every.{everyBelow, allAtMost}
 use Rattle.checks.specs.declared.check.Sizes.{Sizes}
 use Rattle.record.specs.declared.nodes.Node.{Node}

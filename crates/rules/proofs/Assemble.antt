@@ -1,14 +1,13 @@
 -- One processor moves: the invariant from its parts.
-use mathlib.Core.Path.{_≡_, refl, sym, subst}
-use mathlib.Core.Logic.{_⊎_, inl, inr}
-use Prim.Native.Nat.{ℕ, suc, _+_, _≤_, _<_}
+use mathlib.Core.Path.{_≡_, sym, subst}
+use Prim.Native.Nat.{ℕ, _+_, _≤_, _<_}
 use native.Mathlib.Omega.{arith}
-use native.Mathlib.Decide.{decLe, decLt, ℕ-discrete}
+use native.Mathlib.Decide.{ℕ-discrete}
 use Rattle.laws.specs.Update.{upd}
 use Rattle.laws.proofs.Updating.{upd-same, upd-other}
 use Rattle.rules.proofs.Put.{ever}
-use Rattle.rules.proofs.View.{Pr, View, Info, info, claim, key, tail, last}
-use Rattle.rules.proofs.Inv.{Next, Ordered, Core, Entered, Busy, Good, Near, Inserts, Removes, Back, Limbo, Led, back, limbo, Inv, One, Yields}
+use Rattle.rules.proofs.View.{Pr, View, Info, info, claim, tail}
+use Rattle.rules.proofs.Inv.{Core, Busy, Limbo, Led, Inv, One, Yields}
 
 -- the clock ticks and processor p becomes c
 abbrev pub ticked : View → ℕ → Pr → View

@@ -1,28 +1,24 @@
 -- The two begins keep the invariant.
 use mathlib.Core.Path.{_≡_, refl, sym, ap, subst, _∙_}
 use mathlib.Core.Bool.{Bool, true, false}
-use Prim.Native.Nat.{ℕ, suc, _+_, _-_, _*_, _≤_, _<_}
+use Prim.Native.Nat.{ℕ, suc, _+_, _-_, _≤_, _<_}
 use native.Mathlib.Omega.{arith}
-use native.Mathlib.Decide.{decLe, decLt, ℕ-discrete}
-use lib.Dec.{ltb, leb, eqb}
-use borrow.Author.Tests.{ltb-true, ltb-false, leb-true, leb-false, eqb-true, eqb-false}
+use native.Mathlib.Decide.{decLt, ℕ-discrete}
+use lib.Dec.{eqb}
+use borrow.Author.Tests.{eqb-true}
 use mathlib.Core.Bool.{cond}
-use Rattle.record.specs.declared.stages.Place.{Place}
 use Rattle.record.specs.declared.stages.Insert.the-variants as ins
 use Rattle.record.specs.declared.stages.Delete.the-variants as del
-use Rattle.record.specs.declared.stages.Removal.{Removal}
-use Rattle.record.specs.declared.stages.Removal.the-variants as rem
-use Rattle.record.specs.declared.stages.Stage.{Stage}
 use Rattle.record.specs.declared.stages.Stage.the-variants as stage
 use Rattle.record.specs.Stages.{place}
 use Rattle.laws.specs.Update.{upd}
 use Rattle.laws.proofs.Updating.{upd-same, upd-other}
 use Rattle.rules.proofs.Put.{ever}
 use Rattle.rules.proofs.View.{Pr, View, Info, info, claim, key, tail, last, rank, entryRank}
-use Rattle.rules.proofs.Facts.{facts, kind-any}
+use Rattle.rules.proofs.Facts.{kind-any}
 use Rattle.rules.proofs.Machine.{filled}
-use Rattle.rules.proofs.Inv.{Next, Core, Ends, Entered, Busy, Good, Near, Inserts, Removes, Walks, Eligible, Back, Limbo, Led, back, limbo, Inv, sought, One, Yields}
-use Rattle.rules.proofs.Assemble.{ticked, claimed, assembled-new, limbo-other, one-new, yields-new}
+use Rattle.rules.proofs.Inv.{Next, Core, Entered, Busy, Good, Near, Eligible, Limbo, Led, back, limbo, Inv, sought, One, Yields}
+use Rattle.rules.proofs.Assemble.{ticked, assembled-new, limbo-other, one-new, yields-new}
 use Rattle.rules.proofs.Move.{near-none}
 use Rattle.rules.proofs.InsertSteps.{head-good}
 use Rattle.rules.proofs.Lead.{sure}

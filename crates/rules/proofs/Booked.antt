@@ -1,12 +1,11 @@
 -- Every step's answer agrees with the book.
 use mathlib.Core.Path.{_≡_, refl, sym, ap, subst, _∙_}
-use mathlib.Core.Bool.{Bool, true, false, _&&_, true≢false}
-use Prim.Native.Nat.{ℕ, zero, suc, _+_, _-_, _*_, _≤_, _<_}
+use mathlib.Core.Bool.{Bool, true, false, true≢false}
+use Prim.Native.Nat.{ℕ, _+_, _≤_, _<_}
 use native.Mathlib.Omega.{arith}
-use native.Mathlib.Decide.{decLe, decLt, ℕ-discrete}
+use native.Mathlib.Decide.{ℕ-discrete}
 use lib.Dec.{ltb, leb, eqb}
-use borrow.Author.Tests.{ltb-true, ltb-false, eqb-true, eqb-false, lt-ltb, le-ltb, eq-eqb}
-use mathlib.Core.Bool.{cond}
+use borrow.Author.Tests.{ltb-false, eqb-true, lt-ltb, le-ltb, eq-eqb}
 use Rattle.record.specs.declared.stages.Place.{Place}
 use Rattle.record.specs.declared.stages.Seek.{Seek}
 use Rattle.record.specs.declared.stages.Seek.the-variants as seek
@@ -19,7 +18,6 @@ use Rattle.record.specs.declared.stages.Removal.the-variants as rem
 use Rattle.record.specs.declared.stages.Stage.{Stage}
 use Rattle.record.specs.declared.stages.Stage.the-variants as stage
 use Rattle.rules.specs.declared.answers.Entry.{Entry}
-use Rattle.rules.specs.declared.answers.Answer.{Answer}
 use Rattle.rules.specs.declared.decisions.Decision.{Decision}
 use Rattle.rules.specs.declared.decisions.Sight.{Sight}
 use Rattle.rules.specs.declared.decisions.Searched.{Searched}
@@ -33,15 +31,15 @@ use Rattle.laws.proofs.Booleans.{cond-elim}
 use Rattle.laws.specs.Update.{upd}
 use Rattle.laws.proofs.Updating.{upd-same, upd-other}
 use Rattle.rules.proofs.Put.{ever}
-use Rattle.rules.proofs.View.{Pr, View, Info, info, claim, key, tail, last, entryRank}
-use Rattle.rules.proofs.Inv.{Inv, Eligible, Entered, Inserts, NodeHeld}
+use Rattle.rules.proofs.View.{Pr, View, info, claim, key, tail}
+use Rattle.rules.proofs.Inv.{Inv, Eligible, Inserts, NodeHeld}
 use Rattle.rules.proofs.Assemble.{ticked}
-use Rattle.rules.proofs.Machine.{decision, effected, prAfter, carried, entryAt, sight, withStatus}
+use Rattle.rules.proofs.Machine.{decision, entryAt, sight, withStatus}
 use Rattle.rules.proofs.Move.{busy-at, kind-at}
 use Rattle.rules.proofs.InsertSteps.{idle}
-use Rattle.rules.proofs.DeleteSteps.{empty-right, mark-pick}
+use Rattle.rules.proofs.WalkSteps.{empty-right, mark-pick}
 use Rattle.rules.proofs.Begin.{rank-entry}
-use Rattle.rules.specs.Book.{Line, Open, nothing, inserting, deleting, delivering, Book, Verdict, agrees, differs, turned, moves, feedStep, pick, gives, withAnswer, withMark, withHandOut}
+use Rattle.rules.specs.Book.{Line, Open, nothing, delivering, Book, turned, pick, gives, withAnswer, withMark, withHandOut}
 use Rattle.rules.proofs.Picks.{order, Candidate, Picked, none, one, picked}
 use Rattle.rules.proofs.Rel.{opens, lineOf, Found, Filed, Rel, Booked, quiet, Quiet, quiet-booked}
 

@@ -1,16 +1,13 @@
 -- The queue record seen as a view.
-use mathlib.Core.Path.{_≡_, refl, sym, ap, subst, _∙_, fun-ext}
-use mathlib.Core.Bool.{Bool, true, false, _&&_}
+use mathlib.Core.Path.{_≡_, refl, sym, ap, _∙_}
+use mathlib.Core.Bool.{Bool, true, false}
 use mathlib.Core.List.{List}
-use Prim.Native.Nat.{ℕ, zero, suc, _+_, _-_, _*_, _≤_, _<_}
+use Prim.Native.Nat.{ℕ, _+_, _-_, _≤_}
 use native.Mathlib.Omega.{arith}
-use native.Mathlib.Decide.{decLe, decLt, ℕ-discrete}
-use lib.Dec.{ltb, leb, eqb}
-use lib.ListN.{length, getD, set}
-use lib.Seq.{getD-set-same, getD-set-other}
-use borrow.Author.Tests.{ltb-true, ltb-false, leb-true, leb-false, eqb-true, eqb-false, lt-ltb, le-ltb, eq-eqb, ne-eqb}
+use lib.Dec.{ltb, eqb}
+use lib.ListN.{getD}
+use borrow.Author.Tests.{le-ltb, ne-eqb}
 use mathlib.Core.Bool.{cond}
-use Rattle.record.specs.declared.keys.Key.{Key}
 use Rattle.record.specs.declared.nodes.Node.{Node}
 use Rattle.record.specs.declared.queues.Queue.{Queue}
 use Rattle.record.specs.declared.queues.Processor.{Processor}
@@ -18,16 +15,13 @@ use Rattle.record.specs.declared.nodes.Stamp.{Stamp}
 use Rattle.record.specs.declared.nodes.Stamp.the-variants as stamp
 use Rattle.record.specs.declared.nodes.Use.{Use}
 use Rattle.record.specs.declared.nodes.Use.the-variants as use′
-use Rattle.record.specs.Keys.{nodeKey, keyBefore, headKey, tailKey, entryKey}
-use Rattle.record.specs.Queues.{nodeAt, processorAt, freshProcessor}
-use Rattle.record.specs.Nodes.{freshNode}
+use Rattle.record.specs.Keys.{keyBefore}
+use Rattle.record.specs.Queues.{nodeAt, processorAt}
 use Rattle.rules.specs.Calls.{sightOf}
 use Rattle.record.specs.Nodes.{stampedBefore, keyOf}
 use Rattle.record.specs.declared.stages.Place.{Place}
-use Rattle.laws.specs.Update.{upd}
-use Rattle.laws.proofs.Updating.{upd-same, upd-other}
-use Rattle.rules.proofs.Put.{ever, put, put-at, Where, here, away}
-use Rattle.rules.proofs.View.{Pr, View, rank, entryRank, last}
+use Rattle.rules.proofs.Put.{ever}
+use Rattle.rules.proofs.View.{Pr, View, rank}
 use Rattle.rules.proofs.Machine.{sight}
 use Rattle.rules.proofs.Ranks.{before-rank, rank-at}
 

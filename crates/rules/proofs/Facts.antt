@@ -1,8 +1,7 @@
 -- Facts that hold of every stage's claims.
-use mathlib.Core.Path.{_≡_, refl, sym}
-use Prim.Native.Nat.{ℕ, zero, suc, _+_, _-_, _≤_, _<_}
+use mathlib.Core.Path.{_≡_, refl}
+use Prim.Native.Nat.{ℕ, _≤_, _<_}
 use native.Mathlib.Omega.{arith}
-use Rattle.record.specs.declared.stages.Place.{Place}
 use Rattle.record.specs.declared.stages.Seek.{Seek}
 use Rattle.record.specs.declared.stages.Seek.the-variants as seek
 use Rattle.record.specs.declared.stages.Insert.{Insert}

@@ -1,13 +1,13 @@
 -- A queue that is just made.
-use mathlib.Core.Path.{_≡_, refl, sym, ap, subst, _∙_}
-use mathlib.Core.Bool.{Bool, true, false, _&&_, false≢true}
+use mathlib.Core.Path.{_≡_, refl, sym, subst, _∙_}
+use mathlib.Core.Bool.{Bool, true, false, false≢true}
 use mathlib.Core.Logic.{_⊎_, inl, inr}
-use Prim.Native.Nat.{ℕ, zero, suc, _+_, _-_, _*_, _≤_, _<_}
+use Prim.Native.Nat.{ℕ, _+_, _-_, _≤_, _<_}
 use native.Mathlib.Omega.{arith}
-use native.Mathlib.Decide.{decLe, decLt, ℕ-discrete}
-use lib.Dec.{ltb, leb, eqb}
+use native.Mathlib.Decide.{decLt, ℕ-discrete}
+use lib.Dec.{leb, eqb}
 use lib.ListN.{length, getD, replicate, length-replicate, getD-replicate, List·getD-eq-default}
-use borrow.Author.Tests.{leb-true, leb-false, le-leb, lt-leb, eqb-true, eqb-false, eq-eqb, ne-eqb}
+use borrow.Author.Tests.{leb-true, le-leb, eqb-true, eq-eqb, ne-eqb}
 use mathlib.Core.Bool.{cond}
 use Rattle.record.specs.declared.nodes.Node.{Node}
 use Rattle.record.specs.declared.queues.Queue.{Queue}
@@ -17,14 +17,13 @@ use Rattle.record.specs.Nodes.{freshNode}
 use Rattle.record.specs.Queues.{freshQueue}
 use Rattle.record.specs.Stages.{isIdle}
 use Rattle.rules.proofs.Put.{ever}
-use Rattle.rules.proofs.View.{Pr, View, Info, info, claim, key, tail, last, rank, entryRank}
-use Rattle.rules.proofs.Inv.{Next, Core, Ends, Entered, Inv}
+use Rattle.rules.proofs.View.{View, info, claim, key, tail, last, rank}
+use Rattle.rules.proofs.Inv.{Next, Core, Inv}
 use Rattle.rules.proofs.Begin.{rank-entry}
-use Rattle.rules.specs.Book.{Book, emptyBook}
-use Rattle.rules.proofs.Rel.{Rel}
+use Rattle.rules.specs.Book.{emptyBook}
 use Rattle.rules.proofs.Sound.{Sound}
 use Rattle.rules.proofs.Held.{Held}
-use Rattle.rules.specs.Locks.{Lock, level, node}
+use Rattle.rules.specs.Locks.{level, node}
 use Rattle.laws.proofs.Booleans.{cond-elim}
 use mathlib.Core.List.{List}
 use Rattle.rules.proofs.Concrete.{viewOf, levelOf, level-pos, useNumber, stampNumber}

@@ -1,8 +1,8 @@
 -- Whoever holds a lock says so: a held level lock or node lock is held by a processor whose stage claims it. This needs nothing of the invariant.
-use mathlib.Core.Path.{_≡_, refl, sym, ap, subst, _∙_}
+use mathlib.Core.Path.{_≡_, refl, sym, ap, _∙_}
 use mathlib.Core.Bool.{Bool, true, false, _&&_}
 use mathlib.Core.Logic.{_⊎_, inl, inr, ⊎-elim}
-use Prim.Native.Nat.{ℕ, zero, suc, _+_, _-_, _≤_, _<_}
+use Prim.Native.Nat.{ℕ, suc, _+_}
 use native.Mathlib.Omega.{arith}
 use native.Mathlib.Decide.{ℕ-discrete}
 use lib.Dec.{ltb, leb, eqb}
@@ -24,15 +24,13 @@ use Rattle.rules.specs.declared.decisions.Decision.{Decision}
 use Rattle.rules.specs.declared.decisions.Sight.{Sight}
 use Rattle.rules.specs.declared.decisions.Searched.{Searched}
 use Rattle.rules.specs.declared.decisions.Searched.the-variants as srch
-use Rattle.rules.specs.declared.decisions.Sought.{Sought}
 use Rattle.rules.specs.declared.decisions.Sought.the-variants as sght
 use Rattle.record.specs.Stages.{place}
 use Rattle.rules.specs.Locks.{Lock, level, node}
 use Rattle.rules.specs.Decide.{insertSearched, insertSought, removalSearched, removalSought, seekStep, searchStep}
-use Rattle.laws.specs.Update.{upd}
 use Rattle.laws.proofs.Updating.{upd-same, upd-other}
-use Rattle.rules.proofs.Put.{ever, put, put-at, Where, here, away}
-use Rattle.laws.proofs.Booleans.{cond-elim, cond-cases}
+use Rattle.rules.proofs.Put.{put, put-at, Where, here, away}
+use Rattle.laws.proofs.Booleans.{cond-elim}
 use Rattle.record.specs.Stages.{seekCarried}
 use Rattle.rules.proofs.View.{Pr, View, Info, info, claim, tail}
 use Rattle.rules.proofs.Assemble.{ticked}

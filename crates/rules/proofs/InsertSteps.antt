@@ -1,9 +1,8 @@
 -- Insert, stage by stage: the search's end, I1 to I5.
-use mathlib.Core.Path.{_≡_, refl, sym, ap, subst, _∙_}
-use mathlib.Core.Bool.{Bool, true, false}
+use mathlib.Core.Path.{_≡_, refl, sym, ap, _∙_}
 use Prim.Native.Nat.{ℕ, suc, _+_, _-_, _≤_, _<_}
 use native.Mathlib.Omega.{arith}
-use native.Mathlib.Decide.{decLe, decLt, ℕ-discrete}
+use native.Mathlib.Decide.{ℕ-discrete}
 use Rattle.record.specs.declared.stages.Place.{Place}
 use Rattle.record.specs.declared.stages.Seek.{Seek}
 use Rattle.record.specs.declared.stages.Seek.the-variants as seek
@@ -13,19 +12,18 @@ use Rattle.record.specs.declared.stages.Stage.the-variants as stage
 use Rattle.record.specs.Stages.{place}
 use Rattle.laws.specs.Update.{upd}
 use Rattle.laws.proofs.Updating.{upd-same, upd-other}
-use Rattle.rules.proofs.Put.{ever, put, put-same, put-other, put-at, put-keeps, save-at, clear-to}
-use Rattle.rules.proofs.View.{Pr, View, Info, info, claim, key, tail, last}
-use Rattle.rules.proofs.Inv.{Core, Entered, Busy, Good, Near, Inserts, Removes, Eligible, Inv, sought, One, Yields, Exact, inserting, removing, NodeHeld}
+use Rattle.rules.proofs.Put.{ever, put, put-same, put-other, save-at, clear-to}
+use Rattle.rules.proofs.View.{Pr, View, Info, info, claim, key, tail}
+use Rattle.rules.proofs.Inv.{Busy, Good, Inserts, Inv, Yields, inserting}
 use Rattle.rules.proofs.Read.{on-apart, on-used}
 use Rattle.rules.proofs.Order.{linked}
-use Rattle.rules.proofs.Assemble.{ticked, claimed, one-kept, yields-kept, yields-new}
+use Rattle.rules.proofs.Assemble.{ticked, one-kept, yields-kept}
 use Rattle.rules.proofs.Machine.{withLocks, withFwd, withStatus}
 use Rattle.rules.proofs.Locks.{locked}
-use Rattle.rules.proofs.Lead.{exact-apart}
 use Rattle.rules.proofs.OwnLead.{own-lead}
 use Rattle.rules.proofs.PlaceLead.{place-lead}
 use Rattle.rules.proofs.Status.{restate}
-use Rattle.rules.proofs.Move.{staged, near-none, lock-kept, busy-at, claim-at, kind-at, hn-at, nx-at, level-at, settled-at, good-put, ahead}
+use Rattle.rules.proofs.Move.{staged, near-none, lock-kept, busy-at, claim-at, kind-at, hn-at, nx-at, settled-at, good-put}
 use Rattle.rules.proofs.Search.{saving, saved-more}
 
 -- a processor after its answer, in a queue of l levels

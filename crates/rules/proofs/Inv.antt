@@ -1,14 +1,10 @@
 -- The invariant: named parts, each over the functions that it speaks of.
-use mathlib.Core.Path.{_≡_, refl, sym}
-use mathlib.Core.Bool.{Bool, true, false}
-use mathlib.Core.Logic.{_⊎_, inl, inr}
-use Prim.Native.Nat.{ℕ, zero, suc, _+_, _-_, _*_, _≤_, _<_}
-use native.Mathlib.Omega.{arith}
-use lib.Dec.{ltb, leb, eqb}
+use mathlib.Core.Path.{_≡_}
+use Prim.Native.Nat.{ℕ, suc, _+_, _≤_, _<_}
+use lib.Dec.{eqb}
 use mathlib.Core.Bool.{cond}
-use Rattle.laws.specs.Update.{upd}
-use Rattle.rules.proofs.Put.{ever, put}
-use Rattle.rules.proofs.View.{Pr, View, Info, info, claim, key, tail, last, rank}
+use Rattle.rules.proofs.Put.{ever}
+use Rattle.rules.proofs.View.{Pr, View, Info, claim, key, tail, last}
 
 -- C1: s is what a linked n leads to
 pub record Next (until : ℕ → ℕ → ℕ) (k : ℕ → ℕ) (tail i n s : ℕ) : Type 0 where

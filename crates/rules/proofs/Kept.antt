@@ -1,7 +1,7 @@
 -- A step keeps the invariant.
-use mathlib.Core.Path.{_≡_, refl, sym, ap, subst, _∙_}
-use mathlib.Core.Bool.{Bool, true, false}
-use Prim.Native.Nat.{ℕ, suc, _+_, _-_, _≤_, _<_}
+use mathlib.Core.Path.{_≡_, refl}
+use mathlib.Core.Bool.{Bool}
+use Prim.Native.Nat.{ℕ, _+_, _≤_, _<_}
 use native.Mathlib.Omega.{arith}
 use lib.Dec.{ltb, leb, eqb}
 use borrow.Author.Tests.{ltb-true, ltb-false, leb-true, leb-false, eqb-true, eqb-false}
@@ -16,19 +16,17 @@ use Rattle.record.specs.declared.stages.Removal.{Removal}
 use Rattle.record.specs.declared.stages.Removal.the-variants as rem
 use Rattle.record.specs.declared.stages.Stage.{Stage}
 use Rattle.record.specs.declared.stages.Stage.the-variants as stage
-use Rattle.laws.specs.Update.{upd}
 use Rattle.laws.proofs.Booleans.{cond-cases}
 use Rattle.rules.proofs.Put.{ever, put}
-use Rattle.rules.proofs.View.{Pr, View, Info, info, claim, key, tail, last}
-use Rattle.rules.proofs.Inv.{Busy, Inserts, Removes, Inv, sought, NodeHeld}
-use Rattle.rules.proofs.Assemble.{ticked}
+use Rattle.rules.proofs.View.{View, info, key, tail}
+use Rattle.rules.proofs.Inv.{Inv, NodeHeld}
 use Rattle.rules.proofs.Machine.{decision, carried, sight}
-use mathlib.Core.Bool.{cond}
 use Rattle.rules.specs.Decide.{insertSearched, insertSought, removalSearched, removalSought}
 use Rattle.rules.proofs.Move.{busy-at, approach-ahead, approach-take, take-waits, take-confirm, confirm-release, release-take}
 use Rattle.rules.proofs.Search.{search-ahead, search-down}
 use Rattle.rules.proofs.InsertSteps
-use Rattle.rules.proofs.DeleteSteps
+use Rattle.rules.proofs.WalkSteps
+use Rattle.rules.proofs.RemovalSteps
 
 -- what the ghost function becomes
 abbrev pub untilAfter : View → (ℕ → ℕ → ℕ) → ℕ → Stage → ℕ → ℕ → ℕ
@@ -96,7 +94,7 @@ module _ (v : View) (u : ℕ → ℕ → ℕ) (I : Inv v u) (H : NodeHeld v) (ro
       cond-cases (λ r. Inv (carried v p (removalSearched (sight v (v .pr p) a) a r)) u) (before a) _ _
       (λ x. search-ahead v u I room p (λ b. stage.Delete (del.Removal (rem.Search b))) 3 0 (v .ht (v .pr p .own)) (λ b. refl) (omega arith) (λ h. omega arith) (own .0) (own .1) refl a e (ltb-true _ _ x))
       (λ x. cond-cases (λ r. Inv (carried v p (removalSearched (sight v (v .pr p) a) a r)) u) (leb (a .level) 1) _ _
-      (λ y. DeleteSteps.delete-left v u I room p a e (leb-true _ _ y))
+      (λ y. RemovalSteps.delete-left v u I room p a e (leb-true _ _ y))
       (λ y. search-down v u I room p (λ b. stage.Delete (del.Removal (rem.Search b))) 3 0 (v .ht (v .pr p .own)) (λ b. refl) (omega arith) (λ h. omega arith) (own .0) (own .1) refl a e (leb-false _ _ y)))
 
   delete-seek : (k : Seek) → v .pr p .stage ≡ stage.Delete (del.Removal (rem.Seek k)) → Kept (stage.Delete (del.Removal (rem.Seek k)))
@@ -108,7 +106,7 @@ module _ (v : View) (u : ℕ → ℕ → ℕ) (I : Inv v u) (H : NodeHeld v) (ro
       cond-cases (λ r. Inv (carried v p (removalSought (sight v (v .pr p) a) r)) u) (eqb (v .lk (a .node) (a .level)) 0) _ _ (λ x. take-confirm v u I room p (λ b. stage.Delete (del.Removal (rem.Seek b))) 3 0 1 (λ h b. refl) (omega arith) (λ h. omega arith) (own .0) (own .1) refl a e (eqb-true _ _ x)) (λ x. take-waits v u I room p (λ b. stage.Delete (del.Removal (rem.Seek b))) 3 0 1 (λ h b. refl) (omega arith) (λ h. omega arith) (own .0) (own .1) refl a e)
   delete-seek (seek.Confirm a) e =
       let own = remove-own (del.Removal (rem.Seek (seek.Confirm a))) e (omega arith) refl in
-      cond-cases (λ r. Inv (carried v p (removalSought (sight v (v .pr p) a) r)) u) (before a) _ _ (λ x. confirm-release v u I room p (λ b. stage.Delete (del.Removal (rem.Seek b))) 3 0 1 (λ h b. refl) (omega arith) (λ h. omega arith) (own .0) (own .1) refl a e (ltb-true _ _ x)) (λ x. DeleteSteps.delete-done v u I room p a e (ltb-false _ _ x))
+      cond-cases (λ r. Inv (carried v p (removalSought (sight v (v .pr p) a) r)) u) (before a) _ _ (λ x. confirm-release v u I room p (λ b. stage.Delete (del.Removal (rem.Seek b))) 3 0 1 (λ h b. refl) (omega arith) (λ h. omega arith) (own .0) (own .1) refl a e (ltb-true _ _ x)) (λ x. RemovalSteps.delete-done v u I room p a e (ltb-false _ _ x))
   delete-seek (seek.Release a b) e =
       let own = remove-own (del.Removal (rem.Seek (seek.Release a b))) e (omega arith) refl in
       release-take v u I room p (λ b. stage.Delete (del.Removal (rem.Seek b))) 3 0 1 (λ h b. refl) (omega arith) (λ h. omega arith) (own .0) (own .1) refl a b e
@@ -117,22 +115,22 @@ module _ (v : View) (u : ℕ → ℕ → ℕ) (I : Inv v u) (H : NodeHeld v) (ro
   insert-freed a e = cond-cases (λ d. Inv (carried v p d) u) (ltb (a .level) (v .ht (v .pr p .own))) _ _ (λ x. InsertSteps.insert-up v u I room p a e (ltb-true _ _ x)) (λ x. InsertSteps.insert-top v u I room p a e (ltb-false _ _ x))
 
   walk : (a : Place) → v .pr p .stage ≡ stage.Delete (del.Next a) → Kept (stage.Delete (del.Next a))
-  walk a e = cond-cases (λ d. Inv (carried v p d) u) (eqb (v .fwd (a .node) 1) (tail v)) _ _ (λ x. DeleteSteps.walk-empty v u I H room p a e) (λ x. DeleteSteps.walk-on v u I H room p a e (eqb-false _ _ x))
+  walk a e = cond-cases (λ d. Inv (carried v p d) u) (eqb (v .fwd (a .node) 1) (tail v)) _ _ (λ x. WalkSteps.walk-empty v u I H room p a e) (λ x. WalkSteps.walk-on v u I H room p a e (eqb-false _ _ x))
 
   stamp : (a : Place) → v .pr p .stage ≡ stage.Delete (del.Stamped a) → Kept (stage.Delete (del.Stamped a))
-  stamp a e = cond-cases (λ d. Inv (carried v p d) u) (ltb (v .st (a .node)) (v .pr p .begin)) _ _ (λ x. DeleteSteps.stamp-early v u I room p a e (ltb-true _ _ x)) (λ x. DeleteSteps.stamp-late v u I room p a e (ltb-false _ _ x))
+  stamp a e = cond-cases (λ d. Inv (carried v p d) u) (ltb (v .st (a .node)) (v .pr p .begin)) _ _ (λ x. WalkSteps.stamp-early v u I room p a e (ltb-true _ _ x)) (λ x. WalkSteps.stamp-late v u I room p a e (ltb-false _ _ x))
 
   mark : (a : Place) → v .pr p .stage ≡ stage.Delete (del.Mark a) → Kept (stage.Delete (del.Mark a))
-  mark a e = cond-cases (λ d. Inv (carried v p d) u) (ltb 0 (v .mk (a .node))) _ _ (λ x. DeleteSteps.mark-set v u I room p a e (λ h. omega (arith, ltb-true 0 (v .mk (a .node)) x))) (λ x. DeleteSteps.mark-step v u I room p a e (omega (arith, ltb-false 0 (v .mk (a .node)) x)))
+  mark a e = cond-cases (λ d. Inv (carried v p d) u) (ltb 0 (v .mk (a .node))) _ _ (λ x. WalkSteps.mark-set v u I room p a e (λ h. omega (arith, ltb-true 0 (v .mk (a .node)) x))) (λ x. WalkSteps.mark-step v u I room p a e (omega (arith, ltb-false 0 (v .mk (a .node)) x)))
 
   hold-node : v .pr p .stage ≡ stage.Delete (del.Removal rem.HoldNode) → Kept (stage.Delete (del.Removal rem.HoldNode))
-  hold-node e = cond-cases (λ d. Inv (carried v p d) u) (eqb (v .nl (v .pr p .own)) 0) _ _ (λ x. DeleteSteps.node-held v u I room p e (eqb-true _ _ x)) (λ x. DeleteSteps.node-waits v u I room p e)
+  hold-node e = cond-cases (λ d. Inv (carried v p d) u) (eqb (v .nl (v .pr p .own)) 0) _ _ (λ x. RemovalSteps.node-held v u I room p e (eqb-true _ _ x)) (λ x. RemovalSteps.node-waits v u I room p e)
 
   hold-own : (a : Place) → v .pr p .stage ≡ stage.Delete (del.Removal (rem.HoldOwn a)) → Kept (stage.Delete (del.Removal (rem.HoldOwn a)))
-  hold-own a e = cond-cases (λ d. Inv (carried v p d) u) (eqb (v .lk (v .pr p .own) (a .level)) 0) _ _ (λ x. DeleteSteps.own-held v u I room p a e (eqb-true _ _ x)) (λ x. DeleteSteps.own-waits v u I room p a e)
+  hold-own a e = cond-cases (λ d. Inv (carried v p d) u) (eqb (v .lk (v .pr p .own) (a .level)) 0) _ _ (λ x. RemovalSteps.own-held v u I room p a e (eqb-true _ _ x)) (λ x. RemovalSteps.own-waits v u I room p a e)
 
   delete-freed : (a : Place) → v .pr p .stage ≡ stage.Delete (del.Removal (rem.FreeLevel a)) → Kept (stage.Delete (del.Removal (rem.FreeLevel a)))
-  delete-freed a e = cond-cases (λ d. Inv (carried v p d) u) (leb (a .level) 1) _ _ (λ x. DeleteSteps.delete-bottom v u I room p a e (leb-true _ _ x)) (λ x. DeleteSteps.delete-down v u I room p a e (leb-false _ _ x))
+  delete-freed a e = cond-cases (λ d. Inv (carried v p d) u) (leb (a .level) 1) _ _ (λ x. RemovalSteps.delete-bottom v u I room p a e (leb-true _ _ x)) (λ x. RemovalSteps.delete-down v u I room p a e (leb-false _ _ x))
 
   pub kept : (s : Stage) → v .pr p .stage ≡ s → 1 ≤ info (v .ht (v .pr p .own)) s .kind → Kept s
   kept stage.Idle e b = absurd (omega arith)
@@ -150,9 +148,9 @@ module _ (v : View) (u : ℕ → ℕ → ℕ) (I : Inv v u) (H : NodeHeld v) (ro
   kept (stage.Delete (del.Removal rem.HoldNode)) e b = hold-node e
   kept (stage.Delete (del.Removal (rem.Seek k))) e b = delete-seek k e
   kept (stage.Delete (del.Removal (rem.HoldOwn a))) e b = hold-own a e
-  kept (stage.Delete (del.Removal (rem.Unlink a))) e b = DeleteSteps.delete-unlink v u I room p a e
-  kept (stage.Delete (del.Removal (rem.Back a))) e b = DeleteSteps.delete-back v u I room p a e
-  kept (stage.Delete (del.Removal (rem.FreeOwn a))) e b = DeleteSteps.delete-free-own v u I room p a e
+  kept (stage.Delete (del.Removal (rem.Unlink a))) e b = RemovalSteps.delete-unlink v u I room p a e
+  kept (stage.Delete (del.Removal (rem.Back a))) e b = RemovalSteps.delete-back v u I room p a e
+  kept (stage.Delete (del.Removal (rem.FreeOwn a))) e b = RemovalSteps.delete-free-own v u I room p a e
   kept (stage.Delete (del.Removal (rem.FreeLevel a))) e b = delete-freed a e
-  kept (stage.Delete (del.Removal rem.FreeNode)) e b = DeleteSteps.delete-free v u I room p e
-  kept (stage.Delete (del.Removal rem.Retire)) e b = DeleteSteps.delete-retire v u I room p e
+  kept (stage.Delete (del.Removal rem.FreeNode)) e b = RemovalSteps.delete-free v u I room p e
+  kept (stage.Delete (del.Removal rem.Retire)) e b = RemovalSteps.delete-retire v u I room p e

@@ -1,18 +1,15 @@
 -- Steps that change a forward number.
-use mathlib.Core.Path.{_≡_, refl, sym, subst}
-use mathlib.Core.Logic.{_⊎_, inl, inr}
-use Prim.Native.Nat.{ℕ, suc, _+_, _≤_, _<_}
+use mathlib.Core.Path.{_≡_, sym}
+use Prim.Native.Nat.{ℕ, _≤_, _<_}
 use native.Mathlib.Omega.{arith}
-use native.Mathlib.Decide.{decLe, decLt, ℕ-discrete}
+use native.Mathlib.Decide.{ℕ-discrete}
 use Rattle.laws.specs.Update.{upd}
-use Rattle.laws.proofs.Updating.{upd-same, upd-other}
-use Rattle.rules.proofs.Put.{ever, put, put-same, put-other, put-at, put-keeps, Where, here, away}
-use Rattle.rules.proofs.View.{Pr, View, Info, info, claim, key, tail, last}
-use Rattle.rules.proofs.Inv.{Next, Ordered, Core, Ends, Entered, Busy, Good, Near, Inserts, Removes, Back, Limbo, Led, back, limbo, Inv, One, Yields, Exact, inserting, removing}
+use Rattle.rules.proofs.Put.{ever}
+use Rattle.rules.proofs.View.{Pr, View, claim, key, tail}
+use Rattle.rules.proofs.Inv.{Core, Busy, Good, Near, Led, Inv, Yields, Exact, inserting, removing}
 use Rattle.rules.proofs.Facts.{Facts, facts}
-use Rattle.rules.proofs.Read.{on-apart}
-use Rattle.rules.proofs.Order.{linked, unlinked}
-use Rattle.rules.proofs.Assemble.{ticked, claimed, assembled, limbo-other, one-kept, yields-kept, yields-new}
+use Rattle.rules.proofs.Order.{linked}
+use Rattle.rules.proofs.Assemble.{ticked, claimed, assembled, one-kept}
 use Rattle.rules.proofs.Machine.{withFwd}
 
 abbrev pub sure : (v : View) (q : ℕ) → Facts (claim v q)

@@ -15,7 +15,8 @@ pub mod Status
 pub mod Move
 pub mod Search
 pub mod InsertSteps
-pub mod DeleteSteps
+pub mod WalkSteps
+pub mod RemovalSteps
 pub mod Kept
 pub mod Ranks
 pub mod Begin

@@ -1,15 +1,13 @@
 -- Steps that change no more than locks. A node lock that is freed makes its node whole.
-use mathlib.Core.Path.{_≡_, refl, sym, subst}
-use mathlib.Core.Logic.{_⊎_, inl, inr}
+use mathlib.Core.Path.{_≡_}
 use Prim.Native.Nat.{ℕ, suc, _+_, _≤_, _<_}
 use native.Mathlib.Omega.{arith}
-use native.Mathlib.Decide.{decLe, decLt, ℕ-discrete}
+use native.Mathlib.Decide.{ℕ-discrete}
 use Rattle.laws.specs.Update.{upd}
-use Rattle.laws.proofs.Updating.{upd-same, upd-other}
 use Rattle.rules.proofs.Put.{ever}
-use Rattle.rules.proofs.View.{Pr, View, Info, info, claim, key, tail, last}
-use Rattle.rules.proofs.Inv.{Next, Ordered, Core, Entered, Busy, Good, Near, Inserts, Removes, Back, Limbo, Led, back, limbo, Inv, One, Yields, Exact, inserting, removing}
-use Rattle.rules.proofs.Assemble.{ticked, claimed, assembled, limbo-other, one-kept, yields-kept, yields-new}
+use Rattle.rules.proofs.View.{Pr, View, claim, tail}
+use Rattle.rules.proofs.Inv.{Core, Busy, Led, back, limbo, Inv, Yields}
+use Rattle.rules.proofs.Assemble.{ticked, claimed, assembled, limbo-other, one-kept}
 use Rattle.rules.proofs.Machine.{withLocks}
 
 module _ (v : View) (u : ℕ → ℕ → ℕ) (I : Inv v u) (room : v .clock + 1 < ever) (p : ℕ) (c : Pr) (lk : ℕ → ℕ → ℕ) (nl : ℕ → ℕ) where

@@ -1,23 +1,18 @@
 -- Shared by the cases of a step.
 use mathlib.Core.Path.{_≡_, refl, sym, ap, subst, _∙_}
-use mathlib.Core.Bool.{Bool, true, false}
-use Prim.Native.Nat.{ℕ, suc, _+_, _-_, _≤_, _<_}
+use Prim.Native.Nat.{ℕ, suc, _+_, _≤_, _<_}
 use native.Mathlib.Omega.{arith}
-use native.Mathlib.Decide.{decLe, decLt, ℕ-discrete}
-use lib.Dec.{ltb, leb, eqb}
-use borrow.Author.Tests.{ltb-true, ltb-false, leb-true, leb-false, eqb-true, eqb-false}
+use native.Mathlib.Decide.{ℕ-discrete}
 use Rattle.record.specs.declared.stages.Place.{Place}
 use Rattle.record.specs.declared.stages.Seek.{Seek}
 use Rattle.record.specs.declared.stages.Seek.the-variants as seek
 use Rattle.record.specs.declared.stages.Stage.{Stage}
 use Rattle.record.specs.Stages.{place}
-use Rattle.laws.specs.Update.{upd}
-use Rattle.laws.proofs.Updating.{upd-same, upd-other}
-use Rattle.rules.proofs.Put.{ever, put, put-same, put-other, put-at, put-keeps, Where, here, away}
-use Rattle.rules.proofs.View.{Pr, View, Info, info, seeks, claim, key, tail, last}
-use Rattle.rules.proofs.Inv.{Next, Core, Ends, Entered, Busy, Good, Near, Inserts, Removes, Walks, Back, Limbo, Led, back, limbo, Inv, sought}
+use Rattle.rules.proofs.Put.{ever, put, put-same, put-other, put-keeps}
+use Rattle.rules.proofs.View.{Pr, View, Info, info, seeks, claim, key, tail}
+use Rattle.rules.proofs.Inv.{Busy, Good, Near, Inv, sought}
 use Rattle.rules.proofs.Read.{read-seen, settled}
-use Rattle.rules.proofs.Assemble.{ticked, claimed, yields-kept}
+use Rattle.rules.proofs.Assemble.{ticked, yields-kept}
 use Rattle.rules.proofs.Machine.{withLocks}
 use Rattle.rules.proofs.Locks.{locked}
 

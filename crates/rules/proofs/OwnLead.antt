@@ -1,12 +1,12 @@
 -- I1 and L4: own's forward number at a level at which own is not linked.
-use mathlib.Core.Path.{_≡_, refl, sym, subst}
-use Prim.Native.Nat.{ℕ, suc, _+_, _≤_, _<_}
+use mathlib.Core.Path.{_≡_, refl, sym}
+use Prim.Native.Nat.{ℕ, _+_, _≤_, _<_}
 use native.Mathlib.Omega.{arith}
-use native.Mathlib.Decide.{decLe, decLt, ℕ-discrete}
+use native.Mathlib.Decide.{ℕ-discrete}
 use Rattle.laws.specs.Update.{upd}
-use Rattle.rules.proofs.Put.{ever, put, put-same, put-other, put-at, Where, here, away}
-use Rattle.rules.proofs.View.{Pr, View, Info, info, claim, key, tail, last}
-use Rattle.rules.proofs.Inv.{Next, Ordered, Core, Ends, Entered, Busy, Good, Near, Inserts, Removes, Back, Limbo, Led, back, limbo, Inv, Yields, Exact, inserting, removing}
+use Rattle.rules.proofs.Put.{ever, put, put-same, put-other}
+use Rattle.rules.proofs.View.{Pr, View, claim, key, tail}
+use Rattle.rules.proofs.Inv.{Core, Busy, Led, back, limbo, Inv, Yields, Exact}
 use Rattle.rules.proofs.Assemble.{ticked, claimed, limbo-other}
 use Rattle.rules.proofs.Machine.{withFwd}
 use Rattle.rules.proofs.Lead.{sure, exact-apart, near-exact, framed}

@@ -1,15 +1,15 @@
 -- I2 and L3: the place's forward number, as own is linked or unlinked at the level.
-use mathlib.Core.Path.{_≡_, refl, sym, subst}
+use mathlib.Core.Path.{_≡_}
 use Prim.Native.Nat.{ℕ, suc, _+_, _≤_, _<_}
 use native.Mathlib.Omega.{arith}
-use native.Mathlib.Decide.{decLe, decLt, ℕ-discrete}
+use native.Mathlib.Decide.{decLt, ℕ-discrete}
 use Rattle.laws.specs.Update.{upd}
-use Rattle.rules.proofs.Put.{ever, put, put-same, put-other, put-at, put-keeps, Where, here, away}
-use Rattle.rules.proofs.View.{Pr, View, Info, info, claim, key, tail, last}
-use Rattle.rules.proofs.Inv.{Next, Ordered, Core, Ends, Entered, Busy, Good, Near, Inserts, Removes, Back, Limbo, Led, back, limbo, Inv, Yields, Exact, inserting, removing}
+use Rattle.rules.proofs.Put.{ever, put, put-other, put-at, put-keeps, Where, here, away}
+use Rattle.rules.proofs.View.{Pr, View, claim, key, tail}
+use Rattle.rules.proofs.Inv.{Ordered, Core, Entered, Busy, Limbo, Led, back, limbo, Inv, Yields, Exact}
 use Rattle.rules.proofs.Assemble.{ticked, claimed, limbo-other}
 use Rattle.rules.proofs.Machine.{withFwd}
-use Rattle.rules.proofs.Lead.{sure, exact-apart, near-exact, framed}
+use Rattle.rules.proofs.Lead.{sure, exact-apart, framed}
 
 module _ (v : View) (u : ℕ → ℕ → ℕ) (I : Inv v u) (room : v .clock + 1 < ever) (p : ℕ) (c : Pr) (a o i x t : ℕ)
     (i≥ : 1 ≤ i) (o≥ : 1 ≤ o) (o≤ : o ≤ v .nodes) (used : v .us o ≡ 1)

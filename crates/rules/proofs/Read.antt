@@ -1,12 +1,11 @@
 -- Where a seen node leads.
-use mathlib.Core.Path.{_≡_, refl, sym, subst}
-use mathlib.Core.Logic.{_⊎_, inl, inr}
-use Prim.Native.Nat.{ℕ, suc, _+_, _≤_, _<_}
+use mathlib.Core.Path.{_≡_}
+use Prim.Native.Nat.{ℕ, suc, _≤_, _<_}
 use native.Mathlib.Omega.{arith}
-use native.Mathlib.Decide.{decLe, decLt, ℕ-discrete}
+use native.Mathlib.Decide.{decLe, ℕ-discrete}
 use Rattle.rules.proofs.Put.{ever}
-use Rattle.rules.proofs.View.{Pr, View, Info, info, claim, key, tail, last}
-use Rattle.rules.proofs.Inv.{Next, Ordered, Core, Entered, Busy, Good, Near, Inserts, Removes, Back, Limbo, Led, back, limbo, Inv}
+use Rattle.rules.proofs.View.{View, claim, key, tail}
+use Rattle.rules.proofs.Inv.{Next, Busy, Back, Limbo, Led, back, limbo, Inv}
 
 pub data Reads (v : View) (u : ℕ → ℕ → ℕ) (T a i : ℕ) : Type 0 where
   onward : Next u (key v) (tail v) i a (v .fwd a i) → Reads v u T a i

@@ -1,14 +1,13 @@
 -- A step of the record is a step of its view.
-use mathlib.Core.Path.{_≡_, refl, sym, ap, subst, _∙_, fun-ext}
-use mathlib.Core.Bool.{Bool, true, false, _&&_}
+use mathlib.Core.Path.{_≡_, refl, sym, ap, _∙_, fun-ext}
 use mathlib.Core.List.{List}
-use Prim.Native.Nat.{ℕ, zero, suc, _+_, _-_, _*_, _≤_, _<_}
+use Prim.Native.Nat.{ℕ, _+_, _-_, _≤_, _<_}
 use native.Mathlib.Omega.{arith}
-use native.Mathlib.Decide.{decLe, decLt, ℕ-discrete}
+use native.Mathlib.Decide.{decLt, ℕ-discrete}
 use lib.Dec.{ltb, leb, eqb}
-use lib.ListN.{length, getD, set, replicate, length-set, length-replicate, getD-replicate, List·getD-eq-default}
+use lib.ListN.{length, getD, set, length-set}
 use lib.Seq.{getD-set-same, getD-set-other}
-use borrow.Author.Tests.{leb-true, leb-false, lt-leb, eqb-true, eqb-false, eq-eqb, ne-eqb, lt-ltb, le-ltb}
+use borrow.Author.Tests.{lt-ltb, le-ltb}
 use Rattle.laws.specs.Every.{setBelow}
 use Rattle.laws.proofs.Booleans.{cond-elim}
 use Rattle.laws.proofs.Counting.{below-same, below-other, length-below}
@@ -32,8 +31,6 @@ use Rattle.rules.specs.declared.decisions.Effect.the-variants as eff
 use Rattle.rules.specs.declared.decisions.Carry.{Carry}
 use Rattle.rules.specs.declared.decisions.Carry.the-variants as carry
 use Rattle.rules.specs.declared.decisions.Decision.{Decision}
-use Rattle.rules.specs.declared.answers.Answer.{Answer}
-use Rattle.rules.specs.declared.answers.Answer.the-variants as ans
 use Rattle.rules.specs.declared.decisions.Sight.{Sight}
 use Rattle.rules.specs.declared.decisions.Searched.{Searched}
 use Rattle.rules.specs.declared.decisions.Searched.the-variants as srch
@@ -47,17 +44,15 @@ use Rattle.rules.specs.Effects.{nodeOf, changed, beginAfter, processorAf
 use Rattle.record.specs.Queues.{nodeAt, processorAt, freshProcessor}
 use Rattle.record.specs.Nodes.{freshNode}
 use Rattle.rules.specs.Effects.{applied}
-use Rattle.rules.specs.Calls.{sightOf, stepDecision}
-use Rattle.record.specs.Stages.{isIdle}
+use Rattle.rules.specs.Calls.{stepDecision}
 use Rattle.laws.specs.Update.{upd}
 use Rattle.laws.proofs.Updating.{upd-same, upd-other}
-use Rattle.rules.proofs.Put.{ever, put, save-at}
-use Rattle.rules.proofs.View.{Pr, View, Info, info, claim, tail}
+use Rattle.rules.proofs.Put.{save-at}
+use Rattle.rules.proofs.View.{Pr, View, info, claim, tail}
 use Rattle.rules.proofs.Facts.{place-info}
-use Rattle.rules.proofs.Inv.{Inv, Busy}
-use Rattle.rules.proofs.Assemble.{ticked}
+use Rattle.rules.proofs.Inv.{Inv}
 use Rattle.rules.proofs.Machine.{effected, prAfter, carried, decision, sight, savedAfter}
-use Rattle.rules.proofs.Move.{busy-at, kind-at}
+use Rattle.rules.proofs.Move.{busy-at}
 use Rattle.rules.proofs.Read.{read-seen}
 use Rattle.rules.proofs.Lead.{sure}
 use Rattle.rules.proofs.Rel.{pr-same}

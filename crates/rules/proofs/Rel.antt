@@ -1,32 +1,23 @@
 -- The book and the record: B1 and B2, kept by every step.
 use mathlib.Core.Path.{_≡_, refl, sym, ap, subst, _∙_}
-use mathlib.Core.Bool.{Bool, true, false, _&&_}
-use Prim.Native.Nat.{ℕ, zero, suc, _+_, _-_, _*_, _≤_, _<_}
+use mathlib.Core.Bool.{true, false}
+use Prim.Native.Nat.{ℕ, zero, suc, _+_, _≤_}
 use native.Mathlib.Omega.{arith}
-use native.Mathlib.Decide.{decLe, decLt, ℕ-discrete}
-use lib.Dec.{ltb, leb, eqb}
-use borrow.Author.Tests.{ltb-true, ltb-false, eqb-true, eqb-false, lt-ltb, eq-eqb}
-use mathlib.Core.Bool.{cond}
-use Rattle.record.specs.declared.stages.Place.{Place}
-use Rattle.rules.specs.declared.answers.Entry.{Entry}
+use native.Mathlib.Decide.{ℕ-discrete}
+use lib.Dec.{ltb}
 use Rattle.rules.specs.declared.answers.Answer.{Answer}
 use Rattle.rules.specs.declared.answers.Answer.the-variants as ans
 use Rattle.rules.specs.declared.decisions.Effect.{Effect}
 use Rattle.rules.specs.declared.decisions.Effect.the-variants as eff
 use Rattle.rules.specs.declared.decisions.Decision.{Decision}
-use Rattle.record.specs.declared.stages.Stage.{Stage}
-use Rattle.record.specs.declared.stages.Stage.the-variants as stage
 use Rattle.laws.specs.Update.{upd}
 use Rattle.laws.proofs.Updating.{upd-same, upd-other}
 use Rattle.rules.specs.Effects.{beginAfter}
-use Rattle.rules.proofs.Put.{ever}
-use Rattle.rules.proofs.View.{Pr, View, Info, info, claim, key, tail, last, entryRank}
-use Rattle.rules.proofs.Inv.{Inv, Eligible, Entered}
+use Rattle.rules.proofs.View.{Pr, View, info, claim}
 use Rattle.rules.proofs.Facts.{kind-any}
 use Rattle.rules.proofs.Assemble.{ticked}
-use Rattle.rules.proofs.Machine.{effected, prAfter, carried, entryAt}
-use Rattle.rules.proofs.Begin.{rank-entry}
-use Rattle.rules.specs.Book.{Line, Open, nothing, inserting, deleting, delivering, Book, Verdict, agrees, differs, turned, moves, feedStep}
+use Rattle.rules.proofs.Machine.{effected, prAfter, carried}
+use Rattle.rules.specs.Book.{Line, Open, nothing, inserting, deleting, delivering, Book, agrees, moves, feedStep}
 
 -- B1: what a processor has open, by its kind, its begin and its own node's ticket
 abbrev pub opens : ℕ → ℕ → ℕ → Open

@@ -1,15 +1,14 @@
 -- A new Insert: the book's new entry is the node that was filled in. Assumes nothing.
-use mathlib.Core.Path.{_≡_, refl, sym, ap, subst, _∙_}
-use mathlib.Core.Bool.{Bool, true, false, cond}
-use Prim.Native.Nat.{ℕ, zero, suc, _+_, _-_, _≤_, _<_}
+use mathlib.Core.Path.{_≡_, refl, sym, ap, _∙_}
+use mathlib.Core.Bool.{true, false}
+use Prim.Native.Nat.{ℕ, _+_, _≤_}
 use native.Mathlib.Omega.{arith}
 use native.Mathlib.Decide.{ℕ-discrete}
-use lib.Dec.{ltb, eqb}
 use Rattle.laws.specs.Update.{upd}
 use Rattle.laws.proofs.Updating.{upd-same, upd-other}
-use Rattle.rules.specs.Book.{Line, Open, nothing, inserting, Book, turned}
+use Rattle.rules.specs.Book.{Line, inserting, Book, turned}
 use Rattle.rules.proofs.Put.{ever}
-use Rattle.rules.proofs.View.{Pr, View, info, claim, tail}
+use Rattle.rules.proofs.View.{View, info, claim}
 use Rattle.rules.proofs.Inv.{Inv}
 use Rattle.rules.proofs.Facts.{kind-any}
 use Rattle.rules.proofs.Assemble.{ticked}

@@ -1,19 +1,15 @@
 -- Search, for an Insert and a remover alike.
 use mathlib.Core.Path.{_≡_, refl, sym, ap, subst, _∙_}
-use mathlib.Core.Bool.{Bool, true, false}
-use Prim.Native.Nat.{ℕ, suc, _+_, _-_, _≤_, _<_}
+use Prim.Native.Nat.{ℕ, _+_, _-_, _≤_, _<_}
 use native.Mathlib.Omega.{arith}
-use native.Mathlib.Decide.{decLe, decLt, ℕ-discrete}
+use native.Mathlib.Decide.{ℕ-discrete}
 use Rattle.record.specs.declared.stages.Place.{Place}
 use Rattle.record.specs.declared.stages.Stage.{Stage}
 use Rattle.record.specs.Stages.{place}
-use Rattle.laws.specs.Update.{upd}
-use Rattle.laws.proofs.Updating.{upd-same, upd-other}
 use Rattle.rules.proofs.Put.{ever, save-at, save-same, save-other}
-use Rattle.rules.proofs.View.{Pr, View, Info, info, claim, key, tail, last}
-use Rattle.rules.proofs.Inv.{Core, Busy, Good, Near, Inserts, Removes, Inv, sought}
-use Rattle.rules.proofs.Assemble.{ticked, claimed, yields-kept}
-use Rattle.rules.proofs.Machine.{withLocks}
+use Rattle.rules.proofs.View.{Pr, View, Info, info, claim, key, tail}
+use Rattle.rules.proofs.Inv.{Core, Busy, Good, Inv, sought}
+use Rattle.rules.proofs.Assemble.{ticked, yields-kept}
 use Rattle.rules.proofs.Locks.{locked}
 use Rattle.rules.proofs.Move.{staged, near-none, ahead}
 

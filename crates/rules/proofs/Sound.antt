@@ -1,19 +1,15 @@
 -- What is kept by every call of a list: the invariant of the record's view, its relation to the book, and the arrays' lengths.
 use mathlib.Core.Path.{_≡_, refl, sym, ap, subst, _∙_}
-use mathlib.Core.Bool.{Bool, true, false, cond, _||_}
-use Prim.Native.Nat.{ℕ, zero, suc, _+_, _-_, _≤_, _<_}
+use mathlib.Core.Bool.{true, false, cond, _||_}
+use Prim.Native.Nat.{ℕ, _+_, _-_, _≤_, _<_}
 use native.Mathlib.Omega.{arith}
 use native.Mathlib.Decide.{decLe, decLt, ℕ-discrete}
 use lib.Dec.{ltb, leb, eqb}
-use lib.ListN.{getD, set}
 use lib.Seq.{getD-set-other}
-use borrow.Author.Tests.{ltb-true, ltb-false, leb-true, leb-false, eqb-true, eqb-false, eq-eqb}
+use borrow.Author.Tests.{ltb-false, leb-false, eqb-false, eq-eqb}
 use Rattle.laws.specs.Update.{upd}
-use Rattle.laws.proofs.Updating.{upd-same, upd-other}
+use Rattle.laws.proofs.Updating.{upd-other}
 use Rattle.record.specs.declared.queues.Queue.{Queue}
-use Rattle.record.specs.declared.queues.Processor.{Processor}
-use Rattle.record.specs.declared.stages.Stage.{Stage}
-use Rattle.record.specs.declared.stages.Stage.the-variants as stage
 use Rattle.checks.specs.Check.{valid}
 use Rattle.checks.specs.Making.{outside}
 use Rattle.record.specs.Queues.{processorAt, freshProcessor}
@@ -23,20 +19,19 @@ use Rattle.rules.specs.declared.answers.Answer.the-variants as ans
 use Rattle.rules.specs.declared.answers.Outcome.{Outcome}
 use Rattle.rules.specs.declared.decisions.Decision.{Decision}
 use Rattle.rules.specs.Answers.{refused}
-use Rattle.rules.specs.Book.{Book, Open, nothing, inserting, deleting, Verdict, agrees, differs, turned, feed, feedInsert, feedDelete, feedStep, deleteBegins, insertBegins}
+use Rattle.rules.specs.Book.{Book, nothing, inserting, deleting, Verdict, agrees, turned, feedInsert, feedDelete, feedStep}
 use Rattle.rules.specs.Calls.{stepDecision, insertDecision, deleteDecision, onNumbers, beginInsert, beginDelete, step}
 use Rattle.rules.specs.Choice.{chosen}
-use Rattle.rules.specs.Effects.{applied, accepted, processorAfter}
-use Rattle.rules.specs.Runs.{Call, insert, deleteMin, steps, backlog, Reply, answered, counted, after, reply}
+use Rattle.rules.specs.Effects.{accepted, processorAfter}
+use Rattle.rules.specs.Runs.{after}
 use Rattle.rules.proofs.Put.{ever}
-use Rattle.rules.proofs.View.{Pr, View, info, claim, tail}
+use Rattle.rules.proofs.View.{View, info, claim, tail}
 use Rattle.rules.proofs.Inv.{Inv}
-use Rattle.rules.proofs.Assemble.{ticked}
-use Rattle.rules.proofs.Machine.{carried, decision, filled, relevel}
+use Rattle.rules.proofs.Machine.{carried, decision, relevel}
 use Rattle.laws.proofs.Booleans.{cond-cases, or-left, or-right}
 use Rattle.rules.proofs.Kept.{kept, untilAfter}
 use Rattle.rules.proofs.StageKinds.{kind-idle, kind-busy, idle-false}
-use Rattle.rules.proofs.Begin.{walker, inserter, begin-delete, begin-insert, cleared, own-ne}
+use Rattle.rules.proofs.Begin.{walker, begin-delete, begin-insert, cleared, own-ne}
 use Rattle.rules.proofs.Rel.{opens, Rel}
 use Rattle.rules.proofs.RelInsert.{rel-insert}
 use Rattle.rules.proofs.Booked.{booked, rel-open}

@@ -1,12 +1,12 @@
 -- Steps that change the mark, the stamp or the use of one node: W3, I5, L8.
-use mathlib.Core.Path.{_≡_, refl, sym, subst}
-use Prim.Native.Nat.{ℕ, suc, _+_, _≤_, _<_}
+use mathlib.Core.Path.{_≡_}
+use Prim.Native.Nat.{ℕ, _+_, _≤_, _<_}
 use native.Mathlib.Omega.{arith}
-use native.Mathlib.Decide.{decLe, decLt, ℕ-discrete}
+use native.Mathlib.Decide.{ℕ-discrete}
 use Rattle.laws.specs.Update.{upd}
 use Rattle.rules.proofs.Put.{ever}
-use Rattle.rules.proofs.View.{Pr, View, Info, info, claim, key, tail, last}
-use Rattle.rules.proofs.Inv.{Next, Ordered, Core, Ends, Entered, Busy, Good, Near, Inserts, Removes, Walks, Eligible, Back, Limbo, Led, back, limbo, Inv, One, Yields}
+use Rattle.rules.proofs.View.{Pr, View, claim, tail}
+use Rattle.rules.proofs.Inv.{Core, Entered, Busy, Inserts, Removes, Eligible, Led, back, limbo, Inv, One, Yields}
 use Rattle.rules.proofs.Assemble.{ticked, claimed, assembled, limbo-other}
 use Rattle.rules.proofs.Machine.{withStatus}
 

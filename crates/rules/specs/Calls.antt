@@ -1,15 +1,12 @@
 -- The calls: begin an Insert, begin a Delete_Min, step, on any record and with any numbers. Each is a list of refusals in the order of document
 -- 01's table, and then what an accepted call does.
 use Prim.Native.Nat.{ℕ, _+_, _-_}
-use mathlib.Core.Bool.{Bool, cond, not, _||_}
+use mathlib.Core.Bool.{cond, _||_}
 use lib.Dec.{ltb, leb, eqb}
 use Rattle.record.specs.declared.stages.Place.{Place}
-use Rattle.record.specs.declared.stages.Seek.{Seek}
-use Rattle.record.specs.declared.stages.Seek.the-variants as seek
 use Rattle.record.specs.declared.stages.Insert.{Insert}
 use Rattle.record.specs.declared.stages.Insert.the-variants as ins
 use Rattle.record.specs.declared.stages.Removal.{Removal}
-use Rattle.record.specs.declared.stages.Removal.the-variants as rem
 use Rattle.record.specs.declared.stages.Delete.{Delete}
 use Rattle.record.specs.declared.stages.Delete.the-variants as del
 use Rattle.record.specs.declared.stages.Stage.{Stage}

@@ -1,18 +1,17 @@
 -- Demand 3, and what it means. Everything here is a statement; proofs/Demand3.antt and the files that it names prove each of them.
 use Prim.Native.Nat.{ℕ, suc, _+_, _≤_, _<_}
 use mathlib.Core.Path.{_≡_}
-use mathlib.Core.Bool.{Bool, true, false}
-use mathlib.Core.List.{List, [], _∷_, _++_}
+use mathlib.Core.Bool.{true, false}
+use mathlib.Core.List.{List, _∷_, _++_}
 use lib.ListN.{getD}
-use Rattle.record.specs.declared.queues.Processor.{Processor}
 use Rattle.record.specs.declared.queues.Queue.{Queue}
 use Rattle.checks.specs.Check.{valid}
 use Rattle.record.specs.Queues.{freshQueue, nodeAt, processorAt}
 use Rattle.rules.specs.declared.answers.Answer.the-variants as ans
 use Rattle.rules.specs.declared.answers.Entry.{Entry}
-use Rattle.rules.specs.Book.{Book, Open, deleting, delivering, emptyBook, Verdict, agrees, judged, earlier}
+use Rattle.rules.specs.Book.{Book, deleting, delivering, emptyBook, agrees, judged, earlier}
 use Rattle.rules.specs.Locks.{Lock, level, node, holderOf, Claims}
-use Rattle.rules.specs.Runs.{Call, insert, deleteMin, steps, backlog, Reply, answered, reply, afterAll}
+use Rattle.rules.specs.Runs.{Call, steps, Reply, answered, reply, afterAll}
 
 -- "The queue is just made, with any P, N and L in range."
 pub record InRange (P N L : ℕ) : Type 0 where

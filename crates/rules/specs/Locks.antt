@@ -1,5 +1,5 @@
 -- Which locks a stage says that its processor holds. W11 of document 02 rests on this.
-use Prim.Native.Nat.{ℕ, _+_}
+use Prim.Native.Nat.{ℕ}
 use mathlib.Core.Path.{_≡_}
 use mathlib.Core.Bool.{Bool, true, false}
 use Rattle.record.specs.declared.queues.Processor.{Processor}

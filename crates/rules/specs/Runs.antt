@@ -6,7 +6,6 @@ use Rattle.checks.specs.declared.counting.Count.{Count}
 use Rattle.record.specs.declared.queues.Queue.{Queue}
 use Rattle.checks.specs.Backlog.{backlogOf}
 use Rattle.rules.specs.declared.answers.Answer.{Answer}
-use Rattle.rules.specs.declared.answers.Outcome.{Outcome}
 use Rattle.rules.specs.Calls.{beginInsert, beginDelete, step}
 
 -- a call with its numbers: processor, due, item and height of an Insert; the processor of a Delete_Min and of a step

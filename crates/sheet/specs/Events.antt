@@ -1,7 +1,7 @@
 -- The history. "A history line has a letter, five such fields and a line feed (37 bytes): time, processor, then due, item, ticket for A (Insert
 -- answered), M (marked), T (handed out); due, item, height for I; zeros for D and E (EMPTY); the refusal number and two zeros for R, whose time is the
 -- unchanged clock. Moves and waits print nothing."
-use Prim.Native.Nat.{ℕ, zero, suc, _+_}
+use Prim.Native.Nat.{ℕ, zero, suc}
 use mathlib.Core.Bool.{Bool, true, false, cond}
 use mathlib.Core.List.{List, [], _∷_, _++_}
 use Rattle.record.specs.declared.queues.Queue.{Queue}
@@ -9,7 +9,7 @@ use Rattle.rules.specs.declared.answers.Answer.{Answer}
 use Rattle.rules.specs.declared.answers.Answer.the-variants as ans
 use Rattle.rules.specs.declared.answers.Entry.{Entry}
 use Rattle.rules.specs.declared.answers.Outcome.{Outcome}
-use Rattle.rules.specs.Calls.{beginInsert, beginDelete, step}
+use Rattle.rules.specs.Calls.{step}
 use Rattle.sheet.specs.declared.events.Event.{Event}
 use Rattle.sheet.specs.declared.lines.Line.{Line}
 use Rattle.sheet.specs.Columns.{columns}

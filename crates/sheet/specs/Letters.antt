@@ -2,7 +2,7 @@
 -- "Q: P, N, L. I: processor, due, item, height. D: processor. S: processor, steps (1 to 999). Another step count or another letter is out of form; other
 -- values are left to the call. Fields that a letter does not use hold 0."
 use Prim.Native.Nat.{ℕ}
-use mathlib.Core.Bool.{Bool, true, false}
+use mathlib.Core.Bool.{true, false}
 use mathlib.Core.List.{List, [], _∷_}
 use Rattle.sheet.specs.declared.lines.Rule.{Rule}
 

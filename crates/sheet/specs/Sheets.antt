@@ -1,13 +1,12 @@
 -- The run of a sheet: refusals 41, 42, 11 to 13 and 43 in their order, the history, its length, and the area that is lent for it.
-use Prim.Native.Nat.{ℕ, zero, suc, _+_, _-_, _*_}
-use mathlib.Core.Bool.{Bool, true, false, cond}
-use mathlib.Core.List.{List, [], _∷_, _++_}
+use Prim.Native.Nat.{ℕ, zero, suc, _+_, _-_}
+use mathlib.Core.Bool.{cond}
+use mathlib.Core.List.{List, [], _++_}
 use lib.Dec.{ltb, eqb}
 use lib.ListN.{length, drop}
 use Rattle.record.specs.declared.queues.Queue.{Queue}
 use Rattle.checks.specs.Making.{made}
 use Rattle.rules.specs.Calls.{beginInsert, beginDelete}
-use Rattle.sheet.specs.declared.events.Event.{Event}
 use Rattle.sheet.specs.declared.events.Ran.{Ran}
 use Rattle.sheet.specs.declared.events.Ran.the-variants as ran
 use Rattle.sheet.specs.declared.lines.Line.{Line}
