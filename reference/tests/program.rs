@@ -1,30 +1,10 @@
 //! The program: what it reads, lends and prints.
 
+mod common;
+
+use common::{D, HISTORY, PRINTED, Q};
 use std::io::Write;
 use std::process::{Command, Stdio};
-
-const PRINTED: &str = "\
-Q      1      1      1      0
-I      0      7     42      1
-S      0      9      0      0
-D      0      0      0      0
-S      0     15      0      0
-D      0      0      0      0
-S      0      1      0      0
-";
-
-const HISTORY: &str = "\
-I      1      0      7     42      1
-A     10      0      7     42      1
-D     11      0      0      0      0
-M     14      0      7     42      1
-T     26      0      7     42      1
-D     27      0      0      0      0
-E     28      0      0      0      0
-";
-
-const Q: &str = "Q      1      1      1      0\n";
-const D: &str = "D      0      0      0      0\n";
 
 fn program(input: &[u8]) -> String {
     let mut child = Command::new(env!("CARGO_BIN_EXE_darthog-reference"))
