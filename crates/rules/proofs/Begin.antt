@@ -17,10 +17,10 @@ use Rattle.rules.proofs.Put.{ever}
 use Rattle.rules.proofs.View.{Pr, View, Info, info, claim, key, tail, last, rank, entryRank}
 use Rattle.rules.proofs.Facts.{kind-any}
 use Rattle.rules.proofs.Machine.{filled}
-use Rattle.rules.proofs.Inv.{Next, Core, Entered, Busy, Good, Near, Eligible, Limbo, Led, back, limbo, Inv, sought, One, Yields}
-use Rattle.rules.proofs.Assemble.{ticked, assembled-new, limbo-other, one-new, yields-new}
+use Rattle.rules.proofs.Inv.{Next, Core, Entered, Busy, Readable, Near, Eligible, Unlinking, Led, back, unlinking, Inv, sought, One, Yields}
+use Rattle.rules.proofs.Assemble.{ticked, assembled-new, unlinking-other, one-new, yields-new}
 use Rattle.rules.proofs.Move.{near-none}
-use Rattle.rules.proofs.InsertSteps.{head-good}
+use Rattle.rules.proofs.InsertSteps.{head-readable}
 use Rattle.rules.proofs.Lead.{sure}
 
 abbrev pub walker : View → ℕ → Pr
@@ -29,7 +29,7 @@ walker v p = record { begin = v .clock + 1; own = 0; stage = stage.Delete (del.N
 -- the begin of a Delete_Min
 pub begin-delete : (v : View) (u : ℕ → ℕ → ℕ) (I : Inv v u) (room : v .clock + 1 < ever) (p : ℕ) → claim v p .kind ≡ 0 → Inv (ticked v p (walker v p)) u
 begin-delete v u I room p idle =
-    let G = head-good v u I (v .clock + 1) last 1 (I .core .levels) (omega arith) (omega arith) in
+    let G = head-readable v u I (v .clock + 1) last 1 (I .core .levels) (omega arith) (omega arith) in
     assembled-new v u p (walker v p) core
     (λ b. record {
       begun = omega arith;
@@ -105,7 +105,7 @@ begin-delete v u I room p idle =
 
     led : (q n i : ℕ) → Led v u (v .pr q .begin) n i → Led (ticked v p (walker v p)) u (v .pr q .begin) n i
     led q n i (back k) = back k
-    led q n i (limbo x l) = limbo x (limbo-other v u p (walker v p) x n i (λ e. omega (arith, idle, (rw e at (l .kind))))
+    led q n i (unlinking x l) = unlinking x (unlinking-other v u p (walker v p) x n i (λ e. omega (arith, idle, (rw e at (l .kind))))
         (record { kind = l .kind; nx = l .nx; hp = l .hp; ho = l .ho; own = l .own; level = l .level }))
 
 -- the rank of an entry, and of a node that did not change
@@ -289,9 +289,9 @@ module _ (v : View) (u : ℕ → ℕ → ℕ) (I : Inv v u) (room : v .clock + 1
     goal : sought (key w) (v .pr q .own) (claim v q .kind) ≡ sought (key v) (v .pr q .own) (claim v q .kind)
     goal = ap (λ (k : ℕ). cond (eqb (claim v q .kind) 2) last k) (key-same (v .pr q .own) o-ne)
 
-    good : (n i : ℕ) → 1 ≤ i → Good u (key v) (tail v) (v .pr q .begin) (sought (key v) (v .pr q .own) (claim v q .kind)) n i →
-        Good u′ (key w) (tail v) (v .pr q .begin) (sought (key w) (v .pr q .own) (claim v q .kind)) n i
-    good n i i≥ G =
+    readable : (n i : ℕ) → 1 ≤ i → Readable u (key v) (tail v) (v .pr q .begin) (sought (key v) (v .pr q .own) (claim v q .kind)) n i →
+        Readable u′ (key w) (tail v) (v .pr q .begin) (sought (key w) (v .pr q .own) (claim v q .kind)) n i
+    readable n i i≥ G =
         let ne = seen-ne q n i b i≥ (G .seen) in
         record { below = G .below; seen = rw (u-same n i ne) (G .seen); before = omega (arith, goal, key-same n ne, G .before) }
 
@@ -330,9 +330,9 @@ module _ (v : View) (u : ℕ → ℕ → ℕ) (I : Inv v u) (room : v .clock + 1
           begun-by = omega (arith, B .begun-by);
           low = B .low;
           high = B .high;
-          place = good _ _ (B .low) (B .place);
-          read = good _ _ (B .low) (B .read);
-          saved = λ j f j≥ j≤. good _ _ j≥ (B .saved j f j≥ j≤);
+          place = readable _ _ (B .low) (B .place);
+          read = readable _ _ (B .low) (B .read);
+          saved = λ j f j≥ j≤. readable _ _ j≥ (B .saved j f j≥ j≤);
           holds-place = λ k. rw (lk-same (claim v q .node) (claim v q .level) a-ne) (B .holds-place k);
           holds-own = λ k. rw (lk-same (v .pr q .own) (claim v q .level) o-ne) (B .holds-own k);
           holds-node = λ k. rw (upd-other (v .nl) x (suc p) (v .pr q .own) o-ne) (B .holds-node k);
@@ -380,9 +380,9 @@ module _ (v : View) (u : ℕ → ℕ → ℕ) (I : Inv v u) (room : v .clock + 1
             let se = seen-ne q (v .fwd n i) i b i≥ (k .seen) in
             let f = fwd-same n i ne in
             back (record { below = rw f (k .below); seen = rw (f, u-same (v .fwd n i) i se) (k .seen); less = rw (f, key-same (v .fwd n i) se, key-same n ne) (k .less) })
-        go ne (limbo y l) = limbo y (limbo-other w u′ p (inserter v p x) y n i (λ e. omega (arith, idle, (rw e at (l .kind)))) (moved (omega (arith, l .kind))))
+        go ne (unlinking y l) = unlinking y (unlinking-other w u′ p (inserter v p x) y n i (λ e. omega (arith, idle, (rw e at (l .kind)))) (moved (omega (arith, l .kind))))
           where
-            moved : 1 ≤ claim v y .kind → Limbo w y n i
+            moved : 1 ≤ claim v y .kind → Unlinking w y n i
             moved by = let e = claim-w y by in record {
               kind = subst (λ (f : Info). f .kind ≡ 3) (sym e) (l .kind);
               nx = subst (λ (f : Info). f .nx ≡ 4) (sym e) (l .nx);
@@ -421,7 +421,7 @@ module _ (v : View) (u : ℕ → ℕ → ℕ) (I : Inv v u) (room : v .clock + 1
         walks = λ k. absurd (omega arith);
       }
     where
-      G : Good u′ (key w) (tail v) (v .clock + 1) (key w x) 0 (v .top)
+      G : Readable u′ (key w) (tail v) (v .clock + 1) (key w x) 0 (v .top)
       G = record {
         below = omega arith;
         seen = rw (u-same 0 (v .top) (λ e. omega arith)) (omega (arith, I .core .ends .head-on (v .top) (omega arith)));

@@ -44,16 +44,16 @@ use Rattle.rules.proofs.Picks.{order, Candidate, Picked, none, one, pic
 use Rattle.rules.proofs.Rel.{opens, lineOf, Found, Filed, Rel, Booked, quiet, Quiet, quiet-booked}
 
 -- a decision of a seek is quiet where its effect is
-abbrev soft : Sought → Type 0
-soft (sght.Goes e k) = quiet e
-soft (sght.Waits k) = Unit {0}
-soft (sght.Done a) = Unit {0}
+abbrev sought-quiet : Sought → Type 0
+sought-quiet (sght.Goes e k) = quiet e
+sought-quiet (sght.Waits k) = Unit {0}
+sought-quiet (sght.Done a) = Unit {0}
 
-soft-seek : (s : Sight) (k : Seek) → soft (seekStep s k)
-soft-seek s (seek.Approach a) = cond-elim soft (s .before) _ _ tt tt
-soft-seek s (seek.Take a) = cond-elim soft (eqb (s .guard) 0) _ _ tt tt
-soft-seek s (seek.Confirm a) = cond-elim soft (s .before) _ _ tt tt
-soft-seek s (seek.Release a b) = tt
+seek-quiet : (s : Sight) (k : Seek) → sought-quiet (seekStep s k)
+seek-quiet s (seek.Approach a) = cond-elim sought-quiet (s .before) _ _ tt tt
+seek-quiet s (seek.Take a) = cond-elim sought-quiet (eqb (s .guard) 0) _ _ tt tt
+seek-quiet s (seek.Confirm a) = cond-elim sought-quiet (s .before) _ _ tt tt
+seek-quiet s (seek.Release a b) = tt
 
 kind-seek-insert : (h : ℕ) (k : Seek) → info h (stage.Insert (ins.Seek k)) .kind ≡ 1
 kind-seek-insert h (seek.Approach a) = refl
@@ -67,12 +67,12 @@ kind-seek-delete h (seek.Take a) = refl
 kind-seek-delete h (seek.Confirm a) = refl
 kind-seek-delete h (seek.Release a b) = refl
 
-quiet-insert-sought : (s : Sight) (r : Sought) → soft r → Quiet (s .own) 1 (insertSought s r)
+quiet-insert-sought : (s : Sight) (r : Sought) → sought-quiet r → Quiet (s .own) 1 (insertSought s r)
 quiet-insert-sought s (sght.Goes e k) q = record { answer = tt; effect = q; own-same = refl; begin-same = λ t b. refl; kind-same = λ h. kind-seek-insert h k }
 quiet-insert-sought s (sght.Waits k) q = record { answer = tt; effect = tt; own-same = refl; begin-same = λ t b. refl; kind-same = λ h. kind-seek-insert h k }
 quiet-insert-sought s (sght.Done a) q = record { answer = tt; effect = tt; own-same = refl; begin-same = λ t b. refl; kind-same = λ h. refl }
 
-quiet-delete-sought : (s : Sight) (r : Sought) → soft r → Quiet (s .own) 3 (removalSought s r)
+quiet-delete-sought : (s : Sight) (r : Sought) → sought-quiet r → Quiet (s .own) 3 (removalSought s r)
 quiet-delete-sought s (sght.Goes e k) q = record { answer = tt; effect = q; own-same = refl; begin-same = λ t b. refl; kind-same = λ h. kind-seek-delete h k }
 quiet-delete-sought s (sght.Waits k) q = record { answer = tt; effect = tt; own-same = refl; begin-same = λ t b. refl; kind-same = λ h. kind-seek-delete h k }
 quiet-delete-sought s (sght.Done a) q = record { answer = tt; effect = tt; own-same = refl; begin-same = λ t b. refl; kind-same = λ h. refl }
@@ -268,8 +268,8 @@ module _ (v : View) (u : ℕ → ℕ → ℕ) (I : Inv v u) (H : NodeHeld v) (ro
             (λ nu. absurd (omega (arith, upd-same (v .us) o (v .clock + 1 + 2)))) (λ m. absurd (true≢false (sym marked ∙ m))) refl (λ k. omega arith);
       }
 
-  hush : (s : Stage) → v .pr p .stage ≡ s → 1 ≤ info (v .ht (v .pr p .own)) s .kind → (d : Decision) → Quiet (v .pr p .own) (info (v .ht (v .pr p .own)) s .kind) d → Booked v p b d
-  hush s e k d Q = quiet-booked v p b d R (omega (arith, kind-at v u I p s e)) (subst (λ (n : ℕ). Quiet (v .pr p .own) n d) (sym (kind-at v u I p s e)) Q)
+  quiet-step : (s : Stage) → v .pr p .stage ≡ s → 1 ≤ info (v .ht (v .pr p .own)) s .kind → (d : Decision) → Quiet (v .pr p .own) (info (v .ht (v .pr p .own)) s .kind) d → Booked v p b d
+  quiet-step s e k d Q = quiet-booked v p b d R (omega (arith, kind-at v u I p s e)) (subst (λ (n : ℕ). Quiet (v .pr p .own) n d) (sym (kind-at v u I p s e)) Q)
 
   empty-booked : (a : Place) → v .pr p .stage ≡ stage.Delete (del.Next a) → Booked v p b (decision v p (stage.Delete (del.Next a)))
   empty-booked a e = go (eqb (v .fwd (a .node) 1) (tail v)) refl
@@ -280,13 +280,13 @@ module _ (v : View) (u : ℕ → ℕ → ℕ) (I : Inv v u) (H : NodeHeld v) (ro
         fed = rw (open-at (stage.Delete (del.Next a)) e, eq-eqb (pick b (v .pr p .begin)) 0 (pick-none v u I b R (v .pr p .begin) (λ n L. empty-right v u I H room p a e (eqb-true _ _ x) n L)));
         rel = rel-open v b R p (idle (v .top) (v .pr p)) nothing refl (λ k. omega arith);
       })
-      go false x = rw x (hush (stage.Delete (del.Next a)) e (omega arith) _ (record { answer = tt; effect = tt; own-same = refl; begin-same = λ t b. refl; kind-same = λ h. refl }))
+      go false x = rw x (quiet-step (stage.Delete (del.Next a)) e (omega arith) _ (record { answer = tt; effect = tt; own-same = refl; begin-same = λ t b. refl; kind-same = λ h. refl }))
 
   mark-booked : (a : Place) → v .pr p .stage ≡ stage.Delete (del.Mark a) → Booked v p b (decision v p (stage.Delete (del.Mark a)))
   mark-booked a e = go (ltb 0 (v .mk (a .node))) refl
     where
       go : (t : Bool) → ltb 0 (v .mk (a .node)) ≡ t → Booked v p b (decision v p (stage.Delete (del.Mark a)))
-      go true x = rw x (hush (stage.Delete (del.Mark a)) e (omega arith) _ (record { answer = tt; effect = tt; own-same = refl; begin-same = λ t b. refl; kind-same = λ h. refl }))
+      go true x = rw x (quiet-step (stage.Delete (del.Mark a)) e (omega arith) _ (record { answer = tt; effect = tt; own-same = refl; begin-same = λ t b. refl; kind-same = λ h. refl }))
       go false x =
           let s = stage.Delete (del.Mark a) in
           let n = a .node in
@@ -306,23 +306,23 @@ module _ (v : View) (u : ℕ → ℕ → ℕ) (I : Inv v u) (H : NodeHeld v) (ro
 
   pub booked : (s : Stage) → v .pr p .stage ≡ s → 1 ≤ info (v .ht (v .pr p .own)) s .kind → Booked v p b (decision v p s)
   booked stage.Idle e k = absurd (omega arith)
-  booked (stage.Insert (ins.Search a)) e k = hush (stage.Insert (ins.Search a)) e k _ (quiet-insert-searched (sight v (v .pr p) a) a (searchStep (sight v (v .pr p) a) a))
-  booked (stage.Insert (ins.Seek j)) e k = hush (stage.Insert (ins.Seek j)) e k _ (subst (λ (n : ℕ). Quiet (v .pr p .own) n (decision v p (stage.Insert (ins.Seek j)))) (sym (kind-seek-insert (v .ht (v .pr p .own)) j)) (quiet-insert-sought (sight v (v .pr p) (seekCarried j .place)) (seekStep (sight v (v .pr p) (seekCarried j .place)) j) (soft-seek (sight v (v .pr p) (seekCarried j .place)) j)))
-  booked (stage.Insert (ins.Copy a)) e k = hush (stage.Insert (ins.Copy a)) e k _ (record { answer = tt; effect = tt; own-same = refl; begin-same = λ t b. refl; kind-same = λ h. refl })
-  booked (stage.Insert (ins.Link a)) e k = hush (stage.Insert (ins.Link a)) e k _ (record { answer = tt; effect = tt; own-same = refl; begin-same = λ t b. refl; kind-same = λ h. refl })
-  booked (stage.Insert (ins.FreeLevel a)) e k = hush (stage.Insert (ins.FreeLevel a)) e k _ (cond-elim (Quiet (v .pr p .own) 1) (ltb (a .level) (v .ht (v .pr p .own))) _ _ (record { answer = tt; effect = tt; own-same = refl; begin-same = λ t b. refl; kind-same = λ h. refl }) (record { answer = tt; effect = tt; own-same = refl; begin-same = λ t b. refl; kind-same = λ h. refl }))
-  booked (stage.Insert ins.FreeNode) e k = hush (stage.Insert ins.FreeNode) e k _ (record { answer = tt; effect = tt; own-same = refl; begin-same = λ t b. refl; kind-same = λ h. refl })
+  booked (stage.Insert (ins.Search a)) e k = quiet-step (stage.Insert (ins.Search a)) e k _ (quiet-insert-searched (sight v (v .pr p) a) a (searchStep (sight v (v .pr p) a) a))
+  booked (stage.Insert (ins.Seek j)) e k = quiet-step (stage.Insert (ins.Seek j)) e k _ (subst (λ (n : ℕ). Quiet (v .pr p .own) n (decision v p (stage.Insert (ins.Seek j)))) (sym (kind-seek-insert (v .ht (v .pr p .own)) j)) (quiet-insert-sought (sight v (v .pr p) (seekCarried j .place)) (seekStep (sight v (v .pr p) (seekCarried j .place)) j) (seek-quiet (sight v (v .pr p) (seekCarried j .place)) j)))
+  booked (stage.Insert (ins.Copy a)) e k = quiet-step (stage.Insert (ins.Copy a)) e k _ (record { answer = tt; effect = tt; own-same = refl; begin-same = λ t b. refl; kind-same = λ h. refl })
+  booked (stage.Insert (ins.Link a)) e k = quiet-step (stage.Insert (ins.Link a)) e k _ (record { answer = tt; effect = tt; own-same = refl; begin-same = λ t b. refl; kind-same = λ h. refl })
+  booked (stage.Insert (ins.FreeLevel a)) e k = quiet-step (stage.Insert (ins.FreeLevel a)) e k _ (cond-elim (Quiet (v .pr p .own) 1) (ltb (a .level) (v .ht (v .pr p .own))) _ _ (record { answer = tt; effect = tt; own-same = refl; begin-same = λ t b. refl; kind-same = λ h. refl }) (record { answer = tt; effect = tt; own-same = refl; begin-same = λ t b. refl; kind-same = λ h. refl }))
+  booked (stage.Insert ins.FreeNode) e k = quiet-step (stage.Insert ins.FreeNode) e k _ (record { answer = tt; effect = tt; own-same = refl; begin-same = λ t b. refl; kind-same = λ h. refl })
   booked (stage.Insert ins.Stamp) e k = stamp-booked e
   booked (stage.Delete (del.Next a)) e k = empty-booked a e
-  booked (stage.Delete (del.Stamped a)) e k = hush (stage.Delete (del.Stamped a)) e k _ (cond-elim (Quiet (v .pr p .own) 2) (ltb (v .st (a .node)) (v .pr p .begin)) _ _ (record { answer = tt; effect = tt; own-same = refl; begin-same = λ t b. refl; kind-same = λ h. refl }) (record { answer = tt; effect = tt; own-same = refl; begin-same = λ t b. refl; kind-same = λ h. refl }))
+  booked (stage.Delete (del.Stamped a)) e k = quiet-step (stage.Delete (del.Stamped a)) e k _ (cond-elim (Quiet (v .pr p .own) 2) (ltb (v .st (a .node)) (v .pr p .begin)) _ _ (record { answer = tt; effect = tt; own-same = refl; begin-same = λ t b. refl; kind-same = λ h. refl }) (record { answer = tt; effect = tt; own-same = refl; begin-same = λ t b. refl; kind-same = λ h. refl }))
   booked (stage.Delete (del.Mark a)) e k = mark-booked a e
-  booked (stage.Delete (del.Removal (rem.Search a))) e k = hush (stage.Delete (del.Removal (rem.Search a))) e k _ (quiet-delete-searched (sight v (v .pr p) a) a (searchStep (sight v (v .pr p) a) a))
-  booked (stage.Delete (del.Removal rem.HoldNode)) e k = hush (stage.Delete (del.Removal rem.HoldNode)) e k _ (cond-elim (Quiet (v .pr p .own) 3) (eqb (v .nl (v .pr p .own)) 0) _ _ (record { answer = tt; effect = tt; own-same = refl; begin-same = λ t b. refl; kind-same = λ h. refl }) (record { answer = tt; effect = tt; own-same = refl; begin-same = λ t b. refl; kind-same = λ h. refl }))
-  booked (stage.Delete (del.Removal (rem.Seek j))) e k = hush (stage.Delete (del.Removal (rem.Seek j))) e k _ (subst (λ (n : ℕ). Quiet (v .pr p .own) n (decision v p (stage.Delete (del.Removal (rem.Seek j))))) (sym (kind-seek-delete (v .ht (v .pr p .own)) j)) (quiet-delete-sought (sight v (v .pr p) (seekCarried j .place)) (seekStep (sight v (v .pr p) (seekCarried j .place)) j) (soft-seek (sight v (v .pr p) (seekCarried j .place)) j)))
-  booked (stage.Delete (del.Removal (rem.HoldOwn a))) e k = hush (stage.Delete (del.Removal (rem.HoldOwn a))) e k _ (cond-elim (Quiet (v .pr p .own) 3) (eqb (v .lk (v .pr p .own) (a .level)) 0) _ _ (record { answer = tt; effect = tt; own-same = refl; begin-same = λ t b. refl; kind-same = λ h. refl }) (record { answer = tt; effect = tt; own-same = refl; begin-same = λ t b. refl; kind-same = λ h. refl }))
-  booked (stage.Delete (del.Removal (rem.Unlink a))) e k = hush (stage.Delete (del.Removal (rem.Unlink a))) e k _ (record { answer = tt; effect = tt; own-same = refl; begin-same = λ t b. refl; kind-same = λ h. refl })
-  booked (stage.Delete (del.Removal (rem.Back a))) e k = hush (stage.Delete (del.Removal (rem.Back a))) e k _ (record { answer = tt; effect = tt; own-same = refl; begin-same = λ t b. refl; kind-same = λ h. refl })
-  booked (stage.Delete (del.Removal (rem.FreeOwn a))) e k = hush (stage.Delete (del.Removal (rem.FreeOwn a))) e k _ (record { answer = tt; effect = tt; own-same = refl; begin-same = λ t b. refl; kind-same = λ h. refl })
-  booked (stage.Delete (del.Removal (rem.FreeLevel a))) e k = hush (stage.Delete (del.Removal (rem.FreeLevel a))) e k _ (cond-elim (Quiet (v .pr p .own) 3) (leb (a .level) 1) _ _ (record { answer = tt; effect = tt; own-same = refl; begin-same = λ t b. refl; kind-same = λ h. refl }) (record { answer = tt; effect = tt; own-same = refl; begin-same = λ t b. refl; kind-same = λ h. refl }))
-  booked (stage.Delete (del.Removal rem.FreeNode)) e k = hush (stage.Delete (del.Removal rem.FreeNode)) e k _ (record { answer = tt; effect = tt; own-same = refl; begin-same = λ t b. refl; kind-same = λ h. refl })
+  booked (stage.Delete (del.Removal (rem.Search a))) e k = quiet-step (stage.Delete (del.Removal (rem.Search a))) e k _ (quiet-delete-searched (sight v (v .pr p) a) a (searchStep (sight v (v .pr p) a) a))
+  booked (stage.Delete (del.Removal rem.HoldNode)) e k = quiet-step (stage.Delete (del.Removal rem.HoldNode)) e k _ (cond-elim (Quiet (v .pr p .own) 3) (eqb (v .nl (v .pr p .own)) 0) _ _ (record { answer = tt; effect = tt; own-same = refl; begin-same = λ t b. refl; kind-same = λ h. refl }) (record { answer = tt; effect = tt; own-same = refl; begin-same = λ t b. refl; kind-same = λ h. refl }))
+  booked (stage.Delete (del.Removal (rem.Seek j))) e k = quiet-step (stage.Delete (del.Removal (rem.Seek j))) e k _ (subst (λ (n : ℕ). Quiet (v .pr p .own) n (decision v p (stage.Delete (del.Removal (rem.Seek j))))) (sym (kind-seek-delete (v .ht (v .pr p .own)) j)) (quiet-delete-sought (sight v (v .pr p) (seekCarried j .place)) (seekStep (sight v (v .pr p) (seekCarried j .place)) j) (seek-quiet (sight v (v .pr p) (seekCarried j .place)) j)))
+  booked (stage.Delete (del.Removal (rem.HoldOwn a))) e k = quiet-step (stage.Delete (del.Removal (rem.HoldOwn a))) e k _ (cond-elim (Quiet (v .pr p .own) 3) (eqb (v .lk (v .pr p .own) (a .level)) 0) _ _ (record { answer = tt; effect = tt; own-same = refl; begin-same = λ t b. refl; kind-same = λ h. refl }) (record { answer = tt; effect = tt; own-same = refl; begin-same = λ t b. refl; kind-same = λ h. refl }))
+  booked (stage.Delete (del.Removal (rem.Unlink a))) e k = quiet-step (stage.Delete (del.Removal (rem.Unlink a))) e k _ (record { answer = tt; effect = tt; own-same = refl; begin-same = λ t b. refl; kind-same = λ h. refl })
+  booked (stage.Delete (del.Removal (rem.Back a))) e k = quiet-step (stage.Delete (del.Removal (rem.Back a))) e k _ (record { answer = tt; effect = tt; own-same = refl; begin-same = λ t b. refl; kind-same = λ h. refl })
+  booked (stage.Delete (del.Removal (rem.FreeOwn a))) e k = quiet-step (stage.Delete (del.Removal (rem.FreeOwn a))) e k _ (record { answer = tt; effect = tt; own-same = refl; begin-same = λ t b. refl; kind-same = λ h. refl })
+  booked (stage.Delete (del.Removal (rem.FreeLevel a))) e k = quiet-step (stage.Delete (del.Removal (rem.FreeLevel a))) e k _ (cond-elim (Quiet (v .pr p .own) 3) (leb (a .level) 1) _ _ (record { answer = tt; effect = tt; own-same = refl; begin-same = λ t b. refl; kind-same = λ h. refl }) (record { answer = tt; effect = tt; own-same = refl; begin-same = λ t b. refl; kind-same = λ h. refl }))
+  booked (stage.Delete (del.Removal rem.FreeNode)) e k = quiet-step (stage.Delete (del.Removal rem.FreeNode)) e k _ (record { answer = tt; effect = tt; own-same = refl; begin-same = λ t b. refl; kind-same = λ h. refl })
   booked (stage.Delete (del.Removal rem.Retire)) e k = retire-booked e

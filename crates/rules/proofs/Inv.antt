@@ -58,7 +58,7 @@ pub record Core (v : View) (until : ℕ → ℕ → ℕ) : Type 0 where
   pub entered : (n : ℕ) → 1 ≤ n → n < tail v → Entered until (v .us) (v .mk) (v .nl) (v .ht) (v .tick) (v .due) (v .top) (v .clock) n
 
 -- S1: a place or a saved node that may be read on from, for an operation begun at T that seeks the key g
-pub record Good (until : ℕ → ℕ → ℕ) (k : ℕ → ℕ) (tail T g a i : ℕ) : Type 0 where
+pub record Readable (until : ℕ → ℕ → ℕ) (k : ℕ → ℕ) (tail T g a i : ℕ) : Type 0 where
   pub below : a < tail
   pub seen : T ≤ until a i
   pub before : k a < g
@@ -117,9 +117,9 @@ pub record Busy (v : View) (until : ℕ → ℕ → ℕ) (q : ℕ) (c : Pr) (f :
   pub begun-by : c .begin ≤ v .clock
   pub low : 1 ≤ f .level
   pub high : f .level ≤ v .top
-  pub place : Good until (key v) (tail v) (c .begin) (sought (key v) (c .own) (f .kind)) (f .node) (f .level)
-  pub read : Good until (key v) (tail v) (c .begin) (sought (key v) (c .own) (f .kind)) (f .b) (f .level)
-  pub saved : (j : ℕ) → f .from ≤ j → 1 ≤ j → j ≤ v .top → Good until (key v) (tail v) (c .begin) (sought (key v) (c .own) (f .kind)) (c .saved j) j
+  pub place : Readable until (key v) (tail v) (c .begin) (sought (key v) (c .own) (f .kind)) (f .node) (f .level)
+  pub read : Readable until (key v) (tail v) (c .begin) (sought (key v) (c .own) (f .kind)) (f .b) (f .level)
+  pub saved : (j : ℕ) → f .from ≤ j → 1 ≤ j → j ≤ v .top → Readable until (key v) (tail v) (c .begin) (sought (key v) (c .own) (f .kind)) (c .saved j) j
   pub holds-place : f .hp ≡ 1 → v .lk (f .node) (f .level) ≡ suc q
   pub holds-own : f .ho ≡ 1 → v .lk (c .own) (f .level) ≡ suc q
   pub holds-node : f .hn ≡ 1 → v .nl (c .own) ≡ suc q
@@ -135,7 +135,7 @@ pub record Back (fwd until : ℕ → ℕ → ℕ) (k : ℕ → ℕ) (tail T n i 
   pub seen : T ≤ until (fwd n i) i
   pub less : k (fwd n i) < k n
 
-pub record Limbo (v : View) (q n i : ℕ) : Type 0 where
+pub record Unlinking (v : View) (q n i : ℕ) : Type 0 where
   pub kind : claim v q .kind ≡ 3
   pub nx : claim v q .nx ≡ 4
   pub hp : claim v q .hp ≡ 1
@@ -145,7 +145,7 @@ pub record Limbo (v : View) (q n i : ℕ) : Type 0 where
 
 pub data Led (v : View) (until : ℕ → ℕ → ℕ) (T n i : ℕ) : Type 0 where
   back : Back (v .fwd) until (key v) (tail v) T n i → Led v until T n i
-  limbo : (q : ℕ) → Limbo v q n i → Led v until T n i
+  unlinking : (q : ℕ) → Unlinking v q n i → Led v until T n i
 
 -- S4: at most one Insert and at most one remover own a node
 abbrev pub One : (ℕ → Info) → (ℕ → Pr) → Type 0

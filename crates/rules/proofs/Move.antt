@@ -10,7 +10,7 @@ use Rattle.record.specs.declared.stages.Stage.{Stage}
 use Rattle.record.specs.Stages.{place}
 use Rattle.rules.proofs.Put.{ever, put, put-same, put-other, put-keeps}
 use Rattle.rules.proofs.View.{Pr, View, Info, info, seeks, claim, key, tail}
-use Rattle.rules.proofs.Inv.{Busy, Good, Near, Inv, sought}
+use Rattle.rules.proofs.Inv.{Busy, Readable, Near, Inv, sought}
 use Rattle.rules.proofs.Read.{read-seen, settled}
 use Rattle.rules.proofs.Assemble.{ticked, yields-kept}
 use Rattle.rules.proofs.Machine.{withLocks}
@@ -31,8 +31,8 @@ near-none fwd u k own a i = record {
 }
 
 -- a seen node stays seen
-pub good-put : (u : ℕ → ℕ → ℕ) (k : ℕ → ℕ) (tail T g a i o j t : ℕ) → T ≤ t → Good u k tail T g a i → Good (put u o j t) k tail T g a i
-good-put u k tail T g a i o j t le G = record { below = G .below; seen = put-keeps (λ m. T ≤ m) u o j t a i le (G .seen); before = G .before }
+pub readable-put : (u : ℕ → ℕ → ℕ) (k : ℕ → ℕ) (tail T g a i o j t : ℕ) → T ≤ t → Readable u k tail T g a i → Readable (put u o j t) k tail T g a i
+readable-put u k tail T g a i o j t le G = record { below = G .below; seen = put-keeps (λ m. T ≤ m) u o j t a i le (G .seen); before = G .before }
 
 -- a lock that was free or p's own is nobody else's
 pub lock-kept : (lk : ℕ → ℕ → ℕ) (p a i x : ℕ) → lk a i ≡ suc p → (q n j : ℕ) → (q ≡ p → ⊥) → lk n j ≡ suc q → put lk a i x n j ≡ suc q
@@ -73,8 +73,8 @@ module _ (v : View) (u : ℕ → ℕ → ℕ) (I : Inv v u) (p : ℕ) where
 
   -- the node read is before own, so it may be the next place
   pub ahead : (a i : ℕ) → 1 ≤ claim v p .kind → 1 ≤ i → 1 ≤ v .pr p .own → v .pr p .own ≤ v .nodes →
-      Good u (key v) (tail v) (v .pr p .begin) (key v (v .pr p .own)) a i → key v (v .fwd a i) < key v (v .pr p .own) →
-      Good u (key v) (tail v) (v .pr p .begin) (key v (v .pr p .own)) (v .fwd a i) i
+      Readable u (key v) (tail v) (v .pr p .begin) (key v (v .pr p .own)) a i → key v (v .fwd a i) < key v (v .pr p .own) →
+      Readable u (key v) (tail v) (v .pr p .begin) (key v (v .pr p .own)) (v .fwd a i) i
   ahead a i b i≥ o≥ o≤ G lt =
       let r = read-seen v u I p a i b i≥ (G .below) (G .seen) in
       record { below = below (r .0) (ℕ-discrete (v .fwd a i) (tail v)); seen = r .1; before = lt }
@@ -139,15 +139,15 @@ module _ (v : View) (u : ℕ → ℕ → ℕ) (I : Inv v u) (room : v .clock + 1
   Goes lk k = Inv (ticked (withLocks v lk (v .nl)) p (staged (v .pr p) (wrap k))) u
 
   -- the place or the b read, put where the seek goes on
-  ahead-good : (a : Place) → 1 ≤ a .level → Good u (key v) (tail v) (v .pr p .begin) (sought (key v) (v .pr p .own) kd) (a .node) (a .level) → 1 ≤ claim v p .kind → key v (v .fwd (a .node) (a .level)) < key v (v .pr p .own) →
-      Good u (key v) (tail v) (v .pr p .begin) (sought (key v) (v .pr p .own) kd) (v .fwd (a .node) (a .level)) (a .level)
-  ahead-good a l G b lt = rw goal (ahead v u I p (a .node) (a .level) b l o≥ o≤ (rw goal at G) lt)
+  ahead-readable : (a : Place) → 1 ≤ a .level → Readable u (key v) (tail v) (v .pr p .begin) (sought (key v) (v .pr p .own) kd) (a .node) (a .level) → 1 ≤ claim v p .kind → key v (v .fwd (a .node) (a .level)) < key v (v .pr p .own) →
+      Readable u (key v) (tail v) (v .pr p .begin) (sought (key v) (v .pr p .own) kd) (v .fwd (a .node) (a .level)) (a .level)
+  ahead-readable a l G b lt = rw goal (ahead v u I p (a .node) (a .level) b l o≥ o≤ (rw goal at G) lt)
 
   pub approach-ahead : (a : Place) → v .pr p .stage ≡ wrap (seek.Approach a) → key v (v .fwd (a .node) (a .level)) < key v (v .pr p .own) →
       Goes (v .lk) (seek.Approach (place (v .fwd (a .node) (a .level)) (a .level)))
   approach-ahead a e lt =
       let B = seek-busy (seek.Approach a) e in
-      let G = ahead-good a (B .low) (B .place) (omega (arith, seek-kind-now (seek.Approach a) e)) lt in
+      let G = ahead-readable a (B .low) (B .place) (omega (arith, seek-kind-now (seek.Approach a) e)) lt in
       seek-locked (seek.Approach a) _ e (v .lk) (λ q n i ne h. h) (record {
         begun = B .begun;
         begun-by = omega (arith, B .begun-by);
@@ -232,7 +232,7 @@ module _ (v : View) (u : ℕ → ℕ → ℕ) (I : Inv v u) (room : v .clock + 1
   pub confirm-release : (a : Place) → v .pr p .stage ≡ wrap (seek.Confirm a) → key v (v .fwd (a .node) (a .level)) < key v (v .pr p .own) → Goes (v .lk) (seek.Release a (v .fwd (a .node) (a .level)))
   confirm-release a e lt =
       let B = seek-busy (seek.Confirm a) e in
-      let G = ahead-good a (B .low) (B .place) (omega (arith, seek-kind-now (seek.Confirm a) e)) lt in
+      let G = ahead-readable a (B .low) (B .place) (omega (arith, seek-kind-now (seek.Confirm a) e)) lt in
       seek-locked (seek.Confirm a) _ e (v .lk) (λ q n i ne h. h) (record {
         begun = B .begun;
         begun-by = omega (arith, B .begun-by);

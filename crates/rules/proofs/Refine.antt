@@ -97,22 +97,22 @@ saves-in carry.Clear = Unit {0}
 saves-in carry.Begin = Unit {0}
 
 -- an effect leaves due and ticket small
-abbrev pub little : Effect → Type 0
-little eff.Keep = Unit {0}
-little (eff.HoldLevel a) = Unit {0}
-little (eff.FreeLevel a) = Unit {0}
-little (eff.Lead a x) = Unit {0}
-little (eff.HoldNode x) = Unit {0}
-little (eff.FreeNode x) = Unit {0}
-little (eff.Mark x) = Unit {0}
-little (eff.Stamp x) = Unit {0}
-little (eff.Retire x) = Unit {0}
-little (eff.Fill x d i h) = d ≤ 999999
+abbrev pub due-small : Effect → Type 0
+due-small eff.Keep = Unit {0}
+due-small (eff.HoldLevel a) = Unit {0}
+due-small (eff.FreeLevel a) = Unit {0}
+due-small (eff.Lead a x) = Unit {0}
+due-small (eff.HoldNode x) = Unit {0}
+due-small (eff.FreeNode x) = Unit {0}
+due-small (eff.Mark x) = Unit {0}
+due-small (eff.Stamp x) = Unit {0}
+due-small (eff.Retire x) = Unit {0}
+due-small (eff.Fill x d i h) = d ≤ 999999
 
 pub record Reach (N : ℕ) (d : Decision) : Type 0 where
   pub effect : reach N (d .effect)
   pub saves : saves-in (d .carry)
-  pub little : little (d .effect)
+  pub due-small : due-small (d .effect)
 
 reach-node : (N : ℕ) (e : Effect) → reach N e → nodeOf e ≤ N
 reach-node N eff.Keep r = omega arith
@@ -191,35 +191,35 @@ applied-view q S p d p< N≤ L≤ R =
 
 -- every decision of a reached record writes within it
 reach-insert-searched : (N : ℕ) (s : Sight) (a : Place) (r : Searched) → 1 ≤ a .level → a .level ≤ 8 → Reach N (insertSearched s a r)
-reach-insert-searched N s a (srch.Ahead b) l h = record { effect = tt; saves = tt; little = tt }
-reach-insert-searched N s a (srch.Down b) l h = record { effect = tt; saves = (l, h); little = tt }
-reach-insert-searched N s a (srch.Left b) l h = record { effect = tt; saves = (l, h); little = tt }
+reach-insert-searched N s a (srch.Ahead b) l h = record { effect = tt; saves = tt; due-small = tt }
+reach-insert-searched N s a (srch.Down b) l h = record { effect = tt; saves = (l, h); due-small = tt }
+reach-insert-searched N s a (srch.Left b) l h = record { effect = tt; saves = (l, h); due-small = tt }
 
 reach-delete-searched : (N : ℕ) (s : Sight) (a : Place) (r : Searched) → 1 ≤ a .level → a .level ≤ 8 → Reach N (removalSearched s a r)
-reach-delete-searched N s a (srch.Ahead b) l h = record { effect = tt; saves = tt; little = tt }
-reach-delete-searched N s a (srch.Down b) l h = record { effect = tt; saves = (l, h); little = tt }
-reach-delete-searched N s a (srch.Left b) l h = record { effect = tt; saves = (l, h); little = tt }
+reach-delete-searched N s a (srch.Ahead b) l h = record { effect = tt; saves = tt; due-small = tt }
+reach-delete-searched N s a (srch.Down b) l h = record { effect = tt; saves = (l, h); due-small = tt }
+reach-delete-searched N s a (srch.Left b) l h = record { effect = tt; saves = (l, h); due-small = tt }
 
-abbrev soft : ℕ → Sought → Type 0
-soft N (sght.Goes e k) = reach N e × little e
-soft N (sght.Waits k) = Unit {0}
-soft N (sght.Done a) = Unit {0}
+abbrev sought-reaches : ℕ → Sought → Type 0
+sought-reaches N (sght.Goes e k) = reach N e × due-small e
+sought-reaches N (sght.Waits k) = Unit {0}
+sought-reaches N (sght.Done a) = Unit {0}
 
-soft-seek : (N : ℕ) (s : Sight) (k : Seek) → seekCarried k .place .node ≤ N → 1 ≤ seekCarried k .place .level → seekCarried k .place .level ≤ 8 → soft N (seekStep s k)
-soft-seek N s (seek.Approach a) n l h = cond-elim (soft N) (s .before) (sght.Goes eff.Keep (seek.Approach (place (s .next) (a .level)))) (sght.Goes eff.Keep (seek.Take a)) (tt, tt) (tt, tt)
-soft-seek N s (seek.Take a) n l h = cond-elim (soft N) (eqb (s .guard) 0) (sght.Goes (eff.HoldLevel a) (seek.Confirm a)) (sght.Waits (seek.Take a)) ((n, l, h), tt) tt
-soft-seek N s (seek.Confirm a) n l h = cond-elim (soft N) (s .before) (sght.Goes eff.Keep (seek.Release a (s .next))) (sght.Done a) (tt, tt) tt
-soft-seek N s (seek.Release a b) n l h = ((n, l, h), tt)
+seek-reaches : (N : ℕ) (s : Sight) (k : Seek) → seekCarried k .place .node ≤ N → 1 ≤ seekCarried k .place .level → seekCarried k .place .level ≤ 8 → sought-reaches N (seekStep s k)
+seek-reaches N s (seek.Approach a) n l h = cond-elim (sought-reaches N) (s .before) (sght.Goes eff.Keep (seek.Approach (place (s .next) (a .level)))) (sght.Goes eff.Keep (seek.Take a)) (tt, tt) (tt, tt)
+seek-reaches N s (seek.Take a) n l h = cond-elim (sought-reaches N) (eqb (s .guard) 0) (sght.Goes (eff.HoldLevel a) (seek.Confirm a)) (sght.Waits (seek.Take a)) ((n, l, h), tt) tt
+seek-reaches N s (seek.Confirm a) n l h = cond-elim (sought-reaches N) (s .before) (sght.Goes eff.Keep (seek.Release a (s .next))) (sght.Done a) (tt, tt) tt
+seek-reaches N s (seek.Release a b) n l h = ((n, l, h), tt)
 
-reach-insert-sought : (N : ℕ) (s : Sight) (r : Sought) → soft N r → Reach N (insertSought s r)
-reach-insert-sought N s (sght.Goes e k) q = record { effect = q .0; saves = tt; little = q .1 }
-reach-insert-sought N s (sght.Waits k) q = record { effect = tt; saves = tt; little = tt }
-reach-insert-sought N s (sght.Done a) q = record { effect = tt; saves = tt; little = tt }
+reach-insert-sought : (N : ℕ) (s : Sight) (r : Sought) → sought-reaches N r → Reach N (insertSought s r)
+reach-insert-sought N s (sght.Goes e k) q = record { effect = q .0; saves = tt; due-small = q .1 }
+reach-insert-sought N s (sght.Waits k) q = record { effect = tt; saves = tt; due-small = tt }
+reach-insert-sought N s (sght.Done a) q = record { effect = tt; saves = tt; due-small = tt }
 
-reach-delete-sought : (N : ℕ) (s : Sight) (r : Sought) → soft N r → Reach N (removalSought s r)
-reach-delete-sought N s (sght.Goes e k) q = record { effect = q .0; saves = tt; little = q .1 }
-reach-delete-sought N s (sght.Waits k) q = record { effect = tt; saves = tt; little = tt }
-reach-delete-sought N s (sght.Done a) q = record { effect = tt; saves = tt; little = tt }
+reach-delete-sought : (N : ℕ) (s : Sight) (r : Sought) → sought-reaches N r → Reach N (removalSought s r)
+reach-delete-sought N s (sght.Goes e k) q = record { effect = q .0; saves = tt; due-small = q .1 }
+reach-delete-sought N s (sght.Waits k) q = record { effect = tt; saves = tt; due-small = tt }
+reach-delete-sought N s (sght.Done a) q = record { effect = tt; saves = tt; due-small = tt }
 
 module _ (v : View) (u : ℕ → ℕ → ℕ) (I : Inv v u) (p : ℕ) where
   abbrev N : ℕ
@@ -240,25 +240,25 @@ module _ (v : View) (u : ℕ → ℕ → ℕ) (I : Inv v u) (p : ℕ) where
   pub reaches : (s : Stage) → v .pr p .stage ≡ s → 1 ≤ info (v .ht (v .pr p .own)) s .kind → Reach N (decision v p s)
   reaches stage.Idle e k = absurd (omega arith)
   reaches (stage.Insert (ins.Search a)) e k = let A = at-place _ e k in reach-insert-searched N (sight v (v .pr p) a) a (searchStep (sight v (v .pr p) a) a) (A .1) (A .2)
-  reaches (stage.Insert (ins.Seek j)) e k = let A = at-place _ e k in reach-insert-sought N (sight v (v .pr p) (seekCarried j .place)) (seekStep (sight v (v .pr p) (seekCarried j .place)) j) (soft-seek N (sight v (v .pr p) (seekCarried j .place)) j (A .0) (A .1) (A .2))
-  reaches (stage.Insert (ins.Copy a)) e k = let A = at-place _ e k in record { effect = (ins-own _ e k refl .1, A .1, A .2); saves = tt; little = tt }
-  reaches (stage.Insert (ins.Link a)) e k = let A = at-place _ e k in record { effect = A; saves = tt; little = tt }
-  reaches (stage.Insert (ins.FreeLevel a)) e k = let A = at-place _ e k in cond-elim (Reach N) (ltb (a .level) (v .ht (v .pr p .own))) _ _ (record { effect = A; saves = tt; little = tt }) (record { effect = A; saves = tt; little = tt })
-  reaches (stage.Insert ins.FreeNode) e k = record { effect = ins-own _ e k refl; saves = tt; little = tt }
-  reaches (stage.Insert ins.Stamp) e k = record { effect = ins-own _ e k refl; saves = tt; little = tt }
-  reaches (stage.Delete (del.Next a)) e k = cond-elim (Reach N) (eqb (v .fwd (a .node) 1) (tail v)) _ _ (record { effect = tt; saves = tt; little = tt }) (record { effect = tt; saves = tt; little = tt })
-  reaches (stage.Delete (del.Stamped a)) e k = cond-elim (Reach N) (ltb (v .st (a .node)) (v .pr p .begin)) _ _ (record { effect = tt; saves = tt; little = tt }) (record { effect = tt; saves = tt; little = tt })
-  reaches (stage.Delete (del.Mark a)) e k = let A = at-place _ e k in cond-elim (Reach N) (ltb 0 (v .mk (a .node))) _ _ (record { effect = tt; saves = tt; little = tt }) (record { effect = A .0; saves = tt; little = tt })
+  reaches (stage.Insert (ins.Seek j)) e k = let A = at-place _ e k in reach-insert-sought N (sight v (v .pr p) (seekCarried j .place)) (seekStep (sight v (v .pr p) (seekCarried j .place)) j) (seek-reaches N (sight v (v .pr p) (seekCarried j .place)) j (A .0) (A .1) (A .2))
+  reaches (stage.Insert (ins.Copy a)) e k = let A = at-place _ e k in record { effect = (ins-own _ e k refl .1, A .1, A .2); saves = tt; due-small = tt }
+  reaches (stage.Insert (ins.Link a)) e k = let A = at-place _ e k in record { effect = A; saves = tt; due-small = tt }
+  reaches (stage.Insert (ins.FreeLevel a)) e k = let A = at-place _ e k in cond-elim (Reach N) (ltb (a .level) (v .ht (v .pr p .own))) _ _ (record { effect = A; saves = tt; due-small = tt }) (record { effect = A; saves = tt; due-small = tt })
+  reaches (stage.Insert ins.FreeNode) e k = record { effect = ins-own _ e k refl; saves = tt; due-small = tt }
+  reaches (stage.Insert ins.Stamp) e k = record { effect = ins-own _ e k refl; saves = tt; due-small = tt }
+  reaches (stage.Delete (del.Next a)) e k = cond-elim (Reach N) (eqb (v .fwd (a .node) 1) (tail v)) _ _ (record { effect = tt; saves = tt; due-small = tt }) (record { effect = tt; saves = tt; due-small = tt })
+  reaches (stage.Delete (del.Stamped a)) e k = cond-elim (Reach N) (ltb (v .st (a .node)) (v .pr p .begin)) _ _ (record { effect = tt; saves = tt; due-small = tt }) (record { effect = tt; saves = tt; due-small = tt })
+  reaches (stage.Delete (del.Mark a)) e k = let A = at-place _ e k in cond-elim (Reach N) (ltb 0 (v .mk (a .node))) _ _ (record { effect = tt; saves = tt; due-small = tt }) (record { effect = A .0; saves = tt; due-small = tt })
   reaches (stage.Delete (del.Removal (rem.Search a))) e k = let A = at-place _ e k in reach-delete-searched N (sight v (v .pr p) a) a (searchStep (sight v (v .pr p) a) a) (A .1) (A .2)
-  reaches (stage.Delete (del.Removal rem.HoldNode)) e k = cond-elim (Reach N) (eqb (v .nl (v .pr p .own)) 0) _ _ (record { effect = rem-own _ e k refl; saves = tt; little = tt }) (record { effect = tt; saves = tt; little = tt })
-  reaches (stage.Delete (del.Removal (rem.Seek j))) e k = let A = at-place _ e k in reach-delete-sought N (sight v (v .pr p) (seekCarried j .place)) (seekStep (sight v (v .pr p) (seekCarried j .place)) j) (soft-seek N (sight v (v .pr p) (seekCarried j .place)) j (A .0) (A .1) (A .2))
-  reaches (stage.Delete (del.Removal (rem.HoldOwn a))) e k = let A = at-place _ e k in cond-elim (Reach N) (eqb (v .lk (v .pr p .own) (a .level)) 0) _ _ (record { effect = (rem-own _ e k refl .1, A .1, A .2); saves = tt; little = tt }) (record { effect = tt; saves = tt; little = tt })
-  reaches (stage.Delete (del.Removal (rem.Unlink a))) e k = let A = at-place _ e k in record { effect = A; saves = tt; little = tt }
-  reaches (stage.Delete (del.Removal (rem.Back a))) e k = let A = at-place _ e k in record { effect = (rem-own _ e k refl .1, A .1, A .2); saves = tt; little = tt }
-  reaches (stage.Delete (del.Removal (rem.FreeOwn a))) e k = let A = at-place _ e k in record { effect = (rem-own _ e k refl .1, A .1, A .2); saves = tt; little = tt }
-  reaches (stage.Delete (del.Removal (rem.FreeLevel a))) e k = let A = at-place _ e k in cond-elim (Reach N) (leb (a .level) 1) _ _ (record { effect = A; saves = tt; little = tt }) (record { effect = A; saves = tt; little = tt })
-  reaches (stage.Delete (del.Removal rem.FreeNode)) e k = record { effect = rem-own _ e k refl; saves = tt; little = tt }
-  reaches (stage.Delete (del.Removal rem.Retire)) e k = record { effect = rem-own _ e k refl; saves = tt; little = tt }
+  reaches (stage.Delete (del.Removal rem.HoldNode)) e k = cond-elim (Reach N) (eqb (v .nl (v .pr p .own)) 0) _ _ (record { effect = rem-own _ e k refl; saves = tt; due-small = tt }) (record { effect = tt; saves = tt; due-small = tt })
+  reaches (stage.Delete (del.Removal (rem.Seek j))) e k = let A = at-place _ e k in reach-delete-sought N (sight v (v .pr p) (seekCarried j .place)) (seekStep (sight v (v .pr p) (seekCarried j .place)) j) (seek-reaches N (sight v (v .pr p) (seekCarried j .place)) j (A .0) (A .1) (A .2))
+  reaches (stage.Delete (del.Removal (rem.HoldOwn a))) e k = let A = at-place _ e k in cond-elim (Reach N) (eqb (v .lk (v .pr p .own) (a .level)) 0) _ _ (record { effect = (rem-own _ e k refl .1, A .1, A .2); saves = tt; due-small = tt }) (record { effect = tt; saves = tt; due-small = tt })
+  reaches (stage.Delete (del.Removal (rem.Unlink a))) e k = let A = at-place _ e k in record { effect = A; saves = tt; due-small = tt }
+  reaches (stage.Delete (del.Removal (rem.Back a))) e k = let A = at-place _ e k in record { effect = (rem-own _ e k refl .1, A .1, A .2); saves = tt; due-small = tt }
+  reaches (stage.Delete (del.Removal (rem.FreeOwn a))) e k = let A = at-place _ e k in record { effect = (rem-own _ e k refl .1, A .1, A .2); saves = tt; due-small = tt }
+  reaches (stage.Delete (del.Removal (rem.FreeLevel a))) e k = let A = at-place _ e k in cond-elim (Reach N) (leb (a .level) 1) _ _ (record { effect = A; saves = tt; due-small = tt }) (record { effect = A; saves = tt; due-small = tt })
+  reaches (stage.Delete (del.Removal rem.FreeNode)) e k = record { effect = rem-own _ e k refl; saves = tt; due-small = tt }
+  reaches (stage.Delete (del.Removal rem.Retire)) e k = record { effect = rem-own _ e k refl; saves = tt; due-small = tt }
 
 own-small : (v : View) (u : ℕ → ℕ → ℕ) (I : Inv v u) (p : ℕ) → 1 ≤ claim v p .kind → v .pr p .own ≤ v .nodes + 1
 own-small v u I p k = elim (ℕ-discrete (claim v p .kind) 1) [
@@ -301,7 +301,7 @@ shape l tail h t (eff.Fill x d i k) n = record { forward = length-below (n .forw
 abbrev Small : Node → Type 0
 Small y = (y .due ≤ 999999) × (y .ticket ≤ 999999)
 
-still-small : (l tail h t : ℕ) (e : Effect) (n : Node) → t ≤ 999999 → little e → Small n → Small (changed l tail h t e n)
+still-small : (l tail h t : ℕ) (e : Effect) (n : Node) → t ≤ 999999 → due-small e → Small n → Small (changed l tail h t e n)
 still-small l tail h t eff.Keep n t≤ k s = s
 still-small l tail h t (eff.HoldLevel a) n t≤ k s = s
 still-small l tail h t (eff.FreeLevel a) n t≤ k s = s
@@ -340,5 +340,5 @@ sized-applied q S p d p< N≤ t≤ R =
       locks = set-keeps (λ y. length (y .locks) ≡ 8) (q .nodes) k x (freshNode 0) k< (H .locks ∙ S .locks k) (S .locks);
       saves = set-keeps (λ y. length (y .saved) ≡ 8) (q .callers) p (processorAfter (q .levels) (q .clock + 1) (processorAt q p) d) freshProcessor (omega (arith, S .callers-length))
           (saved-length (q .levels) (processorAt q p .saved) (d .carry) (S .saves p)) (S .saves);
-      small = set-keeps Small (q .nodes) k x (freshNode 0) k< (still-small (q .levels) (q .entries + 1) (p + 1) (q .clock + 1) (d .effect) (nodeAt q k) t≤ (R .little) (S .small k)) (S .small);
+      small = set-keeps Small (q .nodes) k x (freshNode 0) k< (still-small (q .levels) (q .entries + 1) (p + 1) (q .clock + 1) (d .effect) (nodeAt q k) t≤ (R .due-small) (S .small k)) (S .small);
     }

@@ -25,9 +25,9 @@ use Rattle.rules.proofs.Lead.{sure}
 use Rattle.rules.proofs.OwnLead.{own-lead}
 use Rattle.rules.proofs.PlaceLead.{place-lead}
 use Rattle.rules.proofs.Status.{restate}
-use Rattle.rules.proofs.Move.{staged, near-none, lock-kept, free-kept, busy-at, kind-at, past-at, nx-at, level-at, settled-at, good-put}
+use Rattle.rules.proofs.Move.{staged, near-none, lock-kept, free-kept, busy-at, kind-at, past-at, nx-at, level-at, settled-at, readable-put}
 use Rattle.rules.proofs.Search.{saving, saved-more}
-use Rattle.rules.proofs.InsertSteps.{idle, head-good, lock-step, yielding}
+use Rattle.rules.proofs.InsertSteps.{idle, head-readable, lock-step, yielding}
 
 module _ (v : View) (u : ℕ → ℕ → ℕ) (I : Inv v u) (room : v .clock + 1 < ever) (p : ℕ) where
   -- the search is left for L1
@@ -37,7 +37,7 @@ module _ (v : View) (u : ℕ → ℕ → ℕ) (I : Inv v u) (room : v .clock + 1
       let s = stage.Delete (del.Removal (rem.Search a)) in
       let B = busy-at v u I p s e (omega arith) in
       let S = B .removes refl in
-      let G = head-good v u I (v .pr p .begin) (key v (v .pr p .own)) 1 (I .core .levels) (omega (arith, B .begun-by)) (I .core .ends .keys (v .pr p .own) (S .low) (omega (arith, S .high)) .0) in
+      let G = head-readable v u I (v .pr p .begin) (key v (v .pr p .own)) 1 (I .core .levels) (omega (arith, B .begun-by)) (I .core .ends .keys (v .pr p .own) (S .low) (omega (arith, S .high)) .0) in
       lock-step v u I room p s e (omega arith) (stage.Delete (del.Removal rem.HoldNode)) (v .lk) (save-at (v .pr p .saved) (a .level) (a .node))
       (λ h. omega arith) (λ q n i ne h. h) refl (λ h. omega arith) (λ k h. omega arith)
       (record {
@@ -238,9 +238,9 @@ module _ (v : View) (u : ℕ → ℕ → ℕ) (I : Inv v u) (room : v .clock + 1
         begun-by = omega (arith, B .begun-by);
         low = B .low;
         high = B .high;
-        place = good-put _ _ _ _ _ _ _ _ _ _ T≤ (B .place);
-        read = good-put _ _ _ _ _ _ _ _ _ _ T≤ (B .read);
-        saved = λ j f j≥ j≤. good-put _ _ _ _ _ _ _ _ _ _ T≤ (B .saved j f j≥ j≤);
+        place = readable-put _ _ _ _ _ _ _ _ _ _ T≤ (B .place);
+        read = readable-put _ _ _ _ _ _ _ _ _ _ T≤ (B .read);
+        saved = λ j f j≥ j≤. readable-put _ _ _ _ _ _ _ _ _ _ T≤ (B .saved j f j≥ j≤);
         holds-place = B .holds-place;
         holds-own = B .holds-own;
         holds-node = B .holds-node;
@@ -364,7 +364,7 @@ module _ (v : View) (u : ℕ → ℕ → ℕ) (I : Inv v u) (room : v .clock + 1
       let s = stage.Delete (del.Removal (rem.FreeLevel a)) in
       let B = busy-at v u I p s e (omega arith) in
       let S = B .removes refl in
-      let G = head-good v u I (v .pr p .begin) (key v (v .pr p .own)) 1 (I .core .levels) (omega (arith, B .begun-by)) (I .core .ends .keys (v .pr p .own) (S .low) (omega (arith, S .high)) .0) in
+      let G = head-readable v u I (v .pr p .begin) (key v (v .pr p .own)) 1 (I .core .levels) (omega (arith, B .begun-by)) (I .core .ends .keys (v .pr p .own) (S .low) (omega (arith, S .high)) .0) in
       lock-step v u I room p s e (omega arith) (stage.Delete (del.Removal rem.FreeNode)) _ (v .pr p .saved) (λ h. omega arith)
       (lock-kept (v .lk) p (a .node) (a .level) 0 (B .holds-place refl)) refl (λ h. omega arith) (λ k h. omega arith)
       (record {

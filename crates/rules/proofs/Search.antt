@@ -8,7 +8,7 @@ use Rattle.record.specs.declared.stages.Stage.{Stage}
 use Rattle.record.specs.Stages.{place}
 use Rattle.rules.proofs.Put.{ever, save-at, save-same, save-other}
 use Rattle.rules.proofs.View.{Pr, View, Info, info, claim, key, tail}
-use Rattle.rules.proofs.Inv.{Core, Busy, Good, Inv, sought}
+use Rattle.rules.proofs.Inv.{Core, Busy, Readable, Inv, sought}
 use Rattle.rules.proofs.Assemble.{ticked, yields-kept}
 use Rattle.rules.proofs.Locks.{locked}
 use Rattle.rules.proofs.Move.{staged, near-none, ahead}
@@ -21,17 +21,17 @@ searching kd hn lo a = record { kind = kd; node = a .node; level = a .level; b =
 
 -- a saved for its level, with those above
 pub saved-more : (u : ℕ → ℕ → ℕ) (k : ℕ → ℕ) (tail top T g : ℕ) (saved : ℕ → ℕ) (a i : ℕ) → 1 ≤ i →
-    Good u k tail T g a i → ((j : ℕ) → i + 1 ≤ j → 1 ≤ j → j ≤ top → Good u k tail T g (saved j) j) →
-    (j : ℕ) → i ≤ j → 1 ≤ j → j ≤ top → Good u k tail T g (save-at saved i a j) j
+    Readable u k tail T g a i → ((j : ℕ) → i + 1 ≤ j → 1 ≤ j → j ≤ top → Readable u k tail T g (saved j) j) →
+    (j : ℕ) → i ≤ j → 1 ≤ j → j ≤ top → Readable u k tail T g (save-at saved i a j) j
 saved-more u k tail top T g saved a i i≥ G S j i≤ j≥ j≤ = go (ℕ-discrete j i)
   where
-    go : Dec (j ≡ i) → Good u k tail T g (save-at saved i a j) j
+    go : Dec (j ≡ i) → Readable u k tail T g (save-at saved i a j) j
     go (yes e) = rw (e, save-same saved i a) G
     go (no d) = rw (save-other saved i a j i≥ j≥ d) (S j (omega arith) j≥ j≤)
 
 -- a is seen one level down too
-pub good-down : (v : View) (u : ℕ → ℕ → ℕ) → Core v u → (T g a i : ℕ) → 1 ≤ i - 1 → Good u (key v) (tail v) T g a i → Good u (key v) (tail v) T g a (i - 1)
-good-down v u C T g a i h G =
+pub readable-down : (v : View) (u : ℕ → ℕ → ℕ) → Core v u → (T g a i : ℕ) → 1 ≤ i - 1 → Readable u (key v) (tail v) T g a i → Readable u (key v) (tail v) T g a (i - 1)
+readable-down v u C T g a i h G =
     let e : i - 1 + 1 ≡ i = omega arith in
     let d : u a i ≤ u a (i - 1) = rw e at (C .down a (i - 1) h) in
     record { below = G .below; seen = omega (arith, G .seen); before = G .before }
@@ -69,8 +69,8 @@ module _ (v : View) (u : ℕ → ℕ → ℕ) (I : Inv v u) (room : v .clock + 1
         begun-by = omega (arith, B .begun-by);
         low = B .low;
         high = B .high;
-        place = good;
-        read = good;
+        place = readable;
+        read = readable;
         saved = B .saved;
         holds-place = λ h. absurd (omega arith);
         holds-own = λ h. absurd (omega arith);
@@ -82,13 +82,13 @@ module _ (v : View) (u : ℕ → ℕ → ℕ) (I : Inv v u) (room : v .clock + 1
         walks = λ h. absurd (kd≢ h);
       }))
     where
-      good : Good u (key v) (tail v) (v .pr p .begin) (sought (key v) (v .pr p .own) kd) (v .fwd (a .node) (a .level)) (a .level)
-      good = rw goal (ahead v u I p (a .node) (a .level) (omega (arith, busy-kind)) (search-busy .low) o≥ o≤ (rw goal at (search-busy .place)) lt)
+      readable : Readable u (key v) (tail v) (v .pr p .begin) (sought (key v) (v .pr p .own) kd) (v .fwd (a .node) (a .level)) (a .level)
+      readable = rw goal (ahead v u I p (a .node) (a .level) (omega (arith, busy-kind)) (search-busy .low) o≥ o≤ (rw goal at (search-busy .place)) lt)
 
   pub search-down : 1 < a .level → Inv (ticked v p (saving (v .pr p) a (wrap (place (a .node) (a .level - 1))))) u
   search-down lt =
       let B = search-busy in
-      let G = good-down v u (I .core) (v .pr p .begin) _ (a .node) (a .level) (omega arith) (B .place) in
+      let G = readable-down v u (I .core) (v .pr p .begin) _ (a .node) (a .level) (omega arith) (B .place) in
       let e : a .level - 1 + 1 ≡ a .level = omega arith in
       searched (saving (v .pr p) a (wrap (place (a .node) (a .level - 1)))) refl refl (ap (λ (f : Info). f .kind) (wraps _)) (ap (λ (f : Info). f .past) (wraps _)) (ap (λ (f : Info). f .hn) (wraps _))
       (subst (λ (f : Info). Busy (ticked v p (saving (v .pr p) a (wrap (place (a .node) (a .level - 1))))) u p (saving (v .pr p) a (wrap (place (a .node) (a .level - 1)))) f) (sym (wraps _))

@@ -131,7 +131,7 @@ module _ (q : Queue) (b : Book) (S : Sound q b) where
         begun : q .clock + 1 ≤ 999999 → p < q .processors → isIdle (processorAt q p .stage) ≡ true → Agrees (feedDelete b p) (accepted q p (deleteDecision q))
         begun t≤ p< i =
             let K = kind-idle (v .ht (v .pr p .own)) (processorAt q p .stage) i in
-            accepted-agrees (feedDelete b p) p (deleteDecision q) (turned b (b .entry) p (deleting (q .clock + 1))) (S .until) p< t≤ (record { effect = tt; saves = tt; little = tt }) (idle-passes p K (deleteDecision q) (λ h l t. absurd t))
+            accepted-agrees (feedDelete b p) p (deleteDecision q) (turned b (b .entry) p (deleting (q .clock + 1))) (S .until) p< t≤ (record { effect = tt; saves = tt; due-small = tt }) (idle-passes p K (deleteDecision q) (λ h l t. absurd t))
             (rw (open-idle i, eq-eqb (q .clock + 1) (b .count + 1) (omega (arith, S .rel .count))))
             (begin-delete v (S .until) (S .inv) (omega arith) p K) (rel-open v b (S .rel) p (walker v p) (deleting (q .clock + 1)) refl (λ k. omega arith))
 
@@ -143,7 +143,7 @@ module _ (q : Queue) (b : Book) (S : Sound q b) where
           let K = kind-idle (v .ht (v .pr p .own)) (processorAt q p .stage) i in
           accepted-agrees (feedInsert b p due item) p (insertDecision q x due item height)
           (turned b (upd (b .entry) (q .clock + 1) (record { written = true; due = due; item = item; answeredAt = ever; marked = false; handedOut = false })) p (inserting (q .clock + 1)))
-          (cleared (S .until) x) p< t≤ (record { effect = (F .low, F .high); saves = tt; little = due≤ }) (idle-passes p K (insertDecision q x due item height) (λ h l t. by-node refl t))
+          (cleared (S .until) x) p< t≤ (record { effect = (F .low, F .high); saves = tt; due-small = due≤ }) (idle-passes p K (insertDecision q x due item height) (λ h l t. by-node refl t))
           (rw (open-idle i, eq-eqb (q .clock + 1) (b .count + 1) (omega (arith, S .rel .count))))
           (begin-insert v (S .until) (S .inv) room p K x due item height fw lw (F .low) (F .high) due≤ h≥ h≤ (F .unused) older unseen fw-same lw-same)
           (rel-insert v (S .until) (S .inv) b (S .rel) p x due item height fw lw (F .low) (F .high) (F .unused)

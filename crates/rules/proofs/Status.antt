@@ -6,8 +6,8 @@ use native.Mathlib.Decide.{ℕ-discrete}
 use Rattle.laws.specs.Update.{upd}
 use Rattle.rules.proofs.Put.{ever}
 use Rattle.rules.proofs.View.{Pr, View, claim, tail}
-use Rattle.rules.proofs.Inv.{Core, Entered, Busy, Inserts, Removes, Eligible, Led, back, limbo, Inv, One, Yields}
-use Rattle.rules.proofs.Assemble.{ticked, claimed, assembled, limbo-other}
+use Rattle.rules.proofs.Inv.{Core, Entered, Busy, Inserts, Removes, Eligible, Led, back, unlinking, Inv, One, Yields}
+use Rattle.rules.proofs.Assemble.{ticked, claimed, assembled, unlinking-other}
 use Rattle.rules.proofs.Machine.{withStatus}
 
 module _ (v : View) (u : ℕ → ℕ → ℕ) (I : Inv v u) (room : v .clock + 1 < ever) (p : ℕ) (c : Pr) (mk st us : ℕ → ℕ) (o : ℕ) where
@@ -147,5 +147,5 @@ module _ (v : View) (u : ℕ → ℕ → ℕ) (I : Inv v u) (room : v .clock + 1
           where
             go : Led v u (v .pr q .begin) n i → Led restated u (v .pr q .begin) n i
             go (back k) = back k
-            go (limbo x l) = limbo x (limbo-other (withStatus v mk st us) u p c x n i (λ e. not-four (rw e at (l .nx)))
+            go (unlinking x l) = unlinking x (unlinking-other (withStatus v mk st us) u p c x n i (λ e. not-four (rw e at (l .nx)))
                 (record { kind = l .kind; nx = l .nx; hp = l .hp; ho = l .ho; own = l .own; level = l .level }))

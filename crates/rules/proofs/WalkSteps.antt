@@ -14,7 +14,7 @@ use Rattle.laws.specs.Update.{upd}
 use Rattle.laws.proofs.Updating.{upd-same, upd-other}
 use Rattle.rules.proofs.Put.{ever}
 use Rattle.rules.proofs.View.{Pr, View, info, claim, key, tail, last}
-use Rattle.rules.proofs.Inv.{Next, Busy, Good, Walks, Eligible, Inv, NodeHeld}
+use Rattle.rules.proofs.Inv.{Next, Busy, Readable, Walks, Eligible, Inv, NodeHeld}
 use Rattle.rules.proofs.Read.{on-used, Reads, onward, backward, reads, read-seen}
 use Rattle.rules.proofs.Assemble.{ticked, one-new, yields-kept, yields-new}
 use Rattle.rules.proofs.Machine.{withStatus}
@@ -22,7 +22,7 @@ use Rattle.rules.proofs.Locks.{locked}
 use Rattle.rules.proofs.Lead.{sure}
 use Rattle.rules.proofs.Status.{restate}
 use Rattle.rules.proofs.Move.{staged, near-none, busy-at, kind-at, nx-at, ahead}
-use Rattle.rules.proofs.InsertSteps.{idle, head-good, lock-step}
+use Rattle.rules.proofs.InsertSteps.{idle, head-readable, lock-step}
 
 -- a node in use that is stamped and unmarked is linked at every level up to its height: nobody holds its node lock
 pub settled-full : (v : View) (u : ℕ → ℕ → ℕ) → Inv v u → NodeHeld v → (x : ℕ) → 1 ≤ x → x ≤ v .nodes → v .us x ≡ 1 → v .st x < ever → v .mk x ≡ 0 → (j : ℕ) → 1 ≤ j → j ≤ v .ht x → ever ≤ u x j
@@ -80,7 +80,7 @@ module _ (v : View) (u : ℕ → ℕ → ℕ) (I : Inv v u) (H : NodeHeld v) (ro
       let B = busy-at v u I p s e (omega arith) in
       let W = B .walks refl in
       let r = read-seen v u I p (a .node) 1 (omega (arith, kind-at v u I p s e)) (B .low) (B .place .below) (B .place .seen) in
-      let G = good B (omega (arith, r .0)) (r .1) in
+      let G = readable B (omega (arith, r .0)) (r .1) in
       lock-step v u I room p s e (omega arith) (stage.Delete (del.Stamped (place (v .fwd (a .node) 1) 1))) (v .lk) (v .pr p .saved)
       (λ h. omega arith) (λ q n i ne h. h) refl (λ h. omega arith) (λ k h. omega arith)
       (record {
@@ -105,9 +105,9 @@ module _ (v : View) (u : ℕ → ℕ → ℕ) (I : Inv v u) (H : NodeHeld v) (ro
         };
       })
     where
-      good : Busy v u p (v .pr p) (info (v .ht (v .pr p .own)) (stage.Delete (del.Next a))) → v .fwd (a .node) 1 < tail v → v .pr p .begin ≤ u (v .fwd (a .node) 1) 1 →
-          Good u (key v) (tail v) (v .pr p .begin) last (v .fwd (a .node) 1) 1
-      good B lt s = record { below = lt; seen = s; before = below-last (v .fwd (a .node) 1) lt (ℕ-discrete _ 0) }
+      readable : Busy v u p (v .pr p) (info (v .ht (v .pr p .own)) (stage.Delete (del.Next a))) → v .fwd (a .node) 1 < tail v → v .pr p .begin ≤ u (v .fwd (a .node) 1) 1 →
+          Readable u (key v) (tail v) (v .pr p .begin) last (v .fwd (a .node) 1) 1
+      readable B lt s = record { below = lt; seen = s; before = below-last (v .fwd (a .node) 1) lt (ℕ-discrete _ 0) }
         where
           below-last : (n : ℕ) → n < tail v → Dec (n ≡ 0) → key v n < last
           below-last n n< (yes z) = rw z (omega (arith, I .core .ends .head-key))
@@ -244,7 +244,7 @@ module _ (v : View) (u : ℕ → ℕ → ℕ) (I : Inv v u) (room : v .clock + 1
       let E = I .core .entered n (L .low) (omega (arith, L .high)) in
       let k = kind-at v u I p s e in
       let same = upd-same (v .mk) n 1 in
-      let G = head-good v u I (v .pr p .begin) (key v n) (v .top) (omega arith) (omega (arith, B .begun-by)) (I .core .ends .keys n (L .low) (omega (arith, L .high)) .0) in
+      let G = head-readable v u I (v .pr p .begin) (key v n) (v .top) (omega arith) (omega (arith, B .begun-by)) (I .core .ends .keys n (L .low) (omega (arith, L .high)) .0) in
       restate v u I room p (marker n) (upd (v .mk) n 1) (v .st) (v .us) n
       (omega arith) (λ b. refl) (λ h. omega (arith, nx-at v u I p s e)) (L .low) (L .high)
       (λ x d. upd-other (v .mk) n 1 x d) (λ x d. refl) (λ x d. refl) (λ h. h)
