@@ -1,0 +1,92 @@
+// A step of an Insert: Search; then for i from 1 to the height: Lock-seek, I1, I2, I3; then I4, I5.
+ghost use mathlib.Core.Path.{_≡_};
+ghost use Prim.Native.Nat.{ℕ, _+_};
+ghost use Rattle.rules.specs.Decide.{insertSearched, insertSought, insertFreed, insertStep};
+use crate::moves::answers;
+use crate::moves::at;
+use crate::moves::moved;
+use crate::moves::saving;
+use crate::moves::waits;
+use crate::search::search_step;
+use crate::search::seek_step;
+use record::Insert;
+use record::Place;
+use record::Seek;
+use record::Stage;
+use rules::Answer;
+use rules::Decision;
+use rules::Effect;
+use rules::Searched;
+use rules::Sight;
+use rules::Sought;
+
+fn insert_searched(s: Sight, a: Place, f: Searched) -> Decision
+    ensures { λ r. ⌜ r ≡ insertSearched s a f ⌝ }
+{
+    match f {
+        Searched::Ahead(b) => moved(s, Effect::Keep, Stage::Insert(Insert::Search(b))),
+        Searched::Down(b) => saving(s, a, Stage::Insert(Insert::Search(b))),
+        Searched::Left(b) => saving(s, a, Stage::Insert(Insert::Seek(Seek::Approach(b)))),
+    }
+}
+
+fn insert_sought(s: Sight, f: Sought) -> Decision
+    ensures { λ r. ⌜ r ≡ insertSought s f ⌝ }
+{
+    match f {
+        Sought::Goes(e, k) => moved(s, e, Stage::Insert(Insert::Seek(k))),
+        Sought::Waits(k) => waits(s, Stage::Insert(Insert::Seek(k))),
+        Sought::Done(a) => moved(s, Effect::Keep, Stage::Insert(Insert::Copy(a))),
+    }
+}
+
+// I3: free a's lock; on to the level above, or to I4 at any level not below the height.
+fn insert_freed(s: Sight, a: Place) -> Decision
+    ensures { λ r. ⌜ r ≡ insertFreed s a ⌝ }
+{
+    if a.level < s.height {
+        let b = at(s.up, a.level + 1);
+        moved(
+            s,
+            Effect::FreeLevel(a),
+            Stage::Insert(Insert::Seek(Seek::Approach(b))),
+        )
+    } else {
+        moved(s, Effect::FreeLevel(a), Stage::Insert(Insert::FreeNode))
+    }
+}
+
+pub fn insert_step(s: Sight, g: Insert) -> Decision
+    ensures { λ r. ⌜ r ≡ insertStep s g ⌝ }
+{
+    match g {
+        Insert::Search(a) => {
+            let f = search_step(s, a);
+            insert_searched(s, a, f)
+        }
+        Insert::Seek(k) => {
+            let f = seek_step(s, k);
+            insert_sought(s, f)
+        }
+        // I1: own forward number := a's
+        Insert::Copy(a) => {
+            let b = at(s.own, a.level);
+            moved(s, Effect::Lead(b, s.next), Stage::Insert(Insert::Link(a)))
+        }
+        // I2: a's forward number := own node
+        Insert::Link(a) => moved(
+            s,
+            Effect::Lead(a, s.own),
+            Stage::Insert(Insert::FreeLevel(a)),
+        ),
+        // I3: free a's lock
+        Insert::FreeLevel(a) => insert_freed(s, a),
+        // I4: free the node lock
+        Insert::FreeNode => moved(s, Effect::FreeNode(s.own), Stage::Insert(Insert::Stamp)),
+        // I5: stamp := the time of this call, and answer
+        Insert::Stamp => {
+            let e = s.mine;
+            answers(Effect::Stamp(s.own), Answer::Inserted(e))
+        }
+    }
+}

@@ -1,0 +1,83 @@
+// A step of a Delete_Min, W1 to W3 and the removal of what W3 marked; and the step of any stage.
+ghost use mathlib.Core.Path.{_≡_};
+ghost use Prim.Native.Nat.{ℕ, _+_};
+ghost use Rattle.rules.specs.Decide.{walkOn, stampTest, markTest, deleteStep, decide as decideOf};
+use crate::insert::insert_step;
+use crate::moves::answers;
+use crate::moves::at;
+use crate::moves::moved;
+use crate::moves::waits;
+use crate::removal::removal_step;
+use record::Delete;
+use record::Place;
+use record::Removal;
+use record::Stage;
+use rules::Answer;
+use rules::Carry;
+use rules::Decision;
+use rules::Effect;
+use rules::Sight;
+
+// W1: read b at level 1; the tail answers EMPTY; else move to b.
+fn walk_on(s: Sight) -> Decision
+    ensures { λ r. ⌜ r ≡ walkOn s ⌝ }
+{
+    if s.tail {
+        answers(Effect::Keep, Answer::Empty)
+    } else {
+        let b = at(s.next, 1);
+        moved(s, Effect::Keep, Stage::Delete(Delete::Stamped(b)))
+    }
+}
+
+// W2: stamp earlier than the begin time goes to W3, any other or none to W1.
+fn stamp_test(s: Sight, a: Place) -> Decision
+    ensures { λ r. ⌜ r ≡ stampTest s a ⌝ }
+{
+    if s.stamped {
+        moved(s, Effect::Keep, Stage::Delete(Delete::Mark(a)))
+    } else {
+        moved(s, Effect::Keep, Stage::Delete(Delete::Next(a)))
+    }
+}
+
+// W3: set the mark; if it was already set go to W1, else this node is the operation's own, and the call reports it marked.
+fn mark_test(s: Sight, a: Place) -> Decision
+    ensures { λ r. ⌜ r ≡ markTest s a ⌝ }
+{
+    if s.marked {
+        moved(s, Effect::Keep, Stage::Delete(Delete::Next(a)))
+    } else {
+        let e = s.seen;
+        let b = at(0, s.levels);
+        Decision {
+            effect: Effect::Mark(a.node),
+            stage: Stage::Delete(Delete::Removal(Removal::Search(b))),
+            own: a.node,
+            carry: Carry::Keep,
+            answer: Answer::Marked(e),
+        }
+    }
+}
+
+pub fn delete_step(s: Sight, g: Delete) -> Decision
+    ensures { λ r. ⌜ r ≡ deleteStep s g ⌝ }
+{
+    match g {
+        Delete::Next(_) => walk_on(s),
+        Delete::Stamped(a) => stamp_test(s, a),
+        Delete::Mark(a) => mark_test(s, a),
+        Delete::Removal(r) => removal_step(s, r),
+    }
+}
+
+// The step of any stage; an idle processor has none, and the call is refused before this.
+pub fn decide(s: Sight, g: Stage) -> Decision
+    ensures { λ r. ⌜ r ≡ decideOf s g ⌝ }
+{
+    match g {
+        Stage::Idle => waits(s, Stage::Idle),
+        Stage::Insert(i) => insert_step(s, i),
+        Stage::Delete(d) => delete_step(s, d),
+    }
+}
