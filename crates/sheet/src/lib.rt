@@ -1,5 +1,9 @@
-// No code yet: the types of a run sheet and its history, and in specs/ what a sheet is, when it is refused, and what it prints.
+// Run sheets and their histories: the types, the readers of columns, lines and sheets, and the writer of history lines. In specs/ what a sheet is,
+// when it is refused, and what it prints.
+pub mod columns;
 pub mod events;
+pub mod forms;
+pub mod letters;
 pub mod lines;
 
 pub use events::Event;

@@ -1,0 +1,24 @@
+// The bytes and lengths of sheets and histories; specs/Letters.antt has them for the definitions.
+pub const LINE_FEED: u8 = 10;
+
+pub const SPACE: u8 = 32;
+
+pub const DIGIT_ZERO: u8 = 48;
+
+pub const LETTER_D: u8 = 68;
+
+pub const LETTER_I: u8 = 73;
+
+pub const LETTER_Q: u8 = 81;
+
+pub const LETTER_S: u8 = 83;
+
+// A number has so many columns, and is at most this.
+pub const WIDTH: usize = 7;
+
+pub const MAX_FIELD: u32 = 9999999;
+
+// The bytes of a line of a sheet, and of a line of a history.
+pub const LINE: usize = 30;
+
+pub const EVENT: usize = 37;
