@@ -1,0 +1,4 @@
+pub mod Lists
+pub mod Numbers
+pub mod Pieces
+pub mod Image
