@@ -1,9 +1,11 @@
 -- What the readers and writers of columns share: the form of a line over its fields as read, and one column of a number as written.
-use Prim.Native.Nat.{ℕ}
+use Prim.Native.Nat.{ℕ, _+_}
 use mathlib.Core.Bool.{Bool, cond, not, _&&_}
-use mathlib.Core.List.{[], _∷_}
+use mathlib.Core.List.{List, [], _∷_}
 use lib.Dec.{leb, eqb}
-use lib.ListN.{getD}
+use lib.ListN.{length, getD}
+use lib.Seq.{sets}
+use Rattle.sheet.specs.declared.events.Event.{Event}
 use Rattle.sheet.specs.declared.lines.Line.{Line}
 use Rattle.record.specs.Report.{Report, report}
 use Rattle.sheet.specs.declared.lines.Reading.{Reading}
@@ -12,6 +14,7 @@ use Rattle.sheet.specs.declared.lines.Rule.{Rule}
 use Rattle.sheet.specs.declared.lines.Scan.{Scan}
 use Rattle.sheet.specs.declared.lines.Scan.the-variants as scan
 use Rattle.sheet.specs.Columns.{inForm, valueOf, lastDigit}
+use Rattle.sheet.specs.Events.{eventLength, eventBytes}
 use Rattle.sheet.specs.Letters.{space, letterQ}
 
 -- n lies between the bounds of field k
@@ -50,3 +53,11 @@ paddedDigit n = cond (eqb n 0) space (lastDigit n)
 -- `rightLetter` of a sheet whose line k has this letter
 abbrev pub rightFor : ℕ → ℕ → Bool
 rightFor letter k = cond (eqb k 1) (eqb letter letterQ) (not (eqb letter letterQ))
+
+-- whether an area has room for a line of the history at this place
+abbrev pub roomAt : List ℕ → ℕ → Bool
+roomAt area at = leb (at + eventLength) (length area)
+
+-- the area with an event's line at this place, if it is to be written and there is room for it
+abbrev pub withEvent : List ℕ → ℕ → Event → Bool → List ℕ
+withEvent area at e writing = cond (roomAt area at) (cond writing (sets area at (eventBytes e)) area) area

@@ -4,7 +4,9 @@ ghost use Prim.Native.Nat.{_+_, _≤_};
 ghost use lib.ListN.{length};
 ghost use lib.Seq.{sets};
 ghost use Rattle.sheet.specs.Events.{eventBytes};
+ghost use Rattle.sheet.specs.Scans.{roomAt, withEvent};
 use crate::columns::columns_into;
+use crate::letters::EVENT;
 use crate::letters::LINE_FEED;
 
 // A line of the history.
@@ -19,12 +21,12 @@ pub struct Event {
 
 // A refusal with its number and line, or the length of the history in bytes.
 pub enum Ran {
-    Refused(u8, u32),
+    Refused(u8, usize),
     Length(usize),
 }
 
 // A line of the history, written at `at`.
-pub(crate) fn event_into(area: &mut [u8], at: usize, e: Event)
+fn event_into(area: &mut [u8], at: usize, e: Event)
     requires { ⌜ at + 37 ≤ length (now area) ⌝ }
     ensures { λ _. ⌜ now (area .exit) ≡ sets (now (area .entry)) at (eventBytes e) ⌝ }
 {
@@ -35,4 +37,21 @@ pub(crate) fn event_into(area: &mut [u8], at: usize, e: Event)
     columns_into(area, at + 22, e.second);
     columns_into(area, at + 29, e.third);
     area[at + 36] = LINE_FEED;
+}
+
+// A line of the history at `at`, if the area has room for it there, and whether it has; where it is only counted nothing is written.
+pub fn append_event(area: &mut [u8], at: usize, e: Event, writing: bool) -> bool
+    ensures { λ r. ⌜ r ≡ roomAt (now (area .entry)) at ⌝ }
+    ensures { λ _. ⌜ now (area .exit) ≡ withEvent (now (area .entry)) at e writing ⌝ }
+{
+    if area.len() < at {
+        return false;
+    }
+    if area.len() - at < EVENT {
+        return false;
+    }
+    if writing {
+        event_into(area, at, e);
+    }
+    true
 }

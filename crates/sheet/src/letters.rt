@@ -5,13 +5,23 @@ pub const SPACE: u8 = 32;
 
 pub const DIGIT_ZERO: u8 = 48;
 
+pub const LETTER_A: u8 = 65;
+
 pub const LETTER_D: u8 = 68;
+
+pub const LETTER_E: u8 = 69;
 
 pub const LETTER_I: u8 = 73;
 
+pub const LETTER_M: u8 = 77;
+
 pub const LETTER_Q: u8 = 81;
 
+pub const LETTER_R: u8 = 82;
+
 pub const LETTER_S: u8 = 83;
+
+pub const LETTER_T: u8 = 84;
 
 // A number has so many columns, and is at most this.
 pub const WIDTH: usize = 7;

@@ -1,0 +1,4 @@
+pub mod Accepting
+pub mod Called
+pub mod Histories
+pub mod States
