@@ -30,11 +30,11 @@ pub fn by_inner(mut q: Queue, who: &[u32]) -> Queue
     ensures { λ r. ⌜ (r ≡ steppedTo q (now (who .entry)) (length (now (who .entry)))) × (validOf r ≡ true) ⌝ }
 {
     let end = who.len();
-    let mut i: usize = 0;
-    while i < end {
-        let o = step_valid(q, who[i]);
+    let mut j: usize = 0;
+    while j < end {
+        let o = step_valid(q, who[j]);
         q = o.queue;
-        i = i + 1;
+        j = j + 1;
     }
     q
 }

@@ -54,8 +54,8 @@ pub extern "C" fn bench_public(image: &[u8], who: &[u32], times: u32) -> u32
     let mut clock = q.clock;
     let mut k: u32 = 0;
     while k < times {
-        let r = by_public(q, who);
-        clock = r.clock;
+        let p = by_public(q, who);
+        clock = p.clock;
         k = k + 1;
     }
     clock
@@ -74,8 +74,8 @@ pub extern "C" fn bench_inner(image: &[u8], who: &[u32], times: u32) -> u32
     let mut clock = q.clock;
     let mut k: u32 = 0;
     while k < times {
-        let r = by_inner(q, who);
-        clock = r.clock;
+        let n = by_inner(q, who);
+        clock = n.clock;
         k = k + 1;
     }
     clock
@@ -94,8 +94,8 @@ pub extern "C" fn bench_loop(image: &[u8], who: &[u32], times: u32) -> u32
     let mut clock = q.clock;
     let mut k: u32 = 0;
     while k < times {
-        let r = run_steps(q, who);
-        clock = r.clock;
+        let l = run_steps(q, who);
+        clock = l.clock;
         k = k + 1;
     }
     clock
@@ -126,5 +126,6 @@ pub extern "C" fn bench_image(form: u32, image: &[u8], who: &[u32], area: &mut [
         return false;
     }
     let q = d.queue;
-    encode(after(form, q, who), area)
+    let f = after(form, q, who);
+    encode(f, area)
 }

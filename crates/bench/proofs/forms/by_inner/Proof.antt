@@ -12,10 +12,10 @@ use Rattle.bench.proofs.forms.by_inner.Statement.{statement}
 use Rattle.bench.proofs.forms.by_inner.Tie as tie
 
 abbrev Inv-loop : tie.InvT-loop
-Inv-loop q₀ who end i₀ q i = (valid q ≡ true) × (q ≡ steppedTo q₀ who i) × (i ≤ length who)
+Inv-loop q₀ who end j₀ q j = (valid q ≡ true) × (q ≡ steppedTo q₀ who j) × (j ≤ length who)
 
 abbrev μ-loop : tie.MeasureT-loop
-μ-loop q₀ who end i₀ q i = length who - i
+μ-loop q₀ who end j₀ q j = length who - j
 
 loop-holds : tie.Need-loop-holds Inv-loop μ-loop
 loop-holds c = (c .before .pre, stepped-none _ _, omega arith)
@@ -29,8 +29,8 @@ shared-slice-read-step-valid c = search needs
 step-valid-requires : tie.Need-step-valid-requires Inv-loop μ-loop
 step-valid-requires c κs = c .before .before .loop .inv .0
 
-add-i : tie.Need-add-i Inv-loop μ-loop
-add-i c = search needs
+add-j : tie.Need-add-j Inv-loop μ-loop
+add-j c = search needs
 
 loop-less : tie.Need-loop-less Inv-loop μ-loop
 loop-less c = search needs
@@ -46,7 +46,7 @@ returns : tie.Need-returns Inv-loop μ-loop
 returns c =
     let x = c .before .before .before .args in
     let v = c .before .loop .inv in
-    let e : c .before .loop .i ≡ length (x .who .now) = omega arith in
+    let e : c .before .loop .j ≡ length (x .who .now) = omega arith in
     (v .1 ∙ ap (λ (k : ℕ). steppedTo (x .q) (x .who .now) k) e, v .0)
 
 pub by-inner-spec : {M : Type 1} → statement M
@@ -59,7 +59,7 @@ by-inner-spec =
     mul-step-valid
     shared-slice-read-step-valid
     step-valid-requires
-    add-i
+    add-j
     loop-less
     loop-again
     returns)
