@@ -241,6 +241,9 @@ fn the_comparer_runs_programs() {
         .find(|word| word.ends_with(".sheet"));
     let kept = std::fs::read(name.unwrap()).unwrap();
     assert_eq!(kept, darthog_reference::sheets::sheet(3, 0));
+    let (status, text) = compare_program("false", "200");
+    assert_eq!(status, Some(1), "{text}");
+    assert!(text.contains("ended with exit status: 1"), "{text}");
     let (status, _) = compare_program("no-such-program", "1");
     assert_eq!(status, Some(2));
 }

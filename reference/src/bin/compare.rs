@@ -5,15 +5,16 @@
 //!
 //! Every second sheet is lent as a file, the others through a pipe in pieces.
 //! The last line counts what occurred. The exit status is 1 if the program
-//! printed something else for a sheet, which is then kept in a file, or if
-//! something that should occur in the sheets did not; 2 if it did not run.
+//! printed something else for a sheet, which is then kept in a file, or ended
+//! in another way than with 0, or if something that should occur in the sheets
+//! did not; 2 if it did not run.
 
 use darthog_reference::compare::{compare, Difference, Ended};
 use darthog_reference::random::Random;
 use std::fs::{self, File};
 use std::io::{self, Write};
 use std::path::{Path, PathBuf};
-use std::process::{Child, Command, ExitCode, Stdio};
+use std::process::{Child, Command, ExitCode, Output, Stdio};
 use std::thread;
 
 const SEED: u64 = 1;
@@ -86,7 +87,17 @@ fn start(program: &Path, input: Stdio) -> io::Result<Child> {
 fn by_file(program: &Path, sheet: &[u8], lent: &Path) -> io::Result<Vec<u8>> {
     fs::write(lent, sheet)?;
     let child = start(program, Stdio::from(File::open(lent)?))?;
-    Ok(child.wait_with_output()?.stdout)
+    Ok(printed(child.wait_with_output()?))
+}
+
+/// What the program printed; another end than exit status 0 is a difference
+/// too, and is told after it.
+fn printed(output: Output) -> Vec<u8> {
+    let mut bytes = output.stdout;
+    if !output.status.success() {
+        bytes.extend_from_slice(format!("ended with {}\n", output.status).as_bytes());
+    }
+    bytes
 }
 
 /// The pipe's writer may be ahead of the program or behind it: the program
@@ -110,7 +121,7 @@ fn by_pipe(program: &Path, sheet: &[u8], number: u64) -> io::Result<Vec<u8>> {
     });
     let output = child.wait_with_output()?;
     writer.join().expect("the writer does not panic");
-    Ok(output.stdout)
+    Ok(printed(output))
 }
 
 fn report(seed: u64, difference: &Difference) -> io::Result<()> {
