@@ -1,0 +1,17 @@
+//! Links the proved functions: `rt staticlib bench` writes the archive.
+
+use std::path::Path;
+
+fn main() {
+    let folder = Path::new(env!("CARGO_MANIFEST_DIR")).join("../target/staticlib");
+    let archive = folder.join("libbench.a");
+    println!("cargo:rerun-if-changed={}", archive.display());
+    if !archive.exists() {
+        panic!("{} is not there: run benchmark/run", archive.display());
+    }
+    println!("cargo:rustc-link-search=native={}", folder.display());
+    println!("cargo:rustc-link-lib=static=bench");
+    for function in ["memcpy", "memmove"] {
+        println!("cargo:rustc-link-arg-bin=copies=-Wl,--wrap={function}");
+    }
+}
