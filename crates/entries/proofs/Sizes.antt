@@ -58,12 +58,12 @@ read-sized b = record {
   nodes-long = length-listed (λ i. readNode (nodePart b i) .node) nodeSlots;
   callers-long = length-listed (λ p. readProcessor (callerPart b p) .processor) maxProcessors;
   forward-long = λ i h.
-    ap (λ (n : Node). length (n .forward)) (getD-listed (λ k. readNode (nodePart b k) .node) nodeSlots i (freshNode 0) h) ∙ forward-read (nodePart b i);
+      ap (λ (n : Node). length (n .forward)) (getD-listed (λ k. readNode (nodePart b k) .node) nodeSlots i (freshNode 0) h) ∙ forward-read (nodePart b i);
   locks-long = λ i h.
-    ap (λ (n : Node). length (n .locks)) (getD-listed (λ k. readNode (nodePart b k) .node) nodeSlots i (freshNode 0) h) ∙ locks-read (nodePart b i);
+      ap (λ (n : Node). length (n .locks)) (getD-listed (λ k. readNode (nodePart b k) .node) nodeSlots i (freshNode 0) h) ∙ locks-read (nodePart b i);
   saved-long = λ p h.
-    ap (λ (c : Processor). length (c .saved)) (getD-listed (λ k. readProcessor (callerPart b k) .processor) maxProcessors p freshProcessor h)
-    ∙ saved-read (callerPart b p);
+      ap (λ (c : Processor). length (c .saved)) (getD-listed (λ k. readProcessor (callerPart b k) .processor) maxProcessors p freshProcessor h)
+      ∙ saved-read (callerPart b p);
 }
 
 -- whatever the bytes are
@@ -123,12 +123,12 @@ applied-sized q S p d =
       nodes-long = length-set (q .nodes) k (f (nodeAt q k)) ∙ S .nodes-long;
       callers-long = length-set (q .callers) p (g (processorAt q p)) ∙ S .callers-long;
       forward-long =
-        slots-kept (λ n. length (n .forward) ≡ 8) f (q .nodes) k nodeSlots (freshNode 0)
-        (forward-kept (q .levels) (q .entries + 1) (p + 1) (q .clock + 1) (d .effect)) (S .forward-long);
+          slots-kept (λ n. length (n .forward) ≡ 8) f (q .nodes) k nodeSlots (freshNode 0)
+          (forward-kept (q .levels) (q .entries + 1) (p + 1) (q .clock + 1) (d .effect)) (S .forward-long);
       locks-long =
-        slots-kept (λ n. length (n .locks) ≡ 8) f (q .nodes) k nodeSlots (freshNode 0)
-        (locks-kept (q .levels) (q .entries + 1) (p + 1) (q .clock + 1) (d .effect)) (S .locks-long);
+          slots-kept (λ n. length (n .locks) ≡ 8) f (q .nodes) k nodeSlots (freshNode 0)
+          (locks-kept (q .levels) (q .entries + 1) (p + 1) (q .clock + 1) (d .effect)) (S .locks-long);
       saved-long =
-        slots-kept (λ c. length (c .saved) ≡ 8) g (q .callers) p maxProcessors freshProcessor
-        (λ c h. saved-kept (q .levels) (c .saved) (d .carry) h) (S .saved-long);
+          slots-kept (λ c. length (c .saved) ≡ 8) g (q .callers) p maxProcessors freshProcessor
+          (λ c h. saved-kept (q .levels) (c .saved) (d .carry) h) (S .saved-long);
     }

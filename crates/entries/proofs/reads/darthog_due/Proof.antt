@@ -3,8 +3,8 @@ use Rattle.checks.specs.declared.seconds.Minutes.{Minutes}
 use Rattle.checks.specs.Due.{reportedMinutes}
 use Rattle.entries.specs.Entries.{replyOf}
 use borrow.Author.Needs.{needs}
-use Rattle.entries.proofs.calls.darthog_due.Statement.{statement}
-use Rattle.entries.proofs.calls.darthog_due.Tie as tie
+use Rattle.entries.proofs.reads.darthog_due.Statement.{statement}
+use Rattle.entries.proofs.reads.darthog_due.Tie as tie
 
 due-from-seconds-requires : tie.Need-due-from-seconds-requires
 due-from-seconds-requires c κs = search needs

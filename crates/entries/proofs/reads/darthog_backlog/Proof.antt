@@ -1,8 +1,8 @@
 use borrow.Author.Tests.{not-true, not-false}
 use Rattle.entries.proofs.Stored.{none-counted, counted}
 use borrow.Author.Needs.{needs}
-use Rattle.entries.proofs.calls.darthog_backlog.Statement.{statement}
-use Rattle.entries.proofs.calls.darthog_backlog.Tie as tie
+use Rattle.entries.proofs.reads.darthog_backlog.Statement.{statement}
+use Rattle.entries.proofs.reads.darthog_backlog.Tie as tie
 
 decode-requires : tie.Need-decode-requires
 decode-requires c κs = search needs

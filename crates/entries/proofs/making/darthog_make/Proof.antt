@@ -2,8 +2,8 @@ use mathlib.Core.Path.{_≡_, sym, _∙_}
 use native.Mathlib.Omega.{arith}
 use Rattle.entries.proofs.Stored.{not-made, made-in, not-long}
 use borrow.Author.Needs.{needs}
-use Rattle.entries.proofs.calls.darthog_make.Statement.{statement}
-use Rattle.entries.proofs.calls.darthog_make.Tie as tie
+use Rattle.entries.proofs.making.darthog_make.Statement.{statement}
+use Rattle.entries.proofs.making.darthog_make.Tie as tie
 
 make-requires : tie.Need-make-requires
 make-requires c κs = search needs
