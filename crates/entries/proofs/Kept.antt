@@ -1,6 +1,6 @@
 -- Each call keeps the arrays' lengths, and a refused one gives the record as it came. Assumes nothing.
 use mathlib.Core.Path.{_≡_, refl, sym, _∙_}
-use mathlib.Core.Bool.{true, false, cond, _||_, true≢false}
+use mathlib.Core.Bool.{true, false, _||_, true≢false}
 use Prim.Native.Nat.{ℕ}
 use lib.Dec.{ltb, leb, eqb}
 use Rattle.laws.proofs.Booleans.{cond-elim}

@@ -4,7 +4,6 @@ use mathlib.Core.Path.{_≡_}
 use mathlib.Core.Bool.{true, false}
 use mathlib.Core.List.{List, [], _∷_}
 use Rattle.checks.specs.Backlog.{reportedCount}
-use Rattle.checks.specs.Making.{made}
 use Rattle.image.specs.Image.{imageOf, recordOf}
 use Rattle.record.specs.declared.queues.Queue.{Queue}
 use Rattle.record.specs.Queues.{freshQueue}
