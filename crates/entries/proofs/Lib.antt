@@ -1,0 +1,4 @@
+pub mod Stored
+pub mod Sizes
+pub mod Kept
+pub mod Runs

@@ -1,0 +1,53 @@
+-- Lists of calls on lent bytes: each call takes the bytes that the one before left.
+use Prim.Native.Nat.{ℕ}
+use mathlib.Core.Path.{_≡_}
+use mathlib.Core.Bool.{true, false}
+use mathlib.Core.List.{List, [], _∷_}
+use Rattle.checks.specs.Backlog.{reportedCount}
+use Rattle.image.specs.Image.{imageOf, recordOf}
+use Rattle.record.specs.declared.queues.Queue.{Queue}
+use Rattle.record.specs.Queues.{freshQueue}
+use Rattle.rules.specs.declared.answers.Outcome.{Outcome}
+use Rattle.rules.specs.Answers.{reported}
+use Rattle.rules.specs.Calls.{beginInsert, beginDelete, step}
+use Rattle.rules.specs.Runs.{Call, insert, deleteMin, steps, backlog, Reply as Replied, answered, counted, reply, afterAll}
+use Rattle.entries.specs.declared.replies.Reply.{Reply}
+use Rattle.entries.specs.Entries.{replyOf, replyTo, isRefusal, onBytes, bytesAfter, countOn}
+
+-- the bytes that an entry leaves, and its reply
+abbrev pub bytesAfterCall : List ℕ → Call → List ℕ
+bytesAfterCall b (insert p due item height) = bytesAfter b (onBytes b (λ q. beginInsert q p due item height))
+bytesAfterCall b (deleteMin p) = bytesAfter b (onBytes b (λ q. beginDelete q p))
+bytesAfterCall b (steps p) = bytesAfter b (onBytes b (λ q. step q p))
+bytesAfterCall b backlog = b
+
+abbrev pub replyToCall : List ℕ → Call → Reply
+replyToCall b (insert p due item height) = replyTo (onBytes b (λ q. beginInsert q p due item height))
+replyToCall b (deleteMin p) = replyTo (onBytes b (λ q. beginDelete q p))
+replyToCall b (steps p) = replyTo (onBytes b (λ q. step q p))
+replyToCall b backlog = replyOf (reportedCount (countOn b))
+
+-- the bytes after a list of calls
+unfoldable pub bytesAfterAll : List ℕ → List Call → List ℕ
+bytesAfterAll b [] = b
+bytesAfterAll b (c ∷ cs) = bytesAfterAll (bytesAfterCall b c) cs
+
+-- what a call on a record gives back, in numbers
+abbrev pub inNumbers : Replied → Reply
+inNumbers (answered a) = replyOf (reported a)
+inNumbers (counted k) = replyOf (reportedCount k)
+
+-- A call on any bytes, if it is accepted, leaves bytes that are read as the defined record.
+abbrev pub AcceptedIsRead : (Queue → Outcome) → Type 0
+AcceptedIsRead call =
+    (b : List ℕ) → isRefusal (onBytes b call .answer) ≡ false → recordOf (bytesAfter b (onBytes b call)) ≡ record { ok = true; queue = onBytes b call .queue }
+
+-- Calls on bytes are the calls of the theorem of demand 3: after every list of calls on the image of a queue that was just made, the bytes are the
+-- image of the record after these calls, are read as this record, and the reply to the next call is that of the record, in numbers.
+pub record SameRun (q : Queue) (b : List ℕ) (cs : List Call) : Type 0 where
+  pub bytes : bytesAfterAll b cs ≡ imageOf (afterAll q cs)
+  pub read : recordOf (bytesAfterAll b cs) ≡ record { ok = true; queue = afterAll q cs }
+  pub next : (c : Call) → replyToCall (bytesAfterAll b cs) c ≡ inNumbers (reply (afterAll q cs) c)
+
+abbrev pub BytesAreTheRecord : Type 0
+BytesAreTheRecord = (P N L : ℕ) (cs : List Call) → SameRun (freshQueue P N L) (imageOf (freshQueue P N L)) cs

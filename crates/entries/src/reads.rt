@@ -1,0 +1,35 @@
+// What changes no byte: Backlog, and a due minute from seconds.
+ghost use mathlib.Core.Path.{_≡_};
+ghost use Rattle.checks.specs.Backlog.{reportedCount};
+ghost use Rattle.checks.specs.Due.{minutesOf, reportedMinutes};
+ghost use Rattle.entries.specs.Entries.{replyOf, countOn};
+use crate::replies::Reply;
+use crate::replies::count_reply;
+use crate::replies::minutes_reply;
+use crate::replies::refusal;
+use checks::backlog;
+use checks::due_from_seconds;
+use image::decode;
+
+// Backlog: 0 and the number of nodes in use, or 21.
+#[no_mangle]
+pub extern "C" fn darthog_backlog(image: &[u8]) -> Reply
+    ensures { λ r. ⌜ r ≡ replyOf (reportedCount (countOn (now (image .entry)))) ⌝ }
+{
+    let d = decode(image);
+    if !d.ok {
+        return refusal(21);
+    }
+    let q = d.queue;
+    let c = backlog(q);
+    count_reply(c)
+}
+
+// A due minute from seconds: 0 and the minute, or 35.
+#[no_mangle]
+pub extern "C" fn darthog_due(seconds: u64) -> Reply
+    ensures { λ r. ⌜ r ≡ replyOf (reportedMinutes (minutesOf seconds)) ⌝ }
+{
+    let m = due_from_seconds(seconds);
+    minutes_reply(m)
+}

@@ -1,0 +1,80 @@
+/* Darthog: a priority queue of timed withdrawals, advanced one step per call. The host keeps a queue as DARTHOG_IMAGE_LENGTH bytes, its image, and
+ * lends them to each call; docs/IMAGE.md has their layout. Link libentries.a.
+ *
+ * An accepted call leaves the image of the record after the call in place of the bytes; a refused one leaves every byte as it was. Bytes that are no
+ * image, of whatever length and whatever they hold, are refused with 21. Nothing is kept between calls but the bytes, and no call allocates: the
+ * stack that a call takes is below 64 KiB.
+ *
+ * What the host owes: image points to length readable bytes (writable ones where the pointer is not const), is not null even where length is 0, and
+ * no other thread reads or writes these bytes during the call.
+ */
+#ifndef DARTHOG_H
+#define DARTHOG_H
+
+#include <stddef.h>
+#include <stdint.h>
+
+#ifdef __cplusplus
+extern "C" {
+#endif
+
+/* How many bytes an image has. */
+#define DARTHOG_IMAGE_LENGTH 8561
+
+/* What a call gives back: a code, and the values that belong to it. A value that a code has not is 0; a refusal has three zeros. */
+struct darthog_reply {
+    uint32_t code;
+    uint32_t first;
+    uint32_t second;
+    uint32_t third;
+};
+
+/* Codes of accepted calls. */
+enum {
+    DARTHOG_ACCEPTED = 0,   /* of a begin: first is its time. Of Backlog: first is the count. Of a due minute: first is the minute */
+    DARTHOG_MOVED = 1,      /* of a step, as those below */
+    DARTHOG_WAITS = 2,
+    DARTHOG_EMPTY = 3,
+    DARTHOG_MARKED = 4,     /* first is due, second item, third ticket */
+    DARTHOG_INSERTED = 5,   /* the same */
+    DARTHOG_HANDED_OUT = 6  /* the same */
+};
+
+/* Codes of refusals, in the order in which they are looked for. */
+enum {
+    DARTHOG_BAD_PROCESSORS = 11, /* making: processors not 1 to 16 */
+    DARTHOG_BAD_ENTRIES = 12,    /* making: entries not 1 to 200 */
+    DARTHOG_BAD_LEVELS = 13,     /* making: levels not 1 to 8 */
+    DARTHOG_BAD_RECORD = 21,     /* every call: no image, or a record whose numbers are out of range; making: length is not an image's */
+    DARTHOG_CLOCK_ENDED = 31,    /* begin and step: the clock is 999,999 */
+    DARTHOG_NO_PROCESSOR = 32,   /* begin and step: the queue has no such processor */
+    DARTHOG_BUSY = 33,           /* begin: the processor is busy */
+    DARTHOG_IDLE = 34,           /* step: the processor is idle */
+    DARTHOG_TOO_LARGE = 35,      /* Insert: due or item above 999,999; a due minute: seconds above 59,999,999 */
+    DARTHOG_BAD_HEIGHT = 36,     /* Insert: height not 1 to the queue's levels */
+    DARTHOG_NO_NODE = 37         /* Insert: no node that may be used */
+};
+
+/* Makes a queue in these bytes, whatever they held: for processors (1 to 16), entries (1 to 200) and levels (1 to 8). 0, or 11, 12, 13 or 21. */
+uint32_t darthog_make(uint8_t *image, size_t length, uint32_t processors, uint32_t entries, uint32_t levels);
+
+/* Begins an Insert by a processor. */
+struct darthog_reply darthog_begin_insert(uint8_t *image, size_t length, uint32_t processor, uint32_t due, uint32_t item, uint32_t height);
+
+/* Begins a Delete_Min by a processor. */
+struct darthog_reply darthog_begin_delete_min(uint8_t *image, size_t length, uint32_t processor);
+
+/* The next step of a processor's operation. */
+struct darthog_reply darthog_step(uint8_t *image, size_t length, uint32_t processor);
+
+/* How many nodes are in use. */
+struct darthog_reply darthog_backlog(const uint8_t *image, size_t length);
+
+/* The due minute of a count of seconds, the rest of a started minute dropped. */
+struct darthog_reply darthog_due(uint64_t seconds);
+
+#ifdef __cplusplus
+}
+#endif
+
+#endif
