@@ -18,9 +18,9 @@ use Rattle.rules.specs.Answers.{refused}
 use Rattle.rules.specs.Calls.{insertDecision, deleteDecision, stepDecision, beginInsertValid, beginDeleteValid, stepValid}
 use Rattle.rules.specs.Choice.{chosen}
 use Rattle.rules.specs.Effects.{nodeOf, accepted}
-use Rattle.queue.specs.Begins.{insertBegins, deleteBegins, entryRefused}
+use Rattle.choosing.specs.Begins.{insertBegins, deleteBegins, entryRefused}
 use Rattle.queue.proofs.Begun.{chosen-low, height-high, insert-kept, delete-kept}
-use Rattle.queue.proofs.Bounds.{processor-low, changed-low}
+use Rattle.choosing.proofs.Bounds.{processor-low, changed-low}
 use Rattle.queue.proofs.Steps.{step-kept}
 use Rattle.sheet.specs.declared.lines.Line.{Line}
 use Rattle.sheet.specs.Letters.{letterD, letterI}

@@ -13,7 +13,7 @@ use Rattle.rules.specs.declared.answers.Answer.the-variants as ans
 use Rattle.rules.specs.declared.decisions.Decision.{Decision}
 use Rattle.rules.specs.declared.decisions.Sight.{Sight}
 use Rattle.rules.specs.Decide.{decide}
-use Rattle.queue.specs.Begins.{insertBegins, deleteBegins, entryRefused}
+use Rattle.choosing.specs.Begins.{insertBegins, deleteBegins, entryRefused}
 use Rattle.sheet.specs.declared.events.Event.{Event}
 use Rattle.sheet.specs.declared.lines.Line.{Line}
 use Rattle.sheet.specs.Events.{event, entryEvent, beginEvents, stepEvents}

@@ -2,8 +2,8 @@
 ghost use mathlib.Core.Path.{_≡_};
 ghost use Rattle.calling.specs.Calls.{callsOf, slotOf, numbersRefusal, lineRefusal, callRefusal, asksNode, withNode};
 use checks::limits::NUMBER;
-use queue::begins::entry_refused;
-use queue::begins::height_refused;
+use choosing::begins::entry_refused;
+use choosing::begins::height_refused;
 use sheet::Line;
 use sheet::letters::LETTER_D;
 use sheet::letters::LETTER_I;

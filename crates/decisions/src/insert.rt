@@ -2,13 +2,13 @@
 ghost use mathlib.Core.Path.{_≡_};
 ghost use Prim.Native.Nat.{ℕ, _+_};
 ghost use Rattle.rules.specs.Decide.{insertSearched, insertSought, insertFreed, insertStep};
-use crate::moves::answers;
-use crate::moves::at;
-use crate::moves::moved;
-use crate::moves::saving;
-use crate::moves::waits;
 use crate::search::search_step;
 use crate::search::seek_step;
+use parts::moves::answers;
+use parts::moves::at;
+use parts::moves::moved;
+use parts::moves::saving;
+use parts::moves::waits;
 use record::Insert;
 use record::Place;
 use record::Seek;

@@ -1,7 +1,7 @@
 // A step of a Search and of a Lock-seek, which an Insert and a removal share.
 ghost use mathlib.Core.Path.{_≡_};
 ghost use Rattle.rules.specs.Decide.{searchStep, seekStep};
-use crate::moves::at;
+use parts::moves::at;
 use record::Place;
 use record::Seek;
 use rules::Effect;

@@ -8,7 +8,7 @@ ghost use Rattle.rules.specs.Answers.{reported};
 ghost use Rattle.entries.specs.Entries.{replyOf, isRefusal};
 use checks::Count;
 use checks::Minutes;
-use queue::runs::numbers_of;
+use lists::runs::numbers_of;
 use rules::Answer;
 
 // Four numbers of 32 bits, as C has them.

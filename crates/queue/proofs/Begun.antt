@@ -27,8 +27,8 @@ use Rattle.rules.specs.Runs.{Call, insert, deleteMin, after}
 use Rattle.rules.proofs.Valid.{kept-valid}
 use Rattle.rules.proofs.ValidDecisions.{chosen-high}
 use Rattle.rules.proofs.ValidFacts.{valid-facts}
-use Rattle.queue.specs.Begins.{insertBegins, entryRefused}
-use Rattle.queue.proofs.Bounds.{entries-high}
+use Rattle.choosing.specs.Begins.{insertBegins, entryRefused}
+use Rattle.choosing.proofs.Bounds.{entries-high}
 
 -- a list written at its first place with what stands there
 first-again : {A : Type 0} (l : List A) (d : A) → 0 < length l → set l 0 (getD l 0 d) ≡ l

@@ -1,5 +1,2 @@
-pub mod Bounds
-pub mod Choosing
-pub mod Steps
 pub mod Begun
-pub mod Plains
+pub mod Steps

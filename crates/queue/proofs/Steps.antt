@@ -22,7 +22,7 @@ use Rattle.rules.specs.Decide.{decide}
 use Rattle.rules.specs.Effects.{nodeOf, changed, processorAfter, accepted}
 use Rattle.rules.specs.Runs.{Call, steps, after}
 use Rattle.rules.proofs.Valid.{kept-valid}
-use Rattle.decisions.specs.From.{sightFrom}
+use Rattle.parts.specs.From.{sightFrom}
 
 -- the record and the answer after a decision that processor p takes: node w becomes m, the processor after
 abbrev pub stored : Queue → ℕ → ℕ → ℕ → Node → Processor → Decision → Outcome

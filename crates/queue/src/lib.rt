@@ -1,11 +1,8 @@
-// The calls, and lists of calls. In `stepping`, `inserting` and `deleting` one function holds the record: it reads and stores nodes and
-// processors by index, and hands single nodes and numbers to the functions of `decisions`. Check 21 keeps every index in range.
-pub mod begins;
+// The calls. In `stepping`, `inserting` and `deleting` one function holds the record: it reads and stores nodes and processors by index,
+// and hands single nodes and numbers to the functions of `parts` and `decisions`. Check 21 keeps every index in range.
 pub mod calls;
-pub mod choice;
 pub mod deleting;
 pub mod inserting;
-pub mod runs;
 pub mod stepping;
 
 pub use calls::begin_delete_min;

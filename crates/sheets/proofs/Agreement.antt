@@ -11,7 +11,7 @@ use Rattle.rules.specs.Calls.{beginInsert, beginDelete, step}
 use Rattle.rules.specs.Runs.{Call, insert, deleteMin, steps, backlog, after, afterAll}
 use Rattle.rules.specs.Book.{Book, emptyBook, agrees, judged}
 use Rattle.rules.proofs.Demand3.{demand-three}
-use Rattle.queue.proofs.Plains.{IsFresh, fresh, made-fresh}
+use Rattle.lists.proofs.Plains.{IsFresh, fresh, made-fresh}
 use Rattle.sheet.specs.declared.events.Event.{Event}
 use Rattle.sheet.specs.declared.lines.Line.{Line}
 use Rattle.sheet.specs.Events.{Running, running, isRefused, insertLine, deleteLine, stepOnce, stepsLine, historyBytes}

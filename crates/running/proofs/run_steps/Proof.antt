@@ -15,7 +15,7 @@ use Rattle.record.specs.Stages.{isIdle}
 use Rattle.checks.proofs.Reading.{noProcessor, node-read, processor-read}
 use Rattle.rules.specs.declared.answers.Outcome.{Outcome}
 use Rattle.rules.specs.Calls.{readingPlace, nextOf}
-use Rattle.queue.proofs.Bounds.{nodes-long, callers-long, entries-high, processors-high, processor-low, place-low, own-low, next-low, changed-low}
+use Rattle.choosing.proofs.Bounds.{nodes-long, callers-long, entries-high, processors-high, processor-low, place-low, own-low, next-low, changed-low}
 use Rattle.queue.proofs.Steps.{decided, changes, step-kept}
 use Rattle.running.specs.Turns.{steppedTo}
 use Rattle.running.proofs.Turns.{stepped-none, stepped-next, full, none, idles, goes}

@@ -7,7 +7,7 @@ use Rattle.checks.specs.declared.making.Made.{Made}
 use mathlib.Core.Bool.{true, false}
 use Rattle.checks.specs.Check.{valid}
 use Rattle.checks.specs.Making.{made}
-use Rattle.queue.proofs.Plains.{made-passes}
+use Rattle.lists.proofs.Plains.{made-passes}
 use Rattle.sheet.specs.declared.lines.Line.{Line}
 use Rattle.sheet.specs.Lines.{firstOutOfForm, firstMisplaced, lineOf}
 use Rattle.sheet.specs.Sheets.{history, fitted}

@@ -5,8 +5,8 @@ use Rattle.calling.proofs.calls.numbers_refusal.Statement.{statement}
 use Rattle.calling.proofs.calls.numbers_refusal.Tie as tie
 use Rattle.calling.proofs.calls.numbers_refusal.Reads as reads
 use Rattle.calling.proofs.calls.numbers_refusal.Lts as lts
-use Rattle.queue.proofs.begins.entry_refused.Reads as entry-refused-reads
-use Rattle.queue.proofs.begins.height_refused.Reads as height-refused-reads
+use Rattle.choosing.proofs.begins.entry_refused.Reads as entry-refused-reads
+use Rattle.choosing.proofs.begins.height_refused.Reads as height-refused-reads
 
 -- src/calls.rt:44:8
 entry-refused-requires : tie.Need-entry-refused-requires

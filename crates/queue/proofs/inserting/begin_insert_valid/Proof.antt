@@ -10,8 +10,8 @@ use Rattle.record.specs.Stages.{isIdle}
 use Rattle.checks.proofs.Reading.{node-read, processor-read}
 use Rattle.checks.specs.Making.{outside}
 use Rattle.rules.specs.Choice.{chosen}
-use Rattle.queue.specs.Begins.{entryRefused}
-use Rattle.queue.proofs.Bounds.{nodes-long, callers-long, entries-high, processor-low}
+use Rattle.choosing.specs.Begins.{entryRefused}
+use Rattle.choosing.proofs.Bounds.{nodes-long, callers-long, entries-high, processor-low}
 use Rattle.queue.proofs.Steps.{changes}
 use Rattle.queue.proofs.Begun.{chosen-low, height-high, insert-decided, insert-takes, insert-accepted, insert-kept}
 use Rattle.queue.proofs.inserting.begin_insert_valid.Statement.{statement}

@@ -6,8 +6,8 @@ use Rattle.runner.proofs.lines.decision.Tie as tie
 use Rattle.runner.proofs.lines.decision.Reads as reads
 use Rattle.runner.proofs.lines.decision.Lts as lts
 use Rattle.decisions.proofs.walk.decide.Reads as decide-reads
-use Rattle.queue.proofs.begins.delete_begins.Reads as delete-begins-reads
-use Rattle.queue.proofs.begins.insert_begins.Reads as insert-begins-reads
+use Rattle.choosing.proofs.begins.delete_begins.Reads as delete-begins-reads
+use Rattle.choosing.proofs.begins.insert_begins.Reads as insert-begins-reads
 
 -- src/calls.rt:111:63
 cast-insert-begins : tie.Need-cast-insert-begins

@@ -27,7 +27,7 @@ use Rattle.rules.specs.declared.answers.Answer.{Answer}
 use Rattle.rules.specs.declared.answers.Outcome.{Outcome}
 use Rattle.rules.specs.declared.decisions.Decision.{Decision}
 use Rattle.rules.specs.Effects.{accepted}
-use Rattle.queue.proofs.Bounds.{nodes-long, callers-long, entries-high, processor-low, place-low, own-low, next-low}
+use Rattle.choosing.proofs.Bounds.{nodes-long, callers-long, entries-high, processor-low, place-low, own-low, next-low}
 use Rattle.queue.proofs.Steps.{stored, decided, changes}
 use Rattle.sheet.specs.Lines.{lineOf, partAt, lineCount}
 use Rattle.sheet.specs.Scans.{roomAt}

@@ -1,0 +1,76 @@
+-- Calls and answers as plain numbers, five for each: of a call its kind, processor, due, item and height; of an answer its number, three
+-- values and the clock after the call. Kind 1 begins an Insert, kind 2 begins a Delete_Min, every other kind is a step.
+use mathlib.Core.Path.{_≡_}
+use Prim.Native.Nat.{ℕ, zero, suc, _+_, _*_, _/_}
+use mathlib.Core.Bool.{cond}
+use mathlib.Core.List.{List, [], _∷_, _++_}
+use lib.Dec.{ltb, eqb}
+use lib.ListN.{length, getD, set}
+use Rattle.checks.specs.declared.making.Made.{Made}
+use Rattle.record.specs.declared.queues.Queue.{Queue}
+use Rattle.rules.specs.declared.answers.Answer.{Answer}
+use Rattle.rules.specs.Answers.{reported}
+use Rattle.rules.specs.Book.{Book, emptyBook, agrees, judged}
+use Rattle.rules.specs.Runs.{Call, insert, deleteMin, steps, after, Reply, answered, counted, reply}
+use Rattle.lists.specs.declared.runs.Asked.{Asked}
+use Rattle.lists.specs.declared.runs.Told.{Told}
+
+-- the call that begins at this place of the list
+abbrev pub askedAt : List ℕ → ℕ → Asked
+askedAt l i = record { kind = getD l i 0; processor = getD l (i + 1) 0; due = getD l (i + 2) 0; item = getD l (i + 3) 0; height = getD l (i + 4) 0 }
+
+abbrev pub callOf : Asked → Call
+callOf a =
+    cond (eqb (a .kind) 1) (insert (a .processor) (a .due) (a .item) (a .height))
+    (cond (eqb (a .kind) 2) (deleteMin (a .processor)) (steps (a .processor)))
+
+-- call number k, from 0
+abbrev pub callAt : List ℕ → ℕ → Call
+callAt l k = callOf (askedAt l (k * 5))
+
+-- the first k calls
+unfoldable pub callsTo : List ℕ → ℕ → List Call
+callsTo l zero = []
+callsTo l (suc k) = callsTo l k ++ (callAt l k ∷ [])
+
+-- the record after the first k calls
+unfoldable pub recordTo : Queue → List ℕ → ℕ → Queue
+recordTo q l zero = q
+recordTo q l (suc k) = after (recordTo q l k) (callAt l k)
+
+abbrev pub tell : ℕ → ℕ → ℕ → ℕ → Told
+tell number first second third = record { number = number; first = first; second = second; third = third }
+
+-- an answer in document 01's numbers: its number, its values, and 0 for a value that it has not
+abbrev pub told : Answer → Told
+told a = tell (reported a .number) (getD (reported a .values) 0 0) (getD (reported a .values) 1 0) (getD (reported a .values) 2 0)
+
+-- no call of these lists is a Backlog, whose reply is a count
+abbrev pub toldBy : Reply → Told
+toldBy (answered a) = told a
+toldBy (counted k) = tell 0 0 0 0
+
+-- an answer's five numbers, written from this place on
+abbrev pub put : List ℕ → ℕ → Told → ℕ → List ℕ
+put l i r clock = set (set (set (set (set l i (r .number)) (i + 1) (r .first)) (i + 2) (r .second)) (i + 3) (r .third)) (i + 4) clock
+
+-- the list of answers, a at first, after the first k calls on the record q: answer k stands in the numbers 5k to 5k + 4
+unfoldable pub writtenTo : Queue → List ℕ → List ℕ → ℕ → List ℕ
+writtenTo q l a zero = a
+writtenTo q l a (suc k) = put (writtenTo q l a k) (k * 5) (toldBy (reply (recordTo q l k) (callAt l k))) (recordTo q l (suc k) .clock)
+
+abbrev pub smaller : ℕ → ℕ → ℕ
+smaller x y = cond (ltb x y) x y
+
+-- how many calls are run: those that both lists have five numbers for
+abbrev pub turns : List ℕ → List ℕ → ℕ
+turns l a = smaller (length l / 5) (length a / 5)
+
+-- the list of answers after a run: as it was where no queue is made
+abbrev pub answersOn : Made → List ℕ → List ℕ → List ℕ
+answersOn m l a = cond (eqb (m .refusal) 0) (writtenTo (m .queue) l a (turns l a)) a
+
+-- the book agrees with what the definitions give back, call by call; the answers written are the numbers of the same replies
+pub record Agreed (m : Made) (l a : List ℕ) : Type 0 where
+  pub book : Book
+  pub judges : judged emptyBook (m .queue) (callsTo l (turns l a)) ≡ agrees book

@@ -1,0 +1,132 @@
+// What a step reads: the place that its stage carries, and from three nodes the numbers that a decision takes.
+ghost use mathlib.Core.Path.{_≡_};
+ghost use Prim.Native.Nat.{ℕ, _+_, _-_};
+ghost use lib.Dec.{eqb};
+ghost use Rattle.record.specs.Queues.{savedAt};
+ghost use Rattle.record.specs.Stages.{carried, isIdle};
+ghost use Rattle.rules.specs.Calls.{walkPlace, readingPlace, entryOf};
+ghost use Rattle.parts.specs.From.{sightFrom};
+use crate::moves::at;
+use record::Delete;
+use record::Node;
+use record::Place;
+use record::Processor;
+use record::Stage;
+use record::levels::number_at;
+use record::nodes::stamped_before;
+use record::stages::carried_by;
+use rules::Entry;
+use rules::Sight;
+
+pub fn is_idle(g: Stage) -> bool
+    ensures { λ r. ⌜ r ≡ isIdle g ⌝ }
+{
+    match g {
+        Stage::Idle => true,
+        Stage::Insert(_) => false,
+        Stage::Delete(_) => false,
+    }
+}
+
+// The place that a stage carries.
+fn carried_place(g: Stage) -> Place
+    ensures { λ r. ⌜ r ≡ carried g .place ⌝ }
+{
+    let k = carried_by(g);
+    k.place
+}
+
+// The walk reads at level 1, whatever level its place has (W1: read b at level 1).
+fn walk_place(d: Delete) -> Place
+    ensures { λ r. ⌜ r ≡ walkPlace d ⌝ }
+{
+    match d {
+        Delete::Next(a) => at(a.node, 1),
+        Delete::Stamped(a) => at(a.node, 1),
+        Delete::Mark(a) => at(a.node, 1),
+        Delete::Removal(r) => carried_place(Stage::Delete(Delete::Removal(r))),
+    }
+}
+
+// The place that a step of this stage reads at.
+pub fn reading_place(g: Stage) -> Place
+    ensures { λ r. ⌜ r ≡ readingPlace g ⌝ }
+{
+    match g {
+        Stage::Idle => Place::HEAD,
+        Stage::Insert(i) => carried_place(Stage::Insert(i)),
+        Stage::Delete(d) => walk_place(d),
+    }
+}
+
+pub fn entry_of(n: Node) -> Entry
+    ensures { λ r. ⌜ r ≡ entryOf n ⌝ }
+{
+    Entry {
+        due: n.due,
+        item: n.item,
+        ticket: n.ticket,
+    }
+}
+
+// Whether x is the tail's number in a queue with `entries` nodes for entries.
+fn is_tail(x: u8, entries: u8) -> bool
+    ensures { λ r. ⌜ r ≡ eqb x (entries + 1) ⌝ }
+{
+    if x == 0 { false } else { x - 1 == entries }
+}
+
+// The saved nodes one level up and one level down.
+fn saved_above(c: Processor, level: u8) -> u8
+    ensures { λ r. ⌜ r ≡ savedAt c (level + 1) ⌝ }
+{
+    let saved = c.saved;
+    number_at(saved, level as usize)
+}
+
+fn saved_below(c: Processor, level: u8) -> u8
+    ensures { λ r. ⌜ r ≡ savedAt c (level - 1) ⌝ }
+{
+    if level == 0 {
+        c.saved_at(0)
+    } else {
+        c.saved_at(level - 1)
+    }
+}
+
+// From the place's node, the own node, and the node after the place, which is number `next`.
+pub fn sight_from(
+    here: Node,
+    own: Node,
+    ahead: Node,
+    next: u8,
+    c: Processor,
+    a: Place,
+    entries: u8,
+    levels: u8,
+) -> Sight
+    ensures { λ r. ⌜ r ≡ sightFrom here own ahead next c a entries levels ⌝ }
+{
+    let ahead_key = ahead.key(next, entries);
+    let own_key = own.key(c.own, entries);
+    let stamp = here.stamp;
+    Sight {
+        own: c.own,
+        height: own.height,
+        holder: own.lock,
+        next: next,
+        before: ahead_key.before(own_key),
+        tail: is_tail(next, entries),
+        guard: here.lock_at(a.level),
+        onward: own.forward_at(a.level),
+        latch: own.lock_at(a.level),
+        levels: levels,
+        marked: here.mark,
+        stamped: stamped_before(stamp, c.begin),
+        up: saved_above(c, a.level),
+        down: saved_below(c, a.level),
+        top: c.saved_at(own.height),
+        seen: entry_of(here),
+        mine: entry_of(own),
+    }
+}
