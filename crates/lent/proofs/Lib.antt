@@ -1,0 +1,7 @@
+pub mod Entry
+pub mod Numbers
+pub mod Callee
+pub mod Thin
+pub mod Outcomes
+pub mod Reader
+pub mod Remade

@@ -1,0 +1,12 @@
+// Backlog of a lent record, which it only reads.
+ghost use mathlib.Core.Path.{_≡_};
+ghost use Rattle.checks.specs.Backlog.{backlogOf, reportedCount};
+use checks::Count;
+use record::Queue;
+
+// How many of the nodes 1 to N are in use; 21 for a record that does not pass check 21.
+pub fn backlog(q: &Queue) -> Count
+    ensures { λ r. ⌜ (r ≡ backlogOf (now (q .entry))) × (reportedCount r ≡ reportedCount (backlogOf (now (q .entry)))) ⌝ }
+{
+    checks::backlog(*q)
+}
