@@ -51,11 +51,12 @@ record-is r v is = LL.owed S.the-type S′.the-laws r _ is .0
 pub answer-is : (r : Outcome) (v : Val) → Is S.the-row r (v ∷ []) → Is N.the-row (r .answer) (answer-val (r .answer) ∷ [])
 answer-is r v is = LL.owed S.the-type S′.the-laws r _ is .1 .0
 
+-- the outcome r is the defined one
+pub gave : (o r : Outcome) → r ≡ o → Gave o (r .queue) (r .answer)
+gave o r e = record { queue = ap (λ (x : Outcome). x .queue) e; answer = ap (λ (x : Outcome). x .answer) e; numbers = ap (λ (x : Outcome). reported (x .answer)) e }
+
 -- a call of the record and its numbers xs
 module _ {X : Type 0} (call : Queue → X → Outcome) where
-  abbrev pub Claims : Queue → X → Queue → Answer → Type 0
-  Claims h xs h′ a = Gave (call h xs) h′ a
-
   abbrev pub Told : Queue → X → Outcome → Type 0
   Told h xs r = r ≡ call h xs
 
@@ -65,6 +66,3 @@ module _ {X : Type 0} (call : Queue → X → Outcome) where
 
   pub told : {M : Type 1} (𝓤 : URA M) (h : Queue) (xs : X) (r : Outcome) → ent 𝓤 (Ensures 𝓤 h xs r) (fact 𝓤 (Told h xs r))
   told 𝓤 h xs r = fst∗ 𝓤 (fact 𝓤 (r ≡ call h xs)) (fact 𝓤 (reported (r .answer) ≡ reported (call h xs .answer)))
-
-  pub claims : (h : Queue) (xs : X) (r : Outcome) → Told h xs r → Claims h xs (r .queue) (r .answer)
-  claims h xs r e = record { queue = ap (λ (o : Outcome). o .queue) e; answer = ap (λ (o : Outcome). o .answer) e; numbers = ap (λ (o : Outcome). reported (o .answer)) e }

@@ -1,5 +1,5 @@
 -- The law of every thin entry that only reads: `f(*r)`, at a function f that is called by value and known by its contract alone. The record T, the answer N
--- and what is claimed are variables, as in Entry and Thin. Assumes nothing.
+-- and what the contract ensures are variables, as in Entry and Thin. Assumes nothing.
 use mathlib.Core.Path.{refl}
 use Prim.Native.Nat.{ℕ}
 use mathlib.Core.List.{[], _∷_, List}
@@ -12,6 +12,7 @@ use base.Fml.{GName, Lft, Share, ftrue, flft, fres, fshr-bor}
 use prog.Wp.{Heap, Calls, Loops, WpFn, Tables}
 use ghost.Atoms.{Atoms, sem}
 use contract.Monad.{fact}
+use contract.Lifetimes.{Lfts}
 use types.Kit.{Given, ‵, raw, mean, _⊛_, some, later, _$_, _∵_, !, qed, by, move, keep, drop, use1, split, join, pick, fsplit, fsplit3, fjoin, fjoin3, feqI, suffices, frame, await, done}
 use types.Run.{look, look-raw, init, forget, stop, hop, from, load, of-opd, assigns, and-then, no-more, land, returns, enter, alloc1, alloc0, params1, pass1, pass0, free1, free0}
 use sound.WpLaws.{FmC, fmOf, WpFn-mono}
@@ -19,7 +20,7 @@ use denote.RattleType.{RattleType, owns}
 use denote.Laws.{Is, shows, Makes}
 use denote.Memory.{partAt}
 use denote.Builtin.{RefOf}
-use denote.Ref.{RefT, ShrRef, now, ptr-vals, shr-tells}
+use denote.Ref.{RefT, ShrRef, ptr-vals, shr-tells}
 use denote.Signature.{Signature, plain}
 use denote.Steps.{looks, shuts, owned, peeks, heard, nothing}
 use denote.Struct.Steps.{spelt}
@@ -28,12 +29,13 @@ use denote.Struct.Struct.{layout, Plains}
 use denote.Struct.Declared.{Declared, shape, row, fields}
 use denote.Exit.{yes}
 use denote.Triple.Call.{calls-from}
-use denote.Triple.Entry.{onEntry}
+use denote.Triple.Entry.{Args, onEntry}
 use denote.Triple.Spec.{Meets}
 use denote.Triple.Statement.{Triple}
-use denote.Triple.Clauses.{Ended, Clauses, closing}
-use denote.Triple.Walked.{says, Stays, stay-none-ref, walkOf, goes-none-ref, ends-at, walked, walk-meets}
+use denote.Triple.Clauses.{Ended, Clauses, AtExit, atExit, closing}
+use denote.Triple.Walked.{Stays, stay-none-ref, walkOf, goes-none-ref, ends-at, walked, walk-meets}
 use Rattle.lent.proofs.Callee.{Callee, Ens, said, met}
+use Rattle.lent.proofs.Thin.{gives}
 
 -- the MIR: the locals are the answer, the reference and the copy of the record
 abbrev pub reader : Ty → Ty → Ty → Name → Fn
@@ -85,8 +87,7 @@ module _ (T : Declared) (LT : LL.Laws T) (PT : Plains (fields T)) (CT : LL.Copya
         move ! (7 ∷ 8 ∷ []) $ free1 ! $ move ! (5 ∷ 6 ∷ []) $ free1 ! $ move ! (3 ∷ 4 ∷ []) $ free1 ! $ free0 ! $
         keep ! (1 ∷ 3 ∷ 2 ∷ []) $ by ! (exits r v e is))))))))))
 
--- the contract: what is claimed of the record and the answer
-module _ (T : Declared) (N : RattleType) (Claims : T .D → N .Denot → Type 0) where
+module _ (T : Declared) (N : RattleType) where
   abbrev signature : Signature
   signature = record { lifetimes = 1; outlives = []; params = RefOf (0 ∷ []) tt (plain (λ _. row T)) (λ _. tt) ∷ []; result = plain (λ _. N) }
 
@@ -96,9 +97,19 @@ module _ (T : Declared) (N : RattleType) (Claims : T .D → N .Denot → Type 0)
   abbrev stayed : Stays (ended .signature .params) (ended .kept)
   stayed = (stay-none-ref (0 ∷ []) tt (plain (λ _. row T)) yes, tt)
 
-  module _ {M : Type 1} (𝓤 : URA M) (H : Heap 𝓤) (A : Atoms 𝓤) (W : Given 𝓤 H A) where
+  -- the lent record h at b, o
+  abbrev pub passed : ℕ → ℕ → GName → T .D → RefT (T .D) × Unit {0}
+  passed b o γ h = (record { ptr = (b, o); name = γ; now = h }, tt)
+
+  -- the parameters at exit
+  abbrev pub left : (κ : Lft) → ℕ → ℕ → GName → T .D → AtExit ended (κ, tt)
+  left κ b o γ h = atExit ended (κ, tt) (passed b o γ h) (tt, tt)
+
+  module _ {M : Type 1} (𝓤 : URA M) (H : Heap 𝓤) (A : Atoms 𝓤) (W : Given 𝓤 H A)
+      (Ensured : (κs : Lfts 1) → Args signature κs → N .Denot → AtExit ended κs → SProp 𝓤) where
+    -- the contract: no `requires`, and this `ensures`
     abbrev clauses : Clauses 𝓤 ended
-    clauses κs a = record { ghost = Unit {0}; requires = λ _. emp 𝓤; ensures = λ g r e. fact 𝓤 (Claims (now (a .0)) r) }
+    clauses κs a = record { ghost = Unit {0}; requires = λ _. emp 𝓤; ensures = λ g r e. Ensured κs a r e }
 
     -- what the host lends
     abbrev Lent : Lft → Share → ℕ → ℕ → GName → T .D → SProp 𝓤
@@ -106,7 +117,7 @@ module _ (T : Declared) (N : RattleType) (Claims : T .D → N .Denot → Type 0)
 
     module _ (κ : Lft) (q : Share) (b o : ℕ) (γ : GName) (h : T .D) where
       abbrev x : RefT (T .D) × Unit {0}
-      x = (record { ptr = (b, o); name = γ; now = h }, tt)
+      x = passed b o γ h
 
       abbrev at : List Val × Unit {0}
       at = (vptr b o ∷ [], tt)
@@ -114,10 +125,10 @@ module _ (T : Declared) (N : RattleType) (Claims : T .D → N .Denot → Type 0)
       abbrev Post : Val → SProp 𝓤
       Post = walkOf 𝓤 H A ended stayed clauses .post (((κ, tt), (q, tt), tt, x, at), tt)
 
-      exits : Makes 𝓤 H A N (Is N) → (r : N .Denot) (v : Val) → Claims h r → Is N r (v ∷ []) → ent 𝓤 (Lent κ q b o γ h) (Post v)
+      exits : Makes 𝓤 H A N (Is N) → (r : N .Denot) (v : Val) → ent 𝓤 (emp 𝓤) (Ensured (κ, tt) x r (left κ b o γ h)) → Is N r (v ∷ []) → ent 𝓤 (Lent κ q b o γ h) (Post v)
       exits makes r v claim is =
           qed W (‵ (flft κ q) ∷ ‵ (fres γ (row T .coded .code h)) ∷ ‵ (fshr-bor κ (λ s. partAt (row T) s h b o)) ∷ []) ∵
-          suffices ! _ (ends-at 𝓤 H A ended stayed clauses W (((κ, tt), (q, tt), tt, x, at), tt) v r (tt, tt) (tt, tt)) $ says ! claim $
+          suffices ! _ (ends-at 𝓤 H A ended stayed clauses W (((κ, tt), (q, tt), tt, x, at), tt) v r (tt, tt) (tt, tt)) $ gives ! claim $
           nothing ! $ move ! (1 ∷ 0 ∷ []) $ join ! $ frame ! $ feqI ! (List Val) (vptr b o ∷ []) (vptr b o ∷ []) refl $ fjoin3 ! $ nothing ! $
           move ! (1 ∷ 0 ∷ []) $ fjoin ! $ frame ! $ owned ! N (Is N) makes r _ is $ done !
 
@@ -130,7 +141,7 @@ module _ (T : Declared) (N : RattleType) (Claims : T .D → N .Denot → Type 0)
     pub reads : (LT : LL.Laws T) (PT : Plains (fields T)) (CT : LL.Copyables (T .parts)) (τp τN : Ty)
         → ((r : N .Denot) (v : Val) → Is N r (v ∷ []) → dec.T (hasTy τN v) × WT v) → Makes 𝓤 H A N (Is N)
         → (Told : T .D → N .Denot → Type 0) (E : T .D → N .Denot → SProp 𝓤) → ((h : T .D) (r : N .Denot) → ent 𝓤 (E h r) (fact 𝓤 (Told h r)))
-        → ((h : T .D) (r : N .Denot) → Told h r → Claims h r) → (𝓣 : Tables 𝓤 H) (f : Name) → Triple 𝓤 (𝓣 .C f) (Callee T LT N 0 𝓤 H A (λ h xs. E h))
+        → ((κ : Lft) (b o : ℕ) (γ : GName) (h : T .D) (r : N .Denot) → Told h r → ent 𝓤 (emp 𝓤) (Ensured (κ, tt) (passed b o γ h) r (left κ b o γ h))) → (𝓣 : Tables 𝓤 H) (f : Name) → Triple 𝓤 (𝓣 .C f) (Callee T LT N 0 𝓤 H A (λ h xs. E h))
         → Meets 𝓤 H A signature (WpFn 𝓤 H (𝓣 .C) (𝓣 .Λ) (reader (layout (shape T)) τp τN f)) (closing 𝓤 H A ended clauses)
     reads LT PT CT τp τN typed makes Told E told claims 𝓣 f known =
         walk-meets 𝓤 H A ended stayed W (goes-none-ref 𝓤 H A W 1 (0 ∷ []) tt (plain (λ _. row T)) yes, tt) clauses
@@ -141,5 +152,5 @@ module _ (T : Declared) (N : RattleType) (Claims : T .D → N .Denot → Type 0)
         (walk T LT PT CT τp τN f N 𝓤 H A W (κs .0) (qs .0) (a .0 .ptr .0) (a .0 .ptr .1) (a .0 .name) (a .0 .now) typed
         (Told (a .0 .now)) (Ens T LT N 0 𝓤 H A (λ h xs. E h) (a .0 .now) tt) (λ r. said T LT N 0 𝓤 H A (λ h xs. E h) (a .0 .now) tt r (Told (a .0 .now) r) (told (a .0 .now) r))
         (Post (κs .0) (qs .0) (a .0 .ptr .0) (a .0 .ptr .1) (a .0 .name) (a .0 .now))
-        (λ r v e is. exits (κs .0) (qs .0) (a .0 .ptr .0) (a .0 .ptr .1) (a .0 .name) (a .0 .now) makes r v (claims (a .0 .now) r e) is)
+        (λ r v e is. exits (κs .0) (qs .0) (a .0 .ptr .0) (a .0 .ptr .1) (a .0 .name) (a .0 .now) makes r v (claims (κs .0) (a .0 .ptr .0) (a .0 .ptr .1) (a .0 .name) (a .0 .now) r e) is)
         (𝓣 .C) (𝓣 .Λ) (fmOf 𝓤 H (W .laws) 𝓣) (met T LT N 0 𝓤 H A (λ h xs. E h) W (𝓣 .C) f known (a .0 .now) tt tt)))))
