@@ -1,5 +1,5 @@
-// The lines of a sheet after its Q line. One function holds the record in a local and loops over lines and calls, so that no call copies it; only an
-// Insert that is not refused before asks for a node, and lends the record's copy for that.
+// The lines of a sheet after its Q line. One function holds the record in a local and loops over lines and calls, so that no call copies it. Only an
+// Insert that nothing else refuses copies it once, to look for a node.
 ghost use mathlib.Core.Path.{_≡_};
 ghost use mathlib.Core.Bool.{true, false};
 ghost use Prim.Native.Nat.{_≤_};
