@@ -18,13 +18,7 @@ impl Queue {
         let mut image = Box::new([0; IMAGE_LENGTH]);
         // Safe: the bytes are lent for the call, with their length.
         let code = unsafe {
-            raw::darthog_make(
-                image.as_mut_ptr(),
-                image.len(),
-                processors,
-                entries,
-                levels,
-            )
+            raw::darthog_make(image.as_mut_ptr(), image.len(), processors, entries, levels)
         };
         match code {
             raw::ACCEPTED => Ok(Queue { image }),
