@@ -1,0 +1,154 @@
+/* Workers of one process share a queue: they file withdrawals, then take them until the queue is empty. Each gets one step at a time, in turn.
+ *
+ * Which entry a Delete_Min takes is decided when it marks it; unlinking it takes one worker more steps than another. So each withdrawal gets its turn
+ * when it is marked, and is printed once it and all before it were handed out. */
+#include <inttypes.h>
+#include <stdio.h>
+#include <stdlib.h>
+
+#include "darthog.h"
+
+enum { WORKERS = 4, ENTRIES = 12, LEVELS = 4 };
+
+/* What is filed: in how many seconds it is due, and its item. */
+static const struct { uint64_t seconds; uint32_t item; } withdrawals[ENTRIES] = {
+    {5400, 101}, {60, 102}, {3599, 103}, {86400, 104}, {59, 105},   {7200, 106},
+    {125, 107},  {3600, 108}, {60, 109}, {600, 110},  {43200, 111}, {59999999, 112},
+};
+
+/* A worker: whether it is in an operation, whether it found the queue empty, and the turn of the entry that it marked. */
+struct worker {
+    int busy;
+    int ended;
+    int turn;
+};
+
+/* An entry that was marked: by whom, and whether it was handed out yet. */
+struct taken {
+    struct darthog_reply entry;
+    uint32_t worker;
+    int out;
+};
+
+static uint8_t queue[DARTHOG_IMAGE_LENGTH];
+static struct taken taken[ENTRIES];
+
+static void stop(const char *call, uint32_t code) {
+    fprintf(stderr, "%s gave back %" PRIu32 "\n", call, code);
+    exit(1);
+}
+
+/* The value of a call that must be accepted. */
+static uint32_t value(const char *call, struct darthog_reply reply) {
+    if (reply.code != DARTHOG_ACCEPTED) stop(call, reply.code);
+    return reply.first;
+}
+
+static uint32_t backlog(void) {
+    return value("backlog", darthog_backlog(queue, sizeof queue));
+}
+
+/* Every second entry is linked on a second level, every fourth on a third, and so on. */
+static uint32_t height_of(int number) {
+    uint32_t height = 1;
+    for (int n = number + 1; n % 2 == 0 && height < LEVELS; n /= 2) height++;
+    return height;
+}
+
+/* Each worker files the next withdrawal, until all are filed. */
+static void file_all(void) {
+    int busy[WORKERS] = {0};
+    int begun = 0, filed = 0;
+    while (filed < ENTRIES) {
+        for (uint32_t w = 0; w < WORKERS; w++) {
+            if (busy[w]) {
+                struct darthog_reply r = darthog_step(queue, sizeof queue, w);
+                if (r.code == DARTHOG_INSERTED) {
+                    busy[w] = 0;
+                    filed++;
+                } else if (r.code != DARTHOG_MOVED && r.code != DARTHOG_WAITS) {
+                    stop("step", r.code);
+                }
+            } else if (begun < ENTRIES) {
+                uint32_t due = value("due", darthog_due(withdrawals[begun].seconds));
+                value("begin_insert",
+                      darthog_begin_insert(queue, sizeof queue, w, due, withdrawals[begun].item, height_of(begun)));
+                busy[w] = 1;
+                begun++;
+            }
+        }
+    }
+}
+
+/* One call of a worker that takes entries. */
+static void work(struct worker *worker, uint32_t w, int *marked) {
+    if (!worker->busy) {
+        value("begin_delete_min", darthog_begin_delete_min(queue, sizeof queue, w));
+        worker->busy = 1;
+        return;
+    }
+    struct darthog_reply r = darthog_step(queue, sizeof queue, w);
+    switch (r.code) {
+    case DARTHOG_MOVED:
+    case DARTHOG_WAITS:
+        break;
+    case DARTHOG_EMPTY:
+        worker->busy = 0;
+        worker->ended = 1;
+        break;
+    case DARTHOG_MARKED:
+        if (*marked == ENTRIES) stop("one mark too many: step", r.code);
+        worker->turn = (*marked)++;
+        taken[worker->turn].entry = r;
+        taken[worker->turn].worker = w;
+        break;
+    case DARTHOG_HANDED_OUT:
+        worker->busy = 0;
+        taken[worker->turn].out = 1;
+        break;
+    default:
+        stop("step", r.code);
+    }
+}
+
+/* Prints the withdrawals whose turn has come; gives the next turn. */
+static int print_from(int turn) {
+    while (turn < ENTRIES && taken[turn].out) {
+        const struct darthog_reply *e = &taken[turn].entry;
+        printf("%7" PRIu32 "%7" PRIu32 "%7" PRIu32 "%7" PRIu32 "\n", e->first, e->second, e->third, taken[turn].worker);
+        if (turn > 0 && taken[turn - 1].entry.first > e->first) {
+            fprintf(stderr, "not in order of due minutes\n");
+            exit(1);
+        }
+        turn++;
+    }
+    return turn;
+}
+
+static void take_all(void) {
+    struct worker workers[WORKERS] = {0};
+    int marked = 0, turn = 0, ended = 0;
+    printf("%7s%7s%7s%7s\n", "due", "item", "ticket", "worker");
+    while (ended < WORKERS) {
+        ended = 0;
+        for (uint32_t w = 0; w < WORKERS; w++) {
+            if (!workers[w].ended) work(&workers[w], w, &marked);
+            ended += workers[w].ended;
+        }
+        turn = print_from(turn);
+    }
+    if (turn != ENTRIES) {
+        fprintf(stderr, "%d of %d handed out\n", turn, ENTRIES);
+        exit(1);
+    }
+}
+
+int main(void) {
+    uint32_t code = darthog_make(queue, sizeof queue, WORKERS, ENTRIES, LEVELS);
+    if (code != DARTHOG_ACCEPTED) stop("make", code);
+    file_all();
+    printf("backlog %" PRIu32 "\n", backlog());
+    take_all();
+    printf("backlog %" PRIu32 "\n", backlog());
+    return 0;
+}

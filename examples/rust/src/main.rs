@@ -1,0 +1,160 @@
+//! Workers of one process share a queue. They are woken in a random order that
+//! follows from a seed, and each makes one call when it is woken.
+//!
+//!     darthog-workers SEED [SHEET]
+//!
+//! prints the history of the run. With a second argument the same calls are
+//! written to that file as a sheet, for which the program prints the same
+//! history.
+
+mod lines;
+mod random;
+
+use darthog_host::{Queue, Refusal, Step};
+use lines::{History, Sheet};
+use random::Random;
+use std::process::ExitCode;
+
+/// How often a worker is woken: the sheet and the history stay below the 64
+/// KiB that the program has for each.
+const WAKES: u32 = 1_700;
+
+/// A queue with its workers, and the two records of what they did.
+struct Run {
+    queue: Queue,
+    levels: u32,
+    busy: Vec<bool>,
+    history: History,
+    sheet: Sheet,
+}
+
+impl Run {
+    fn new(processors: u32, entries: u32, levels: u32) -> Result<Run, Refusal> {
+        Ok(Run {
+            queue: Queue::new(processors, entries, levels)?,
+            levels,
+            busy: vec![false; processors as usize],
+            history: History(String::new()),
+            sheet: Sheet::new(processors, entries, levels),
+        })
+    }
+
+    /// A worker is woken: it takes a step of its operation, or begins one.
+    /// One call in sixty is one that should be refused.
+    fn wake(&mut self, worker: u32, random: &mut Random) {
+        if random.one_in(60) {
+            self.bad_call(worker, random);
+        } else if self.busy[worker as usize] {
+            self.step(worker);
+        } else if random.one_in(2) {
+            self.insert(worker, random.below(50), random.below(1_000_000), random);
+        } else {
+            self.delete_min(worker);
+        }
+    }
+
+    /// A call that is mostly refused.
+    fn bad_call(&mut self, worker: u32, random: &mut Random) {
+        let unknown = self.busy.len() as u32 + random.below(100);
+        match random.below(6) {
+            0 => self.step(unknown),
+            1 => self.step(worker),
+            2 => self.delete_min(worker),
+            3 => self.insert(worker, 1_000_000 + random.below(2), 5, random),
+            4 => self.insert(worker, 5, 9_999_999, random),
+            _ => self.insert_with(worker, 5, 6, self.levels + 1),
+        }
+    }
+
+    fn insert(&mut self, worker: u32, due: u32, item: u32, random: &mut Random) {
+        let mut height = 1;
+        while height < self.levels && random.one_in(2) {
+            height += 1;
+        }
+        self.insert_with(worker, due, item, height);
+    }
+
+    fn insert_with(&mut self, worker: u32, due: u32, item: u32, height: u32) {
+        self.sheet.line('I', [worker, due, item, height]);
+        match self.queue.begin_insert(worker, due, item, height) {
+            Ok(time) => {
+                self.busy[worker as usize] = true;
+                self.history.line('I', time, worker, [due, item, height]);
+            }
+            Err(refusal) => self.refused(worker, refusal),
+        }
+    }
+
+    fn delete_min(&mut self, worker: u32) {
+        self.sheet.line('D', [worker, 0, 0, 0]);
+        match self.queue.begin_delete_min(worker) {
+            Ok(time) => {
+                self.busy[worker as usize] = true;
+                self.history.line('D', time, worker, [0; 3]);
+            }
+            Err(refusal) => self.refused(worker, refusal),
+        }
+    }
+
+    fn step(&mut self, worker: u32) {
+        let stepped = self.queue.step(worker);
+        self.sheet.step(worker, stepped.is_err());
+        let time = self.queue.clock();
+        match stepped {
+            Ok(Step::Moved | Step::Waits) => {}
+            Ok(Step::Marked(entry)) => self.history.entry('M', time, worker, entry),
+            Ok(Step::Empty) => {
+                self.busy[worker as usize] = false;
+                self.history.line('E', time, worker, [0; 3]);
+            }
+            Ok(Step::Inserted(entry)) => {
+                self.busy[worker as usize] = false;
+                self.history.entry('A', time, worker, entry);
+            }
+            Ok(Step::HandedOut(entry)) => {
+                self.busy[worker as usize] = false;
+                self.history.entry('T', time, worker, entry);
+            }
+            Err(refusal) => self.refused(worker, refusal),
+        }
+    }
+
+    fn refused(&mut self, worker: u32, refusal: Refusal) {
+        self.history.refused(self.queue.clock(), worker, refusal);
+    }
+}
+
+fn run_of(seed: u64) -> Result<Run, Refusal> {
+    let mut random = Random::new(seed);
+    let workers = 1 + random.below(8);
+    let mut run = Run::new(workers, 1 + random.below(20), 1 + random.below(4))?;
+    for _ in 0..WAKES {
+        let worker = random.below(workers);
+        run.wake(worker, &mut random);
+    }
+    Ok(run)
+}
+
+fn main() -> ExitCode {
+    let words: Vec<String> = std::env::args().skip(1).collect();
+    let seed = words.first().and_then(|word| word.parse().ok());
+    let (Some(seed), true) = (seed, words.len() <= 2) else {
+        eprintln!("usage: darthog-workers SEED [SHEET]");
+        return ExitCode::from(2);
+    };
+    let run = match run_of(seed) {
+        Ok(run) => run,
+        Err(refusal) => {
+            eprintln!("making the queue: {refusal}");
+            return ExitCode::FAILURE;
+        }
+    };
+    print!("{}", run.history.0);
+    if let Some(path) = words.get(1) {
+        if let Err(error) = std::fs::write(path, run.sheet.finish()) {
+            eprintln!("{path}: {error}");
+            return ExitCode::FAILURE;
+        }
+    }
+    ExitCode::SUCCESS
+}

@@ -1,0 +1,29 @@
+//! Finds the proved static library and has it linked.
+//!
+//! `rt staticlib entries` writes it to target/staticlib/libentries.a of the
+//! repository. The environment variable DARTHOG_LIBRARY_FOLDER names another
+//! folder.
+
+use std::env;
+use std::path::{Path, PathBuf};
+
+const VARIABLE: &str = "DARTHOG_LIBRARY_FOLDER";
+
+fn main() {
+    println!("cargo:rerun-if-env-changed={VARIABLE}");
+    let folder = match env::var_os(VARIABLE) {
+        Some(named) => PathBuf::from(named),
+        None => Path::new(env!("CARGO_MANIFEST_DIR")).join("../target/staticlib"),
+    };
+    let archive = folder.join("libentries.a");
+    println!("cargo:rerun-if-changed={}", archive.display());
+    if !archive.is_file() {
+        eprintln!(
+            "{} is not there: run `rt staticlib entries` in the repository, or name the folder that has libentries.a by {VARIABLE}",
+            archive.display()
+        );
+        std::process::exit(1);
+    }
+    println!("cargo:rustc-link-search=native={}", folder.display());
+    println!("cargo:rustc-link-lib=static=entries");
+}

@@ -1,0 +1,147 @@
+//! What the calls give back.
+
+use crate::raw::{self, Reply};
+use std::fmt;
+
+/// Why a call was refused, in the order in which the grounds are looked for.
+/// The values are the numbers of the specification.
+#[derive(Clone, Copy, PartialEq, Eq, PartialOrd, Ord, Hash, Debug)]
+#[repr(u32)]
+pub enum Refusal {
+    /// Making: processors not 1 to 16.
+    BadProcessors = 11,
+    /// Making: entries not 1 to 200.
+    BadEntries = 12,
+    /// Making: levels not 1 to 8.
+    BadLevels = 13,
+    /// The bytes are no image, or that of a record whose numbers are out of
+    /// their ranges.
+    BadRecord = 21,
+    /// Begin and step: the clock is 999,999.
+    ClockEnded = 31,
+    /// Begin and step: the queue has no such processor.
+    NoProcessor = 32,
+    /// Begin: the processor is busy.
+    Busy = 33,
+    /// Step: the processor is idle.
+    Idle = 34,
+    /// Insert: due or item above 999,999. A due minute: seconds above
+    /// 59,999,999.
+    TooLarge = 35,
+    /// Insert: height not 1 to the queue's levels.
+    BadHeight = 36,
+    /// Insert: no node that may be used.
+    NoNode = 37,
+}
+
+impl Refusal {
+    /// Every refusal.
+    pub const ALL: [Refusal; 11] = [
+        Refusal::BadProcessors,
+        Refusal::BadEntries,
+        Refusal::BadLevels,
+        Refusal::BadRecord,
+        Refusal::ClockEnded,
+        Refusal::NoProcessor,
+        Refusal::Busy,
+        Refusal::Idle,
+        Refusal::TooLarge,
+        Refusal::BadHeight,
+        Refusal::NoNode,
+    ];
+
+    /// The specification's number.
+    pub fn number(self) -> u32 {
+        self as u32
+    }
+
+    /// The refusal with this number, or none.
+    pub fn from_number(number: u32) -> Option<Refusal> {
+        Refusal::ALL
+            .into_iter()
+            .find(|refusal| refusal.number() == number)
+    }
+}
+
+impl fmt::Display for Refusal {
+    fn fmt(&self, f: &mut fmt::Formatter<'_>) -> fmt::Result {
+        let words = match self {
+            Refusal::BadProcessors => "processors not 1 to 16",
+            Refusal::BadEntries => "entries not 1 to 200",
+            Refusal::BadLevels => "levels not 1 to 8",
+            Refusal::BadRecord => "no image of a record, or one whose numbers are out of range",
+            Refusal::ClockEnded => "the clock is 999,999",
+            Refusal::NoProcessor => "no such processor",
+            Refusal::Busy => "the processor is busy",
+            Refusal::Idle => "the processor is idle",
+            Refusal::TooLarge => "due or item above 999,999, or seconds above 59,999,999",
+            Refusal::BadHeight => "height not 1 to the queue's levels",
+            Refusal::NoNode => "no node that may be used",
+        };
+        write!(f, "{words} ({})", self.number())
+    }
+}
+
+impl std::error::Error for Refusal {}
+
+/// An entry of the queue.
+#[derive(Clone, Copy, PartialEq, Eq, Hash, Debug)]
+pub struct Entry {
+    /// The due minute.
+    pub due: u32,
+    /// The item.
+    pub item: u32,
+    /// The time at which its Insert began; no two entries of a queue share it.
+    pub ticket: u32,
+}
+
+/// What an accepted step reports.
+#[derive(Clone, Copy, PartialEq, Eq, Hash, Debug)]
+pub enum Step {
+    /// The operation went on.
+    Moved,
+    /// A lock is held: only the clock changed.
+    Waits,
+    /// The Delete_Min ended: every entry filed before it began is taken.
+    Empty,
+    /// The Delete_Min took this entry, and goes on to unlink it.
+    Marked(Entry),
+    /// The Insert ended.
+    Inserted(Entry),
+    /// The Delete_Min ended with this entry.
+    HandedOut(Entry),
+}
+
+/// The refusal of a code. The contracts of the library have no other codes.
+pub(crate) fn refusal(code: u32) -> Refusal {
+    match Refusal::from_number(code) {
+        Some(refusal) => refusal,
+        None => panic!("the library gave back the code {code}, which no contract of it has"),
+    }
+}
+
+/// The value of a begin, a Backlog or a due minute.
+pub(crate) fn value(reply: Reply) -> Result<u32, Refusal> {
+    match reply.code {
+        raw::ACCEPTED => Ok(reply.first),
+        code => Err(refusal(code)),
+    }
+}
+
+/// The report of a step.
+pub(crate) fn step(reply: Reply) -> Result<Step, Refusal> {
+    let entry = Entry {
+        due: reply.first,
+        item: reply.second,
+        ticket: reply.third,
+    };
+    match reply.code {
+        raw::MOVED => Ok(Step::Moved),
+        raw::WAITS => Ok(Step::Waits),
+        raw::EMPTY => Ok(Step::Empty),
+        raw::MARKED => Ok(Step::Marked(entry)),
+        raw::INSERTED => Ok(Step::Inserted(entry)),
+        raw::HANDED_OUT => Ok(Step::HandedOut(entry)),
+        code => Err(refusal(code)),
+    }
+}

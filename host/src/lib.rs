@@ -1,0 +1,50 @@
+//! Darthog for hosts in Rust: a priority queue of timed withdrawals that is
+//! advanced one step per call.
+//!
+//! A [`Queue`] owns the 8,561 bytes of its image and lends them to the calls
+//! of the proved library `libentries.a`. A refused call leaves the queue as it
+//! was. [`raw`] has the library's own functions.
+//!
+//! ```
+//! use darthog_host::{due_minute, Entry, Queue, Refusal, Step};
+//!
+//! # fn main() -> Result<(), Refusal> {
+//! // one processor, one entry, one level
+//! let mut queue = Queue::new(1, 1, 1)?;
+//!
+//! // file withdrawal 42, which is due after 425 seconds: minute 7
+//! let ticket = queue.begin_insert(0, due_minute(425)?, 42, 1)?;
+//! let filed = Entry { due: 7, item: 42, ticket };
+//! while queue.step(0)? != Step::Inserted(filed) {}
+//! assert_eq!(queue.backlog(), Ok(1));
+//!
+//! // take it
+//! queue.begin_delete_min(0)?;
+//! let taken = loop {
+//!     match queue.step(0)? {
+//!         Step::HandedOut(entry) => break Some(entry),
+//!         Step::Empty => break None,
+//!         Step::Moved | Step::Waits | Step::Marked(_) | Step::Inserted(_) => {}
+//!     }
+//! };
+//! assert_eq!(taken, Some(filed));
+//!
+//! // the operation has ended
+//! assert_eq!(queue.step(0), Err(Refusal::Idle));
+//!
+//! // the bytes are all that a host keeps over a restart
+//! let kept = queue.as_bytes().to_vec();
+//! assert_eq!(Queue::from_bytes(&kept), Ok(queue));
+//! # Ok(())
+//! # }
+//! ```
+
+#![warn(missing_docs)]
+
+mod answers;
+mod queue;
+pub mod raw;
+
+pub use answers::{Entry, Refusal, Step};
+pub use queue::{due_minute, Queue};
+pub use raw::IMAGE_LENGTH;

@@ -1,0 +1,72 @@
+//! The functions of the static library as include/darthog.h declares them.
+//!
+//! A test compares these declarations with the header and with the source.
+
+/// How many bytes an image has.
+pub const IMAGE_LENGTH: usize = 8561;
+
+/// What a call gives back: a code, and the values that belong to it. A value
+/// that a code has not is 0; a refusal has three zeros.
+#[repr(C)]
+#[derive(Clone, Copy, PartialEq, Eq, Debug)]
+pub struct Reply {
+    /// 0 to 6 for an accepted call, else the refusal's number.
+    pub code: u32,
+    /// A begin's time, a backlog, a due minute, or an entry's due minute.
+    pub first: u32,
+    /// An entry's item.
+    pub second: u32,
+    /// An entry's ticket.
+    pub third: u32,
+}
+
+/// A begin, a Backlog or a due minute was accepted.
+pub const ACCEPTED: u32 = 0;
+/// The operation went on.
+pub const MOVED: u32 = 1;
+/// A lock is held.
+pub const WAITS: u32 = 2;
+/// The Delete_Min ended without an entry.
+pub const EMPTY: u32 = 3;
+/// The Delete_Min took an entry.
+pub const MARKED: u32 = 4;
+/// The Insert ended.
+pub const INSERTED: u32 = 5;
+/// The Delete_Min ended with an entry.
+pub const HANDED_OUT: u32 = 6;
+
+// In every call the host owes: `image` is not null and points to `length`
+// bytes that may be read, and written where it is `*mut`; no other thread
+// reads or writes them during the call. Nothing else is asked.
+extern "C" {
+    /// Makes a queue in these bytes. 0, or 11, 12, 13 or 21.
+    pub fn darthog_make(
+        image: *mut u8,
+        length: usize,
+        processors: u32,
+        entries: u32,
+        levels: u32,
+    ) -> u32;
+
+    /// Begins an Insert by a processor.
+    pub fn darthog_begin_insert(
+        image: *mut u8,
+        length: usize,
+        processor: u32,
+        due: u32,
+        item: u32,
+        height: u32,
+    ) -> Reply;
+
+    /// Begins a Delete_Min by a processor.
+    pub fn darthog_begin_delete_min(image: *mut u8, length: usize, processor: u32) -> Reply;
+
+    /// The next step of a processor's operation.
+    pub fn darthog_step(image: *mut u8, length: usize, processor: u32) -> Reply;
+
+    /// How many nodes are in use.
+    pub fn darthog_backlog(image: *const u8, length: usize) -> Reply;
+
+    /// The due minute of a count of seconds.
+    pub fn darthog_due(seconds: u64) -> Reply;
+}

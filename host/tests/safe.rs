@@ -1,0 +1,225 @@
+//! The safe interface: the same schedules, over `Queue`.
+
+mod common;
+
+use common::{edge, seed};
+use darthog_host::{due_minute, Entry, Queue, Refusal, Step, IMAGE_LENGTH};
+use darthog_reference::answer::{self, Answer};
+use darthog_reference::calls::{Call, Outcome};
+use darthog_reference::image::encode;
+use darthog_reference::queue::{due_from_seconds, fresh, LIMIT};
+use darthog_reference::random::Random;
+use darthog_reference::schedule::{Schedule, Sizes};
+use darthog_reference::trial::fresh_of;
+use std::collections::BTreeMap;
+
+fn same_entry(entry: answer::Entry) -> Entry {
+    Entry {
+        due: entry.due,
+        item: entry.item,
+        ticket: entry.ticket,
+    }
+}
+
+fn same_step(answer: Answer) -> Step {
+    match answer {
+        Answer::Moved => Step::Moved,
+        Answer::Waits => Step::Waits,
+        Answer::Empty => Step::Empty,
+        Answer::Marked(entry) => Step::Marked(same_entry(entry)),
+        Answer::Inserted(entry) => Step::Inserted(same_entry(entry)),
+        Answer::HandedOut(entry) => Step::HandedOut(same_entry(entry)),
+    }
+}
+
+/// The name of what occurred, for the counts.
+fn word(outcome: &Outcome) -> String {
+    match outcome {
+        Outcome::Began(_) => "began".to_string(),
+        Outcome::Count(_) => "count".to_string(),
+        Outcome::Refused(number) => number.to_string(),
+        Outcome::Stepped(answer) => {
+            let words = format!("{answer:?}");
+            words.split('(').next().unwrap_or_default().to_string()
+        }
+    }
+}
+
+/// A call with numbers of 32 bits on the queue, beside the reference's outcome.
+fn compare(queue: &mut Queue, call: &Call, outcome: &Outcome) {
+    let cut = |number: u64| u32::try_from(number).unwrap_or(u32::MAX);
+    let refusal = |number: u32| Refusal::from_number(number).expect("a known number");
+    let value = match *outcome {
+        Outcome::Began(time) => Ok(time),
+        Outcome::Count(count) => Ok(count),
+        Outcome::Refused(number) => Err(refusal(number)),
+        Outcome::Stepped(_) => Ok(0),
+    };
+    match *call {
+        Call::Insert {
+            processor,
+            due,
+            item,
+            height,
+        } => {
+            let begun = queue.begin_insert(cut(processor), cut(due), cut(item), cut(height));
+            assert_eq!(begun, value, "{call:?}");
+        }
+        Call::DeleteMin { processor } => {
+            assert_eq!(queue.begin_delete_min(cut(processor)), value, "{call:?}");
+        }
+        Call::Step { processor } => {
+            let expected = match *outcome {
+                Outcome::Stepped(answer) => Ok(same_step(answer)),
+                _ => Err(value.expect_err("a step is answered or refused")),
+            };
+            assert_eq!(queue.step(cut(processor)), expected, "{call:?}");
+        }
+        Call::Backlog => assert_eq!(queue.backlog(), value),
+    }
+}
+
+#[test]
+fn the_queue_does_what_the_reference_does() {
+    let mut random = Random::new(seed());
+    let mut counts: BTreeMap<String, u64> = BTreeMap::new();
+    for number in 0..30 {
+        let sizes = match number % 3 {
+            0 => Sizes::small(&mut random),
+            1 => Sizes::middle(&mut random),
+            _ => Sizes::large(&mut random),
+        };
+        let mut record = fresh_of(sizes);
+        let (p, n, l) = (sizes.processors, sizes.nodes, sizes.levels);
+        let mut queue = Queue::new(p as u32, n as u32, l as u32).expect("sizes in range");
+        assert!(queue.as_bytes()[..] == encode(&record));
+        if number % 5 == 4 {
+            record.clock = LIMIT - 400;
+            queue = Queue::from_bytes(&encode(&record)).expect("an image");
+        }
+        let mut schedule = Schedule::new(random.draw(), sizes);
+        for _ in 0..1000 {
+            let call = schedule.next_call();
+            let outcome = record.call(&call);
+            compare(&mut queue, &call, &outcome);
+            assert!(queue.as_bytes()[..] == encode(&record), "{call:?}");
+            assert_eq!(queue.clock(), record.clock);
+            *counts.entry(word(&outcome)).or_default() += 1;
+            schedule.note(&call, &outcome);
+            if random.one_in(100) {
+                let copy = queue.clone();
+                assert_eq!(Queue::from_bytes(queue.as_bytes()), Ok(copy));
+            }
+        }
+    }
+    println!("{counts:?}");
+    for wanted in [
+        "began",
+        "count",
+        "Moved",
+        "Waits",
+        "Empty",
+        "Marked",
+        "Inserted",
+        "HandedOut",
+        "31",
+        "32",
+        "33",
+        "34",
+        "35",
+        "36",
+        "37",
+    ] {
+        assert!(counts.contains_key(wanted), "{wanted} never occurred");
+    }
+}
+
+#[test]
+fn making_is_refused_with_the_references_number() {
+    let mut random = Random::new(seed());
+    let mut counts: BTreeMap<u32, u64> = BTreeMap::new();
+    for _ in 0..3_000 {
+        let (p, n, l) = (edge(&mut random), edge(&mut random), edge(&mut random));
+        let made = Queue::new(p, n, l);
+        match fresh(u64::from(p), u64::from(n), u64::from(l)) {
+            Ok(record) => {
+                assert!(made.expect("made").as_bytes()[..] == encode(&record));
+                *counts.entry(0).or_default() += 1;
+            }
+            Err(number) => {
+                assert_eq!(made.map_err(Refusal::number), Err(number));
+                *counts.entry(number).or_default() += 1;
+            }
+        }
+    }
+    println!("{counts:?}");
+    for number in [0, 11, 12, 13] {
+        assert!(counts.contains_key(&number), "{number} never occurred");
+    }
+}
+
+#[test]
+fn bytes_that_the_library_does_not_take_make_no_queue() {
+    let queue = Queue::new(2, 3, 4).expect("sizes in range");
+    let bytes = queue.as_bytes().to_vec();
+    assert_eq!(Queue::from_bytes(&bytes), Ok(queue));
+    let mut long = bytes.clone();
+    long.push(0);
+    for other in [&[][..], &bytes[..1], &bytes[..IMAGE_LENGTH - 1], &long] {
+        assert_eq!(Queue::from_bytes(other), Err(Refusal::BadRecord));
+    }
+    // no processor, an unknown stage, a mark that is neither 0 nor 1, a clock past its end
+    for (at, value) in [(0, 0), (8289 + 5, 27), (7 + 17, 2), (6, 1)] {
+        let mut damaged = bytes.clone();
+        damaged[at] = value;
+        assert_eq!(Queue::from_bytes(&damaged), Err(Refusal::BadRecord));
+    }
+}
+
+#[test]
+fn a_due_minute_or_too_many_seconds() {
+    let mut random = Random::new(seed());
+    let edges = [0, 59, 60, 59_999_999, 60_000_000, u64::MAX];
+    let drawn = (0..1000).map(|_| random.below(120_000_000));
+    let all: Vec<u64> = edges.into_iter().chain(drawn).collect();
+    for seconds in all {
+        let found = due_minute(seconds).map_err(Refusal::number);
+        assert_eq!(found, due_from_seconds(seconds), "{seconds} seconds");
+    }
+    assert_eq!(due_minute(60_000_000), Err(Refusal::TooLarge));
+}
+
+#[test]
+fn each_refusal_has_its_number() {
+    let numbers: Vec<u32> = Refusal::ALL
+        .iter()
+        .map(|refusal| refusal.number())
+        .collect();
+    assert_eq!(numbers, [11, 12, 13, 21, 31, 32, 33, 34, 35, 36, 37]);
+    for number in 0..=u32::from(u16::MAX) {
+        let expected = numbers.contains(&number).then_some(number);
+        assert_eq!(Refusal::from_number(number).map(Refusal::number), expected);
+    }
+    assert_eq!(Refusal::Idle.to_string(), "the processor is idle (34)");
+}
+
+/// include/darthog.h says that a call takes less than 64 KiB of stack. The
+/// thread has 64 KiB and what a thread needs for itself; past its end lies a
+/// page that cannot be written to.
+#[test]
+fn the_calls_run_on_a_small_stack() {
+    const OF_THE_THREAD: usize = 16 * 1024;
+    let calls = || {
+        let mut queue = Queue::new(16, 200, 8).expect("sizes in range");
+        queue.begin_insert(0, 1, 2, 8).expect("a node is free");
+        queue.begin_delete_min(1).expect("it is idle");
+        while !matches!(queue.step(1).expect("it is busy"), Step::Empty) {}
+        while !matches!(queue.step(0).expect("it is busy"), Step::Inserted(_)) {}
+        queue.backlog()
+    };
+    let thread = std::thread::Builder::new()
+        .stack_size(64 * 1024 + OF_THE_THREAD)
+        .spawn(calls)
+        .expect("a thread");
+    assert_eq!(thread.join().expect("it ended"), Ok(1));
+}

@@ -1,0 +1,103 @@
+//! Random schedules of calls on one queue: after each call the bytes are the
+//! image of the reference's record, and the reply is the reference's.
+
+mod common;
+
+use common::{call_on, refused, seed, Call, Counts, Lent};
+use darthog_reference::answer::{Answer, Entry};
+use darthog_reference::calls::Outcome;
+use darthog_reference::image::encode;
+use darthog_reference::queue::LIMIT;
+use darthog_reference::random::Random;
+use darthog_reference::schedule::{Schedule, Sizes};
+use darthog_reference::trial::fresh_of;
+
+const SCHEDULES: u64 = 250;
+const CALLS: u64 = 1500;
+
+/// What a schedule takes notice of.
+fn outcome_of(call: &Call, reply: &darthog_host::raw::Reply) -> Outcome {
+    let entry = Entry {
+        due: reply.first,
+        item: reply.second,
+        ticket: reply.third,
+    };
+    match (call, reply.code) {
+        (Call::Insert(..) | Call::DeleteMin(_), 0) => Outcome::Began(reply.first),
+        (_, 0) => Outcome::Count(reply.first),
+        (_, 1) => Outcome::Stepped(Answer::Moved),
+        (_, 2) => Outcome::Stepped(Answer::Waits),
+        (_, 3) => Outcome::Stepped(Answer::Empty),
+        (_, 4) => Outcome::Stepped(Answer::Marked(entry)),
+        (_, 5) => Outcome::Stepped(Answer::Inserted(entry)),
+        (_, 6) => Outcome::Stepped(Answer::HandedOut(entry)),
+        (_, number) => Outcome::Refused(number),
+    }
+}
+
+fn sizes_of(number: u64, random: &mut Random) -> Sizes {
+    match number % 3 {
+        0 => Sizes::small(random),
+        1 => Sizes::middle(random),
+        _ => Sizes::large(random),
+    }
+}
+
+fn run(number: u64, random: &mut Random, counts: &mut Counts) {
+    let sizes = sizes_of(number, random);
+    let mut record = fresh_of(sizes);
+    let junk: Vec<u8> = (0..encode(&record).len())
+        .map(|_| random.draw() as u8)
+        .collect();
+    let mut lent = Lent::new(&junk, random);
+    let (p, n, l) = (sizes.processors, sizes.nodes, sizes.levels);
+    let make = Call::Make(p as u32, n as u32, l as u32);
+    assert_eq!(lent.call(&make), refused(0));
+    assert!(
+        lent.now() == encode(&record),
+        "the fresh queue of {sizes:?}"
+    );
+    counts.note(make.entry(), 0);
+    // one schedule in five runs into the end of the clock
+    if number % 5 == 4 {
+        record.clock = LIMIT - 400;
+        lent.put(&encode(&record));
+    }
+    let mut schedule = Schedule::new(random.draw(), sizes);
+    for at in 0..CALLS {
+        let asked = schedule.next_call();
+        let call = Call::of(&asked);
+        let before = lent.now().to_vec();
+        let reply = lent.call(&call);
+        assert_eq!(
+            reply,
+            call_on(&mut record, &call),
+            "schedule {number}, call {at}: {call:?}"
+        );
+        let after = encode(&record);
+        assert!(
+            lent.now() == after,
+            "schedule {number}, call {at}: {call:?} {reply:?}: other bytes"
+        );
+        let accepted = reply.code < 11 && call != Call::Backlog;
+        assert_eq!(before != after, accepted, "{call:?} {reply:?}");
+        counts.note(call.entry(), reply.code);
+        schedule.note(&asked, &outcome_of(&call, &reply));
+    }
+}
+
+#[test]
+fn every_call_of_a_schedule_leaves_the_image_of_the_references_record() {
+    let mut random = Random::new(seed());
+    let mut counts = Counts::default();
+    for number in 0..SCHEDULES {
+        run(number, &mut random, &mut counts);
+    }
+    counts.must_have(&[
+        ("make", &[0]),
+        ("insert", &[0, 31, 32, 33, 35, 36, 37]),
+        ("delete_min", &[0, 31, 32, 33]),
+        ("step", &[1, 2, 3, 4, 5, 6, 31, 32, 34]),
+        ("backlog", &[0]),
+    ]);
+}
