@@ -1,11 +1,12 @@
 -- The outcome of a sheet, one refusal after the other. Assumes nothing.
 use mathlib.Core.Path.{_≡_, refl, sym, ap, _∙_}
 use mathlib.Core.Bool.{Bool, true, false, cond}
-use mathlib.Core.List.{List, _++_}
+use mathlib.Core.List.{List, _++_, append-assoc}
 use Prim.Native.Nat.{ℕ, _+_, _≤_, _<_}
 use native.Mathlib.Omega.{arith}
 use lib.Dec.{ltb, eqb}
-use lib.ListN.{length, drop}
+use lib.ListN.{length, take, drop, length-append}
+use lib.Seq.{take-at}
 use borrow.Author.Tests.{lt-ltb, le-ltb, ltb-false, eq-eqb, ne-eqb}
 use Rattle.checks.specs.declared.making.Made.{Made}
 use Rattle.checks.specs.Making.{made}
@@ -59,16 +60,63 @@ length-fits h room n e = ltb-false room (length h) (at (ltb room (length h)) (sy
     at true k = k
     at false k = refl
 
+pub fits-length : (h : List ℕ) (room : ℕ) → length h ≤ room → fitted h room ≡ ran.Length (length h)
+fits-length h room f = ap (λ (t : Bool). cond t (ran.Refused 43 0) (ran.Length (length h))) (le-ltb room (length h) f)
+
+abbrev length-of : Ran → ℕ
+length-of (ran.Refused n k) = 0
+length-of (ran.Length n) = n
+
+-- and its length
+pub length-told : (h : List ℕ) (room n : ℕ) → ran.Length n ≡ fitted h room → n ≡ length h
+length-told h room n e = ap length-of (e ∙ fits-length h room (length-fits h room n e))
+
+-- written in place, by a run after one that left the area as it was
 pub written-whole :
-    (s area b a : List ℕ) (q : Queue) →
-    length (history s q) ≤ length area →
+    (h area b a : List ℕ) (r : Ran) →
+    length h ≤ length area →
+    b ≡ area →
+    r ≡ fitted h (length b) →
+    a ≡ areaWith h b true →
+    a ≡ written h area r
+written-whole h area b a r f e i k =
+    k
+    ∙ ap (λ (x : List ℕ). h ++ drop (length h) x) e
+    ∙ sym (ap (written h area) (i ∙ ap (λ (x : List ℕ). fitted h (length x)) e ∙ fits-length h (length area) f))
+
+-- written aside, to the front of a longer list, and copied from there
+pub copied-whole :
+    (h area part rest a : List ℕ) (room n : ℕ) →
+    ran.Length n ≡ fitted h room →
+    part ≡ areaWith h rest true →
+    (more : List ℕ) →
+    a ≡ take n (part ++ more) ++ drop n area →
+    a ≡ written h area (ran.Length n)
+copied-whole h area part rest a room n e p more k =
+    k
+    ∙ ap (λ (x : List ℕ). x ++ drop n area)
+    (ap (λ (x : List ℕ). take n (x ++ more)) p ∙ ap (take n) (append-assoc h (drop (length h) rest) more) ∙ take-at h (drop (length h) rest ++ more) n (sym (length-told h room n e)))
+
+pub copied-within :
+    (h part rest : List ℕ) (room n : ℕ) →
+    ran.Length n ≡ fitted h room →
+    part ≡ areaWith h rest true →
+    (more : List ℕ) →
+    n ≤ length (part ++ more)
+copied-within h part rest room n e p more =
+    let a = length-append part more in
+    let b = ap length p in
+    let d = length-append h (drop (length h) rest) in
+    let m = length-told h room n e in
+    omega (arith, a, b, d, m)
+
+-- the outcome of the lines, as the outcome of the sheet
+pub sheet-written :
+    (s area a : List ℕ) (q : Queue) (r : Ran) →
     fitted (history s q) (length area) ≡ ranSheet s (length area) →
     historyOf s (lineOf (partAt s 1)) ≡ history s q →
-    b ≡ area →
-    a ≡ areaWith (history s q) b true →
+    r ≡ fitted (history s q) (length area) →
+    a ≡ written (history s q) area r →
     a ≡ areaAfter s area
-written-whole s area b a q f r h e k =
-    let l = ap (λ (t : Bool). cond t (ran.Refused 43 0) (ran.Length (length (history s q)))) (le-ltb (length area) (length (history s q)) f) in
-    k
-    ∙ ap (λ (x : List ℕ). history s q ++ drop (length (history s q)) x) e
-    ∙ sym (ap (λ (x : Ran). written (historyOf s (lineOf (partAt s 1))) area x) (sym r ∙ l) ∙ ap (λ (x : List ℕ). x ++ drop (length (history s q)) area) h)
+sheet-written s area a q r f h e k =
+    k ∙ ap (written (history s q) area) (e ∙ f) ∙ ap (λ (x : List ℕ). written x area (ranSheet s (length area))) (sym h)

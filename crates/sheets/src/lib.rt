@@ -1,19 +1,25 @@
 // The run of a sheet.
+mod runs;
+
 ghost use mathlib.Core.Path.{_≡_};
 ghost use lib.ListN.{length};
 ghost use Rattle.sheet.specs.Sheets.{ranSheet, areaAfter};
 ghost use Rattle.sheets.specs.Agreement.{SheetAgrees};
+use crate::runs::run_once;
+use crate::runs::run_twice;
 use checks::Made;
 use checks::make;
-use runner::run_lines;
 use sheet::Line;
 use sheet::Ran;
 use sheet::forms::first_misplaced;
 use sheet::forms::first_out_of_form;
 use sheet::lines::line_at;
 
+// An area of at most this many bytes takes one run of the lines; a longer one takes two.
+const ONE_RUN: usize = 65536;
+
 // Runs a sheet and writes its history: its length in bytes, or the refusal with its line (41, 42, 11 to 13, 43), which leaves the area as it
-// was. The lines are run twice: first to count the history, then to write it.
+// was.
 pub fn run_sheet(sheet: &[u8], history: &mut [u8]) -> Ran
     ensures { λ r. ⌜ r ≡ ranSheet (now (sheet .entry)) (length (now (history .entry))) ⌝ }
     ensures { λ _. ⌜ now (history .exit) ≡ areaAfter (now (sheet .entry)) (now (history .entry)) ⌝ }
@@ -33,8 +39,8 @@ pub fn run_sheet(sheet: &[u8], history: &mut [u8]) -> Ran
         return Ran::Refused(m.refusal, 1);
     }
     let q = m.queue;
-    match run_lines(sheet, q, history, false) {
-        Ran::Refused(number, line) => Ran::Refused(number, line),
-        Ran::Length(_) => run_lines(sheet, q, history, true),
+    if history.len() <= ONE_RUN {
+        return run_once(sheet, q, history);
     }
+    run_twice(sheet, q, history)
 }

@@ -10,9 +10,9 @@ use Rattle.checks.specs.Making.{made}
 use Rattle.lists.proofs.Plains.{made-passes}
 use Rattle.sheet.specs.declared.lines.Line.{Line}
 use Rattle.sheet.specs.Lines.{firstOutOfForm, firstMisplaced, lineOf}
-use Rattle.sheet.specs.Sheets.{history, fitted}
+use Rattle.sheet.specs.Sheets.{history}
 use Rattle.sheets.proofs.Agreement.{sheet-agrees}
-use Rattle.sheets.proofs.Outcomes.{refused-untouched, out-of-form, misplaced, not-made, runs, length-fits, written-whole}
+use Rattle.sheets.proofs.Outcomes.{refused-untouched, out-of-form, misplaced, not-made, runs, sheet-written}
 use borrow.Author.Needs.{needs}
 use Rattle.sheets.proofs.run_sheet.Statement.{statement}
 use Rattle.sheets.proofs.run_sheet.Tie as tie
@@ -66,53 +66,37 @@ returns-3 c =
     let e = not-made (a .sheet .now) (length (a .history .now)) (form-passed m) (place-passed m) (m .make .result) (made-is m) (c .if3 .taken) in
     (e, (refused-untouched (a .sheet .now) (a .history .now) _ _ e, sheet-agrees (a .sheet .now)))
 
-run-lines-requires : tie.Need-run-lines-requires
-run-lines-requires c κs = queue-passes (c .before .before .before .before)
-
-enum-known-number : tie.Need-enum-known-number
-enum-known-number c = search needs
-
-enum-told : tie.Need-enum-told
-enum-told c = search needs
-
-run-lines-requires-2 : tie.Need-run-lines-requires-2
-run-lines-requires-2 c κs = queue-passes (c .before .before .before .before .before .before .before .before .before .before)
+run-once-requires : tie.Need-run-once-requires
+run-once-requires c κs = (queue-passes (c .before .before .before .before .before), c .before .if4 .taken)
 
 same-length : tie.Need-same-length
 same-length c = search needs
 
 returns-4 : tie.Need-returns-4
 returns-4 c =
-    let m = c .before .before .before .before .before .before .before .before .before .before in
+    let m = c .before .before .before .before .before .before .before .before in
     let a = m .before .before .before .before .before .before .before .before .args in
-    let z : m .make .result .refusal ≡ 0 = omega (arith, c .before .before .before .before .before .before .before .before .if3 .left) in
-    let e =
-    sym (c .before .number .given .1)
-    ∙ c .before .before .before .before .before .run-lines .ensures .0
-    ∙ runs (a .sheet .now) (length (a .history .now)) (form-passed m) (place-passed m) (m .make .result) (made-is m) z in
-    (e, (c .before .before .before .before .before .run-lines .ensures .1 .1 refl ∙ refused-untouched (a .sheet .now) (a .history .now) _ _ e, sheet-agrees (a .sheet .now)))
+    let z : m .make .result .refusal ≡ 0 = omega (arith, c .before .before .before .before .before .before .if3 .left) in
+    let f = runs (a .sheet .now) (length (a .history .now)) (form-passed m) (place-passed m) (m .make .result) (made-is m) z in
+    let h = sym (ap (λ (x : Made). history (a .sheet .now) (x .queue)) (made-is m)) in
+    let e = c .before .before .run-once .ensures in
+    (e .0 ∙ f, (sheet-written (a .sheet .now) (a .history .now) _ (m .make .result .queue) _ f h (e .0) (e .1), sheet-agrees (a .sheet .now)))
+
+run-twice-requires : tie.Need-run-twice-requires
+run-twice-requires c κs = queue-passes (c .before .before .before .before .before)
 
 same-length-2 : tie.Need-same-length-2
 same-length-2 c = search needs
 
 returns-5 : tie.Need-returns-5
 returns-5 c =
-    let m = c .before .before .before .before .before .before .before .before .before .before .before .before .before in
+    let m = c .before .before .before .before .before .before .before .before in
     let a = m .before .before .before .before .before .before .before .before .args in
-    let s = a .sheet .now in
-    let room = length (a .history .now) in
-    let q = m .make .result .queue in
-    let one = c .before .before .before .before .before .before .before .before .run-lines in
-    let two = c .before .before .run-lines2 in
-    let z : m .make .result .refusal ≡ 0 = omega (arith, c .before .before .before .before .before .before .before .before .before .before .before .if3 .left) in
-    let r = runs s room (form-passed m) (place-passed m) (m .make .result) (made-is m) z in
-    let same : one .last .1 .1 .0 ≡ a .history .now = one .ensures .1 .1 refl in
-    let fits = length-fits (history s q) room _ (sym (c .before .before .before .before .enum-told .given .1) ∙ one .ensures .0) in
-    let n = ap length same in
-    let whole =
-    written-whole s (a .history .now) (one .last .1 .1 .0) (two .last .1 .1 .0) q fits r (sym (ap (λ (x : Made). history s (x .queue)) (made-is m))) same
-    (two .ensures .1 .0 (omega (arith, fits, n))) in
-    (two .ensures .0 ∙ ap (λ (k : ℕ). fitted (history s q) k) n ∙ r, (whole, sheet-agrees s))
+    let z : m .make .result .refusal ≡ 0 = omega (arith, c .before .before .before .before .before .before .if3 .left) in
+    let f = runs (a .sheet .now) (length (a .history .now)) (form-passed m) (place-passed m) (m .make .result) (made-is m) z in
+    let h = sym (ap (λ (x : Made). history (a .sheet .now) (x .queue)) (made-is m)) in
+    let e = c .before .before .run-twice .ensures in
+    (e .0 ∙ f, (sheet-written (a .sheet .now) (a .history .now) _ (m .make .result .queue) _ f h (e .0) (e .1), sheet-agrees (a .sheet .now)))
 
 pub run-sheet-spec : {M : Type 1} → statement M
 run-sheet-spec =
@@ -125,11 +109,9 @@ run-sheet-spec =
     line-at-requires
     make-requires
     returns-3
-    run-lines-requires
-    enum-known-number
-    enum-told
-    run-lines-requires-2
+    run-once-requires
     same-length
     returns-4
+    run-twice-requires
     same-length-2
     returns-5)
