@@ -142,6 +142,11 @@ fn seconds(way: &Way, area: &mut [u8], times: u32) -> f64 {
 fn print_workload(workload: &Workload) {
     println!("{}: {}", workload.name, workload.words);
     println!("{}", workload.describe());
+    let steps = workload.steps();
+    println!(
+        "{} steps that are not refused, {} of them wait",
+        steps.accepted, steps.waits
+    );
     let ways = [
         Way {
             name: "reference",

@@ -40,7 +40,7 @@ pub fn reference(sheet: &[u8], area: &mut [u8]) -> SheetReply {
             value: length,
         },
         Err(refusal) => SheetReply {
-            number: u32::from(refusal.number),
+            number: refusal.number,
             value: refusal.line,
         },
     }

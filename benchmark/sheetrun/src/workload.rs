@@ -1,6 +1,7 @@
 //! The sheets that are run.
 
 use crate::runs::reference;
+use darthog_reference::answer::Answer;
 use darthog_reference::queue::{fresh, Queue, Stage};
 use darthog_reference::random::Random;
 
@@ -94,6 +95,62 @@ impl Workload {
             of(b'R')
         )
     }
+
+    /// The steps that the sheets make, and what they are answered.
+    pub fn steps(&self) -> Steps {
+        let mut steps = Steps::default();
+        for case in &self.cases {
+            steps.count(&case.sheet);
+        }
+        steps
+    }
+}
+
+/// How many steps sheets make.
+#[derive(Clone, Copy, Default, Debug)]
+pub struct Steps {
+    /// All that are not refused.
+    pub accepted: u64,
+    /// Those that wait.
+    pub waits: u64,
+}
+
+impl Steps {
+    /// Makes the calls of a sheet, and counts its steps.
+    fn count(&mut self, sheet: &[u8]) {
+        let lines: Vec<(u8, [u64; 4])> = sheet.chunks(LINE).map(numbers).collect();
+        let [p, n, l, _] = lines[0].1;
+        let mut queue = fresh(p, n, l).expect("the sizes are in range");
+        for (letter, [p, second, third, fourth]) in &lines[1..] {
+            // What a begin answers does not matter here.
+            match letter {
+                b'I' => drop(queue.begin_insert_inner(*p, *second, *third, *fourth)),
+                b'D' => drop(queue.begin_delete_min_inner(*p)),
+                _ => self.line(&mut queue, *p, *second),
+            }
+        }
+    }
+
+    fn line(&mut self, queue: &mut Queue, p: u64, steps: u64) {
+        for _ in 0..steps {
+            match queue.step_inner(p) {
+                Err(_) => return,
+                Ok(answer) => {
+                    self.accepted += 1;
+                    self.waits += u64::from(answer == Answer::Waits);
+                }
+            }
+        }
+    }
+}
+
+/// The letter and the numbers of a line that is in form.
+fn numbers(line: &[u8]) -> (u8, [u64; 4]) {
+    let field = |i: usize| {
+        let digits = line[1 + 7 * i..8 + 7 * i].iter().filter(|&&c| c != b' ');
+        digits.fold(0, |n, &c| n * 10 + u64::from(c - b'0'))
+    };
+    (line[0], [field(0), field(1), field(2), field(3)])
 }
 
 fn lent(area: usize, sheet: Vec<u8>) -> Case {
