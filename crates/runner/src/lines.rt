@@ -2,12 +2,13 @@
 // Insert that nothing else refuses copies it once, to look for a node.
 ghost use mathlib.Core.Path.{_≡_};
 ghost use mathlib.Core.Bool.{true, false};
-ghost use Prim.Native.Nat.{_≤_};
+ghost use Prim.Native.Nat.{_+_, _≤_};
 ghost use lib.ListN.{length};
 ghost use Rattle.checks.specs.Check.{valid as validOf};
 ghost use Rattle.sheet.specs.Letters.{letterI};
 ghost use Rattle.sheet.specs.Sheets.{history as historyOf, fitted};
 ghost use Rattle.calling.specs.Calls.{decisionOf, areaWith};
+ghost use Rattle.runner.specs.Waiting.{isWaits, waitsLeft};
 use calling::calls::asks_node;
 use calling::calls::call_refusal;
 use calling::calls::calls_of;
@@ -15,6 +16,7 @@ use calling::calls::slot_of;
 use calling::calls::with_node;
 use calling::printing::event_of;
 use calling::printing::prints;
+use checks::limits::NUMBER;
 use choosing::begins::delete_begins;
 use choosing::begins::insert_begins;
 use choosing::choice::choose;
@@ -57,6 +59,34 @@ fn decision(l: Line, x: u8, levels: u8, t: u32, s: Sight, g: Stage) -> Decision
         return delete_begins(t);
     }
     decide(s, g)
+}
+
+fn is_waits(a: Answer) -> bool
+    ensures { λ r. ⌜ r ≡ isWaits a ⌝ }
+{
+    match a {
+        Answer::Refused(_) => false,
+        Answer::Began(_) => false,
+        Answer::Moved => false,
+        Answer::Waits => true,
+        Answer::Empty => false,
+        Answer::Marked(_) => false,
+        Answer::Inserted(_) => false,
+        Answer::HandedOut(_) => false,
+    }
+}
+
+// How many of the calls that are left wait as well, after this answer at the time t.
+fn waits_left(a: Answer, left: u32, t: u32) -> u32
+    requires { ⌜ t ≤ 999999 ⌝ }
+    ensures { λ r. ⌜ r ≡ waitsLeft a left t ⌝ }
+    ensures { λ r. ⌜ (r ≤ left) × (t + r ≤ 999999) ⌝ }
+{
+    if !is_waits(a) {
+        return 0;
+    }
+    let most = NUMBER - t;
+    if left < most { left } else { most }
 }
 
 // The lines 2 and on of a sheet, run on the queue that its first line made: the length of the history, or 43 as soon as it is longer than the area. The
@@ -133,6 +163,11 @@ pub fn run_lines(sheet: &[u8], mut q: Queue, area: &mut [u8], writing: bool) -> 
             // what it prints
             let answer = d.answer;
             if !prints(l.letter, answer) {
+                // after a step that waits, the line's others wait too
+                let more = waits_left(answer, left, t);
+                left = left - more;
+                let until = t + more;
+                q.clock = until;
                 continue;
             }
             let e = event_of(l, t, answer);

@@ -36,6 +36,7 @@ use Rattle.sheet.proofs.Parts.{tail-part, line-start, part-next}
 use Rattle.calling.specs.Calls.{slotOf, callRefusal, asksNode, withNode, prints}
 use Rattle.calling.proofs.Called.{early, nodeFor, refusalOn, callOn, callDecision, slot-low, clock-low, caller-low, caller-slot, height-low, call-decided, call-changes, call-accepted}
 use Rattle.calling.proofs.States.{Between, Within, Kept, same-area, event-area, counted-area, counted-event, at-first, begins, ends, call-refuses, call-silent, call-prints, refused-long, accepted-long, refuses-long, at-last}
+use Rattle.runner.proofs.Waits.{call-waits}
 use Rattle.runner.proofs.lines.run_lines.Statement.{statement}
 use Rattle.runner.proofs.lines.run_lines.Tie as tie
 
@@ -506,22 +507,39 @@ element-set-from-after c = slot (c .before .before .before .before .before .befo
 prints-requires : tie.Need-prints-requires Inv-loop2 μ-loop2 Inv-loop μ-loop
 prints-requires c κs = search needs
 
+waits-left-requires : tie.Need-waits-left-requires Inv-loop2 μ-loop2 Inv-loop μ-loop
+waits-left-requires c κs =
+    let h = clock-known (c .before .before .before .before .before .before .before .before .before .before .before .before .before .before .before) in
+    let t : c .before .before .before .before .before .before .before .before .before .before .before .before .before .before .before .before .before .before .before .before .before .before .loop2 .q .clock + 1 ≤ 999999 = omega (arith, h) in
+    t
+
+sub-left-2 : tie.Need-sub-left-2 Inv-loop2 μ-loop2 Inv-loop μ-loop
+sub-left-2 c = omega (arith, c .waits-left .ensures .1 .0)
+
+add-until : tie.Need-add-until Inv-loop2 μ-loop2 Inv-loop μ-loop
+add-until c = omega (arith, c .waits-left .ensures .1 .1)
+
 loop2-less-2 : tie.Need-loop2-less-2 Inv-loop2 μ-loop2 Inv-loop μ-loop
 loop2-less-2 c =
-    let h = some (c .before .before .before .before .before .before .before .before .before .before .before .before .before .before .before .before .before .before .before .before .before) in
+    let h = some (c .before .before .before .before .before .before .before .before .before .before .before .before .before .before .before .before .before .before .before .before .before .before) in
     omega (arith, h)
 
 loop2-again-2 : tie.Need-loop2-again-2 Inv-loop2 μ-loop2 Inv-loop μ-loop
 loop2-again-2 c =
-    let b = c .before .before .before .before .before .before .before .before .before .before .before .before .before .before .before .before .before .before .before .before .before in
+    let b = c .before .before .before .before .before .before .before .before .before .before .before .before .before .before .before .before .before .before .before .before .before .before in
     let o = b .before .before .before .before .before .before .before .before .before .before .before .before in
     let a = o .before .before .before .before .args in
+    let h = clock-known (c .before .before .before .before .before .before .before .before .before .before .before .before .before .before .before .before) in
+    let t : b .before .loop2 .q .clock + 1 ≤ 999999 = omega (arith, h) in
     λ s₀ b₀ e.
-    call-silent (a .sheet .now) s₀ (o .loop .k + 1) (b .before .before .before .before .before .before .before .before .before .line-at .result) (b .before .before .before .if1 .x) b₀ (a .writing)
+    call-waits (a .sheet .now) s₀ (o .loop .k + 1) (b .before .before .before .before .before .before .before .before .before .line-at .result) (b .before .before .before .if1 .x) b₀ (a .writing)
+    (b .before .loop2 .q) (b .before .loop2 .area) (b .before .loop2 .at) (b .before .loop2 .left - 1) _
+    (outcome (c .before .before .before)) (known b) (zero (c .before .before .before .before .before .before .before .before .before .before .before .before .before .before .before .before)) h t (c .waits-left .result) (c .waits-left .ensures .0)
+    (call-silent (a .sheet .now) s₀ (o .loop .k + 1) (b .before .before .before .before .before .before .before .before .before .line-at .result) (b .before .before .before .if1 .x) b₀ (a .writing)
     (b .before .loop2 .q) (b .before .loop2 .area) (b .before .loop2 .at) (b .before .loop2 .left) (b .before .loop2 .inv s₀ b₀ e) (some b)
-    _ (outcome (c .before .before)) (zero (c .before .before .before .before .before .before .before .before .before .before .before .before .before .before .before)) _ refl
-    (nodes-after (c .before .before)) (callers-after (c .before .before))
-    (sym (c .before .prints .ensures) ∙ not-true _ (c .if4 .taken))
+    _ (outcome (c .before .before .before)) (zero (c .before .before .before .before .before .before .before .before .before .before .before .before .before .before .before .before)) _ refl
+    (nodes-after (c .before .before .before)) (callers-after (c .before .before .before))
+    (sym (c .before .before .prints .ensures) ∙ not-true _ (c .before .if4 .taken)))
 
 event-of-requires-2 : tie.Need-event-of-requires-2 Inv-loop2 μ-loop2 Inv-loop μ-loop
 event-of-requires-2 c κs = search needs
@@ -650,6 +668,9 @@ run-lines-spec =
     mul-after
     element-set-from-after
     prints-requires
+    waits-left-requires
+    sub-left-2
+    add-until
     loop2-less-2
     loop2-again-2
     event-of-requires-2
