@@ -3,7 +3,7 @@
 use mathlib.Core.Path.{_≡_, sym, ap, _∙_}
 use mathlib.Core.Bool.{Bool, false, cond}
 use mathlib.Core.List.{List, [], _++_}
-use Prim.Native.Nat.{ℕ, _+_, _-_, _*_, _/_, _≤_, _<_}
+use Prim.Native.Nat.{ℕ, _+_, _-_, _*_, _≤_, _<_}
 use native.Mathlib.Omega.{arith}
 use lib.ListN.{length}
 use lib.Seq.{take-all, take-at}
@@ -15,19 +15,19 @@ use Rattle.sheet.specs.Scans.{roomAt, withEvent}
 use Rattle.sheet.specs.Sheets.{runLines, history}
 use Rattle.sheet.proofs.Written.{length-history, history-append}
 use Rattle.calling.proofs.States.{Written, Longer, filled, no-room}
-use Rattle.runner.specs.Area.{wholeLines, atFront, areaWith}
+use Rattle.runner.specs.Area.{wholeBytes, wholeLines, atFront, areaWith}
 
--- a number of bytes that is some lines of 37, and at most the room
-whole-low : (n lines room : ℕ) → n ≡ 37 * lines → n ≤ room → n ≤ 37 * (room / 37)
-whole-low n lines room e f = omega arith
+-- some lines of 37 bytes that have room
+lines-low : (n lines room : ℕ) → n ≡ 37 * lines → n ≤ room → n ≤ wholeBytes room
+lines-low n lines room e f = omega arith
 
--- and, with one line more, above it
-whole-is : (n lines room : ℕ) → n ≡ 37 * lines → n ≤ room → room < n + 37 → n ≡ 37 * (room / 37)
-whole-is n lines room e f g = omega arith
+-- and one more has none
+lines-are : (n lines room : ℕ) → n ≡ 37 * lines → n ≤ room → room < n + 37 → n ≡ wholeBytes room
+lines-are n lines room e f g = omega arith
 
 all-lines : (es : List Event) (room : ℕ) → length (historyBytes es) ≤ room → wholeLines (historyBytes es) room ≡ historyBytes es
 all-lines es room f =
-    take-all (37 * (room / 37)) (historyBytes es) (whole-low (length (historyBytes es)) (length es) room (length-history es) f)
+    take-all (wholeBytes room) (historyBytes es) (lines-low (length (historyBytes es)) (length es) room (length-history es) f)
 
 first-lines :
     (es fs : List Event) (room : ℕ) →
@@ -36,8 +36,8 @@ first-lines :
     wholeLines (historyBytes (es ++ fs)) room ≡ historyBytes es
 first-lines es fs room f g =
     ap (λ (h : List ℕ). wholeLines h room) (history-append es fs)
-    ∙ take-at (historyBytes es) (historyBytes fs) (37 * (room / 37))
-    (whole-is (length (historyBytes es)) (length es) room (length-history es) f g)
+    ∙ take-at (historyBytes es) (historyBytes fs) (wholeBytes room)
+    (lines-are (length (historyBytes es)) (length es) room (length-history es) f g)
 
 area-by : (h k a : List ℕ) (w : Bool) → wholeLines h (length a) ≡ k → areaWith h a w ≡ filled k a w
 area-by h k a w e = ap (λ (x : List ℕ). cond w (atFront x a) a) e

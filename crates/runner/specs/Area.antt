@@ -6,9 +6,13 @@ use mathlib.Core.List.{List, _++_}
 use lib.ListN.{length, take, drop}
 use Rattle.sheet.specs.Events.{eventLength}
 
+-- so many bytes of the room take whole lines
+abbrev pub wholeBytes : ℕ → ℕ
+wholeBytes room = eventLength * (room / eventLength)
+
 -- the lines of a history that have room in whole
 abbrev pub wholeLines : List ℕ → ℕ → List ℕ
-wholeLines h room = take (eventLength * (room / eventLength)) h
+wholeLines h room = take (wholeBytes room) h
 
 -- an area with a text at its front, and behind it as it was
 abbrev pub atFront : List ℕ → List ℕ → List ℕ
