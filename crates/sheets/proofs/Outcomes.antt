@@ -16,7 +16,7 @@ use Rattle.sheet.specs.declared.events.Ran.the-variants as ran
 use Rattle.sheet.specs.declared.lines.Line.{Line}
 use Rattle.sheet.specs.Lines.{lineOf, partAt, firstOutOfForm, firstMisplaced}
 use Rattle.sheet.specs.Sheets.{history, historyOf, fitted, runQueue, ranSheet, written, areaAfter}
-use Rattle.calling.specs.Calls.{areaWith}
+use Rattle.runner.specs.Area.{atFront}
 
 pub refused-untouched : (s area : List ℕ) (n k : ℕ) → ran.Refused n k ≡ ranSheet s (length area) → area ≡ areaAfter s area
 refused-untouched s area n k e = ap (λ (r : Ran). written (historyOf s (lineOf (partAt s 1))) area r) e
@@ -77,7 +77,7 @@ pub written-whole :
     length h ≤ length area →
     b ≡ area →
     r ≡ fitted h (length b) →
-    a ≡ areaWith h b true →
+    a ≡ atFront h b →
     a ≡ written h area r
 written-whole h area b a r f e i k =
     k
@@ -88,7 +88,7 @@ written-whole h area b a r f e i k =
 pub copied-whole :
     (h area part rest a : List ℕ) (room n : ℕ) →
     ran.Length n ≡ fitted h room →
-    part ≡ areaWith h rest true →
+    part ≡ atFront h rest →
     (more : List ℕ) →
     a ≡ take n (part ++ more) ++ drop n area →
     a ≡ written h area (ran.Length n)
@@ -100,7 +100,7 @@ copied-whole h area part rest a room n e p more k =
 pub copied-within :
     (h part rest : List ℕ) (room n : ℕ) →
     ran.Length n ≡ fitted h room →
-    part ≡ areaWith h rest true →
+    part ≡ atFront h rest →
     (more : List ℕ) →
     n ≤ length (part ++ more)
 copied-within h part rest room n e p more =
