@@ -14,12 +14,12 @@ use sheets::run_sheet;
 const LENT: usize = 65536;
 
 // A refusal's number and line, written to the front of the area: how many bytes.
-fn print_refusal(area: &mut [u8], number: u8, line: u32) -> usize
+fn print_refusal(area: &mut [u8], number: u32, line: u32) -> usize
     requires { ⌜ 16 ≤ length (now area) ⌝ }
     ensures { λ r. ⌜ r ≡ length (refusalText number line) ⌝ }
     ensures { λ _. ⌜ now (area .exit) ≡ refusalText number line ++ drop (length (refusalText number line)) (now (area .entry)) ⌝ }
 {
-    let middle = decimal_into(area, 0, number as u32);
+    let middle = decimal_into(area, 0, number);
     area[middle] = SPACE;
     let end = decimal_into(area, middle + 1, line);
     area[end] = LINE_FEED;
@@ -33,7 +33,7 @@ fn print_sheet(sheet: &[u8], area: &mut [u8]) -> usize
     ensures { λ _. ⌜ now (area .exit) ≡ printed (now (sheet .entry)) ++ drop (length (printed (now (sheet .entry)))) (now (area .entry)) ⌝ }
 {
     match run_sheet(sheet, area) {
-        Ran::Refused(number, line) => print_refusal(area, number, line as u32),
+        Ran::Refused(number, line) => print_refusal(area, number as u32, line as u32),
         Ran::Length(bytes) => bytes,
     }
 }

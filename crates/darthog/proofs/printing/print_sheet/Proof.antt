@@ -16,7 +16,10 @@ enum-known-number : tie.Need-enum-known-number
 enum-known-number c = search needs
 
 cast-print-refusal : tie.Need-cast-print-refusal
-cast-print-refusal c =
+cast-print-refusal c = search needs
+
+cast-print-refusal-2 : tie.Need-cast-print-refusal-2
+cast-print-refusal-2 c =
     let n = c .before .before in
     let r = n .before .before .before .before in
     let a = r .before .before .before .before in
@@ -72,6 +75,7 @@ print-sheet-spec =
     run-sheet-requires
     enum-known-number
     cast-print-refusal
+    cast-print-refusal-2
     print-refusal-requires
     enum-known-bytes
     same-length
