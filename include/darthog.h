@@ -5,6 +5,10 @@
  * image, of whatever length and whatever they hold, are refused with 21. Nothing is kept between calls but the bytes, and no call allocates: the
  * stack that a call takes is below 64 KiB.
  *
+ * Workers take turns. A step that waits (DARTHOG_WAITS) waits for a lock that another processor holds, and only that processor's steps free it; let the
+ * others step before this one steps again. It is an accepted call and uses up the clock: a queue takes 999,999 begins and steps, waits included. Then
+ * each is refused with 31 for good, and the host files what is left in a new queue. 37 refuses an Insert for now: let the workers step on, and try again.
+ *
  * What the host owes: image points to length readable bytes (writable ones where the pointer is not const), is not null even where length is 0, and
  * no other thread reads or writes these bytes during the call.
  */
@@ -33,7 +37,7 @@ struct darthog_reply {
 enum {
     DARTHOG_ACCEPTED = 0,   /* of a begin: first is its time. Of Backlog: first is the count. Of a due minute: first is the minute */
     DARTHOG_MOVED = 1,      /* of a step, as those below */
-    DARTHOG_WAITS = 2,
+    DARTHOG_WAITS = 2,      /* a lock is held by another processor: let the others step first */
     DARTHOG_EMPTY = 3,
     DARTHOG_MARKED = 4,     /* first is due, second item, third ticket */
     DARTHOG_INSERTED = 5,   /* the same */
@@ -46,13 +50,13 @@ enum {
     DARTHOG_BAD_ENTRIES = 12,    /* making: entries not 1 to 200 */
     DARTHOG_BAD_LEVELS = 13,     /* making: levels not 1 to 8 */
     DARTHOG_BAD_RECORD = 21,     /* every call: no image, or a record whose numbers are out of range; making: length is not an image's */
-    DARTHOG_CLOCK_ENDED = 31,    /* begin and step: the clock is 999,999 */
+    DARTHOG_CLOCK_ENDED = 31,    /* begin and step: the clock is 999,999, and the queue's life has ended */
     DARTHOG_NO_PROCESSOR = 32,   /* begin and step: the queue has no such processor */
     DARTHOG_BUSY = 33,           /* begin: the processor is busy */
     DARTHOG_IDLE = 34,           /* step: the processor is idle */
     DARTHOG_TOO_LARGE = 35,      /* Insert: due or item above 999,999; a due minute: seconds above 59,999,999 */
     DARTHOG_BAD_HEIGHT = 36,     /* Insert: height not 1 to the queue's levels */
-    DARTHOG_NO_NODE = 37         /* Insert: no node that may be used */
+    DARTHOG_NO_NODE = 37         /* Insert: no node that may be used now; later there may be one */
 };
 
 /* Makes a queue in these bytes, whatever they held: for processors (1 to 16), entries (1 to 200) and levels (1 to 8). 0, or 11, 12, 13 or 21. */

@@ -17,7 +17,8 @@ pub enum Refusal {
     /// The bytes are no image, or that of a record whose numbers are out of
     /// their ranges.
     BadRecord = 21,
-    /// Begin and step: the clock is 999,999.
+    /// Begin and step: the clock is 999,999. The queue's life has ended: file
+    /// what is left in a new one.
     ClockEnded = 31,
     /// Begin and step: the queue has no such processor.
     NoProcessor = 32,
@@ -30,7 +31,8 @@ pub enum Refusal {
     TooLarge = 35,
     /// Insert: height not 1 to the queue's levels.
     BadHeight = 36,
-    /// Insert: no node that may be used.
+    /// Insert: no node that may be used now. Let the workers step on, and try
+    /// again.
     NoNode = 37,
 }
 
@@ -100,7 +102,8 @@ pub struct Entry {
 pub enum Step {
     /// The operation went on.
     Moved,
-    /// A lock is held: only the clock changed.
+    /// Another processor holds a lock, which only its own steps free: only the
+    /// clock changed. Let the others step before this one steps again.
     Waits,
     /// The Delete_Min ended: every entry filed before it began is taken.
     Empty,
