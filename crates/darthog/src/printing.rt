@@ -17,7 +17,9 @@ const LENT: usize = 65536;
 fn print_refusal(area: &mut [u8], number: u32, line: u32) -> usize
     requires { ⌜ 16 ≤ length (now area) ⌝ }
     ensures { λ r. ⌜ r ≡ length (refusalText number line) ⌝ }
-    ensures { λ _. ⌜ now (area .exit) ≡ refusalText number line ++ drop (length (refusalText number line)) (now (area .entry)) ⌝ }
+    ensures { λ _.
+        ⌜ now (area .exit)
+        ≡ refusalText number line ++ drop (length (refusalText number line)) (now (area .entry)) ⌝ }
 {
     let middle = decimal_into(area, 0, number);
     area[middle] = SPACE;
@@ -30,7 +32,10 @@ fn print_refusal(area: &mut [u8], number: u32, line: u32) -> usize
 fn print_sheet(sheet: &[u8], area: &mut [u8]) -> usize
     requires { ⌜ (length (now sheet) ≤ 65536) × (length (now area) ≡ 65536) ⌝ }
     ensures { λ r. ⌜ r ≡ length (printed (now (sheet .entry))) ⌝ }
-    ensures { λ _. ⌜ now (area .exit) ≡ printed (now (sheet .entry)) ++ drop (length (printed (now (sheet .entry)))) (now (area .entry)) ⌝ }
+    ensures { λ _.
+        ⌜ now (area .exit)
+        ≡ printed (now (sheet .entry))
+        ++ drop (length (printed (now (sheet .entry)))) (now (area .entry)) ⌝ }
 {
     match run_sheet(sheet, area) {
         Ran::Refused(number, line) => print_refusal(area, number as u32, line as u32),
@@ -41,7 +46,10 @@ fn print_sheet(sheet: &[u8], area: &mut [u8]) -> usize
 // What the program prints for a sheet, written to the front of the area: how many bytes.
 pub fn print_run(sheet: &[u8], area: &mut [u8; 65536]) -> usize
     ensures { λ r. ⌜ r ≡ length (programPrints (now (sheet .entry))) ⌝ }
-    ensures { λ _. ⌜ now (area .exit) ≡ programPrints (now (sheet .entry)) ++ drop (length (programPrints (now (sheet .entry)))) (now (area .entry)) ⌝ }
+    ensures { λ _.
+        ⌜ now (area .exit)
+        ≡ programPrints (now (sheet .entry))
+        ++ drop (length (programPrints (now (sheet .entry)))) (now (area .entry)) ⌝ }
 {
     if sheet.len() <= LENT {
         return print_sheet(sheet, area);

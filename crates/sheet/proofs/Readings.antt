@@ -17,7 +17,8 @@ use Rattle.sheet.specs.declared.lines.Scan.the-variants as scan
 use Rattle.sheet.specs.Columns.{field, inForm, valueOf}
 use Rattle.sheet.specs.Letters.{letterRules}
 use Rattle.sheet.specs.Lines.{noRule, ruleIndex, keepsForm, fieldsKeep, lineInForm, lineOf, readLine, firstFailing, lineCount, rightLetter, firstMisplaced, partAt, firstOutOfForm}
-use Rattle.sheet.specs.Scans.{scansKeep, scannedLine, formReport, lineNumbers, reportedScan, reportedReading}
+use Rattle.sheet.specs.Scans.{scansKeep, scannedLine}
+use Rattle.sheet.specs.Scans.{formReport, lineNumbers, reportedScan, reportedReading}
 
 -- what the tests of a line say of its reading
 reads-bad : (s : List ℕ) (i : ℕ) → i ≡ ruleIndex letterRules (getD s 0 0) → keepsForm s i ≡ false → reading.Bad ≡ readLine s
@@ -105,12 +106,17 @@ scan-reported scan.Zero = refl
 scan-reported (scan.Number n) = refl
 scan-reported scan.Bad = refl
 
-reading-reported : (t : Bool) (l : Line) → reportedReading (cond t (reading.Form l) reading.Bad) ≡ formReport t (l .letter ∷ (l .first ∷ (l .second ∷ (l .third ∷ (l .fourth ∷ [])))))
+reading-reported :
+    (t : Bool) (l : Line) →
+    reportedReading (cond t (reading.Form l) reading.Bad)
+    ≡ formReport t (l .letter ∷ (l .first ∷ (l .second ∷ (l .third ∷ (l .fourth ∷ [])))))
 reading-reported true l = refl
 reading-reported false l = refl
 
 -- a reading that is the definition's, and in numbers
-pub said : (s : List ℕ) {r : Reading} → r ≡ readLine s → (r ≡ readLine s) × (reportedReading r ≡ formReport (lineInForm s) (lineNumbers s))
+pub said :
+    (s : List ℕ) {r : Reading} → r ≡ readLine s →
+    (r ≡ readLine s) × (reportedReading r ≡ formReport (lineInForm s) (lineNumbers s))
 said s e = (e, ap reportedReading e ∙ reading-reported (lineInForm s) (lineOf s))
 
 -- the answer of a reading

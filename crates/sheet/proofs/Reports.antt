@@ -1,20 +1,23 @@
 -- The outcome of a sheet in numbers, and as the enum that the code answers with. Assumes nothing.
-use mathlib.Core.Path.{_≡_, refl, sym, ap, _∙_}
+use mathlib.Core.Path.{_≡_, refl, sym, ap}
 use mathlib.Core.Bool.{Bool, true, false, cond}
 use mathlib.Core.List.{List, [], _∷_}
-use Prim.Native.Nat.{ℕ, _≤_}
+use Prim.Native.Nat.{ℕ}
 use lib.Dec.{ltb, eqb}
 use lib.ListN.{length}
 use Rattle.laws.proofs.Booleans.{cond-cases, cond-elim}
 use Rattle.checks.specs.Making.{made}
 use Rattle.record.specs.Report.{Report, report}
-use Rattle.sheet.specs.declared.events.Ran.{Ran}
 use Rattle.sheet.specs.declared.events.Ran.the-variants as ran
 use Rattle.sheet.specs.Lines.{firstOutOfForm, firstMisplaced, lineOf, partAt}
-use Rattle.sheet.specs.Sheets.{history, fitted, fittedOutcome, outcome, ranOf, ranSheet, reportedRun}
+use Rattle.sheet.specs.Sheets.{history, fitted, fittedOutcome, outcome}
+use Rattle.sheet.specs.Sheets.{ranOf, ranSheet, reportedRun}
 
 -- a history that fits or not
-fitted-by : (t : Bool) (n : ℕ) → cond t (ran.Refused 43 0) (ran.Length n) ≡ ranOf (cond t (report 43 (0 ∷ [])) (report 0 (n ∷ [])))
+fitted-by :
+    (t : Bool) (n : ℕ) →
+    cond t (ran.Refused 43 0) (ran.Length n)
+    ≡ ranOf (cond t (report 43 (0 ∷ [])) (report 0 (n ∷ [])))
 fitted-by true n = refl
 fitted-by false n = refl
 

@@ -35,19 +35,22 @@ history s q = historyBytes (runLines s (running q []) (lineCount s - 1) .events)
 abbrev pub fitted : List ℕ → ℕ → Ran
 fitted h room = cond (ltb room (length h)) (ran.Refused 43 0) (ran.Length (length h))
 
--- the same in numbers, as below
+-- the same in numbers
 abbrev pub fittedOutcome : List ℕ → ℕ → Report
 fittedOutcome h room = cond (ltb room (length h)) (report 43 (0 ∷ [])) (report 0 (length h ∷ []))
 
 -- the Q line makes the queue, or is refused
 abbrev pub madeOutcome : List ℕ → ℕ → ℕ → Queue → Report
-madeOutcome s room refusal q = cond (eqb refusal 0) (fittedOutcome (history s q) room) (report refusal (1 ∷ []))
+madeOutcome s room refusal q =
+    cond (eqb refusal 0) (fittedOutcome (history s q) room) (report refusal (1 ∷ []))
 
 abbrev pub queueOutcome : List ℕ → ℕ → Line → Report
 queueOutcome s room l =
-    madeOutcome s room (made (l .first) (l .second) (l .third) .refusal) (made (l .first) (l .second) (l .third) .queue)
+    madeOutcome s room (made (l .first) (l .second) (l .third) .refusal)
+    (made (l .first) (l .second) (l .third) .queue)
 
--- the outcome of a sheet, with room for so many bytes of history, in document 01's numbers: a refusal and its line, or 0 and the history's length
+-- the outcome of a sheet, with room for so many bytes of history, in numbers: a refusal and its
+-- line, or 0 and the length of the history (01, refusals; sheet and history)
 abbrev pub outcome : List ℕ → ℕ → Report
 outcome s room =
     cond (ltb 0 (firstOutOfForm s)) (report 41 (firstOutOfForm s ∷ []))
@@ -56,7 +59,9 @@ outcome s room =
 
 -- an outcome in numbers, as the enum that the code answers with
 abbrev pub ranOf : Report → Ran
-ranOf o = cond (eqb (o .number) 0) (ran.Length (getD (o .values) 0 0)) (ran.Refused (o .number) (getD (o .values) 0 0))
+ranOf o =
+    cond (eqb (o .number) 0) (ran.Length (getD (o .values) 0 0))
+    (ran.Refused (o .number) (getD (o .values) 0 0))
 
 abbrev pub ranSheet : List ℕ → ℕ → Ran
 ranSheet s room = ranOf (outcome s room)

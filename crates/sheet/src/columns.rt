@@ -71,7 +71,10 @@ pub fn byte_at(part: &[u8], k: usize) -> u8
 // The seven columns that a part starts with.
 pub fn field(part: &[u8]) -> Scan
     ensures { λ r. ⌜ r ≡ fieldOf (now (part .entry)) ⌝ }
-    ensures numbers { λ r. ⌜ reportedScan r ≡ formReport (inForm (fieldOf (now (part .entry)))) (valueIn (fieldOf (now (part .entry))) ∷ []) ⌝ }
+    ensures numbers { λ r.
+        ⌜ reportedScan r
+        ≡ formReport (inForm (fieldOf (now (part .entry))))
+        (valueIn (fieldOf (now (part .entry))) ∷ []) ⌝ }
 {
     let mut f = Scan::Blank;
     let mut k: usize = 0;

@@ -1,4 +1,5 @@
--- The outcome of a sheet as two numbers (01, refusals; sheet and history). No refusal has the number 0.
+-- The outcome of a sheet as two numbers (01, refusals; sheet and history).
+-- 0 is no refusal's number.
 use lib.ListN.{getD}
 use Rattle.record.specs.Report.{Report}
 use Rattle.sheetentry.specs.declared.SheetReply.{SheetReply}

@@ -22,7 +22,8 @@ const ONE_RUN: usize = 65536;
 // was.
 pub fn run_sheet(sheet: &[u8], history: &mut [u8]) -> Ran
     ensures { λ r. ⌜ r ≡ ranSheet (now (sheet .entry)) (length (now (history .entry))) ⌝ }
-    ensures numbers { λ r. ⌜ reportedRun r ≡ outcome (now (sheet .entry)) (length (now (history .entry))) ⌝ }
+    ensures numbers { λ r.
+        ⌜ reportedRun r ≡ outcome (now (sheet .entry)) (length (now (history .entry))) ⌝ }
     ensures { λ _. ⌜ now (history .exit) ≡ areaAfter (now (sheet .entry)) (now (history .entry)) ⌝ }
     ensures { λ _. ⌜ SheetAgrees (now (sheet .entry)) ⌝ }
 {

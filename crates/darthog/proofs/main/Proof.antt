@@ -1,5 +1,5 @@
 use mathlib.Core.Path.{sym}
-use Prim.Native.Nat.{ℕ, _≤_}
+use Prim.Native.Nat.{_≤_}
 use lib.ListN.{length, take, drop}
 use lib.Seq.{length-take-le}
 use Rattle.sheet.specs.Program.{programPrints}
@@ -34,14 +34,17 @@ within : (c : tie.After-print-run) → c .print-run .result ≤ length (c .print
 within c =
     let i = c .before .before .before .before .before .read-full in
     let a = c .before .before .before .large-buffer2 .result in
+    let p = c .print-run in
     let text = programPrints (take (i .result) (i .last .1 .0)) in
-    printed-within text (drop (length text) a) (c .print-run .last .1 .0) (c .print-run .ensures .0) (c .print-run .ensures .1)
+    printed-within text (drop (length text) a) (p .last .1 .0) (p .ensures .0) (p .ensures .1)
 
 array-share-prefix-area : tie.Need-array-share-prefix-area
 array-share-prefix-area c = within c
 
 slice-aggregate-write-all : tie.Need-slice-aggregate-write-all
-slice-aggregate-write-all c = sym (length-take-le (c .before .print-run .result) (c .before .print-run .last .1 .0) (within (c .before)))
+slice-aggregate-write-all c =
+    let p = c .before .print-run in
+    sym (length-take-le (p .result) (p .last .1 .0) (within (c .before)))
 
 write-all-requires : tie.Need-write-all-requires
 write-all-requires c κs = search needs

@@ -1,5 +1,4 @@
 use mathlib.Core.Path.{_≡_, refl, sym, ap, _∙_}
-use mathlib.Core.List.{List}
 use Prim.Native.Nat.{ℕ, _+_, _-_, _≤_, _<_}
 use native.Mathlib.Nat.{add-zero}
 use native.Mathlib.Omega.{arith}
@@ -9,13 +8,12 @@ use Rattle.darthog.proofs.Texts.{none-left, byte-more}
 use borrow.Author.Needs.{needs}
 use Rattle.darthog.proofs.decimals.bytes_into.Statement.{statement}
 use Rattle.darthog.proofs.decimals.bytes_into.Tie as tie
-use Rattle.darthog.proofs.decimals.bytes_into.Reads as reads
-use Rattle.darthog.proofs.decimals.bytes_into.Lts as lts
 
 -- the bytes from k on are still to be stored
 abbrev Inv-loop : tie.InvT-loop
 Inv-loop area₀ at bytes k₀ area k =
-    (k ≤ length bytes) × (length area ≡ length area₀) × (sets area (at + k) (drop k bytes) ≡ sets area₀ at bytes)
+    (k ≤ length bytes) × (length area ≡ length area₀)
+    × (sets area (at + k) (drop k bytes) ≡ sets area₀ at bytes)
 
 abbrev μ-loop : tie.MeasureT-loop
 μ-loop area₀ at bytes k₀ area k = length bytes - k

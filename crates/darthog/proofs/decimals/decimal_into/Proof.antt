@@ -40,8 +40,11 @@ returns c =
     let k = c .before .before .before .before .before .before in
     let a = k .before .before .before .before .args in
     let s = k .before .before .columns-of in
-    let d = digits-of (s .result) (a .n) (k .spaces-before .result) (s .ensures) (k .spaces-before .ensures .1) in
-    (ap (λ (x : List ℕ). a .at + length x) d, c .before .before .bytes-into .ensures ∙ ap (sets (a .area .now) (a .at)) d)
+    let t = k .spaces-before in
+    let d = digits-of (s .result) (a .n) (t .result) (s .ensures) (t .ensures .1) in (
+      ap (λ (x : List ℕ). a .at + length x) d,
+      c .before .before .bytes-into .ensures ∙ ap (sets (a .area .now) (a .at)) d,
+    )
 
 pub decimal-into-spec : {M : Type 1} → statement M
 decimal-into-spec =

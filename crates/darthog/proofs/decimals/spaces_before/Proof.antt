@@ -1,5 +1,5 @@
 use mathlib.Core.Path.{_≡_, refl, sym, ap, _∙_}
-use Prim.Native.Nat.{ℕ, _+_, _-_, _≤_, _<_}
+use Prim.Native.Nat.{_-_, _≤_}
 use native.Mathlib.Omega.{arith}
 use lib.ListN.{length, drop}
 use Rattle.sheet.specs.Columns.{trimmed}
@@ -7,8 +7,6 @@ use Rattle.darthog.proofs.Texts.{none-left, space-more, digit-first}
 use borrow.Author.Needs.{needs}
 use Rattle.darthog.proofs.decimals.spaces_before.Statement.{statement}
 use Rattle.darthog.proofs.decimals.spaces_before.Tie as tie
-use Rattle.darthog.proofs.decimals.spaces_before.Reads as reads
-use Rattle.darthog.proofs.decimals.spaces_before.Lts as lts
 
 -- what was passed are spaces
 abbrev Inv-loop : tie.InvT-loop
@@ -27,7 +25,8 @@ returns : tie.Need-returns Inv-loop μ-loop
 returns c =
     let l = c .before .before .before .loop in
     let s = c .before .before .before .before .args .columns .now in
-    (l .inv .0, digit-first s (l .k) (c .before .before .loop-test .taken) (c .if1 .taken) ∙ l .inv .1)
+    let h = c .before .before .loop-test .taken in
+    (l .inv .0, digit-first s (l .k) h (c .if1 .taken) ∙ l .inv .1)
 
 add-k : tie.Need-add-k Inv-loop μ-loop
 add-k c = search needs
@@ -39,7 +38,8 @@ loop-again : tie.Need-loop-again Inv-loop μ-loop
 loop-again c =
     let l = c .before .before .before .loop in
     let s = c .before .before .before .before .args .columns .now in
-    (omega arith, space-more s (l .k) (c .before .before .loop-test .taken) (c .if1 .left) ∙ l .inv .1)
+    let h = c .before .before .loop-test .taken in
+    (omega arith, space-more s (l .k) h (c .if1 .left) ∙ l .inv .1)
 
 returns-2 : tie.Need-returns-2 Inv-loop μ-loop
 returns-2 c =

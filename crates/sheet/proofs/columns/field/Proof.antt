@@ -42,7 +42,8 @@ returns : tie.Need-returns Inv-loop μ-loop
 returns c =
     let e : c .before .loop .k ≡ 7 = omega arith in
     let f = c .before .loop .inv .1 ∙ ap (λ (k : ℕ). columnsTo (now (c .before .before .before .args .part)) k) e in
-    (f, ap reportedScan f ∙ scan-reported (columnsTo (now (c .before .before .before .args .part)) 7))
+    let s = now (c .before .before .before .args .part) in
+    (f, ap reportedScan f ∙ scan-reported (columnsTo s 7))
 
 pub field-spec : {M : Type 1} → statement M
 field-spec =
