@@ -24,6 +24,11 @@ fn main() {
         );
         std::process::exit(1);
     }
+    // tests/sheets.rs links this one; a host that runs no sheet needs it not
+    let sheets = folder.join("libsheetentry.a");
+    if sheets.is_file() {
+        println!("cargo:rerun-if-changed={}", sheets.display());
+    }
     println!("cargo:rustc-link-search=native={}", folder.display());
     println!("cargo:rustc-link-lib=static=entries");
 }

@@ -24,5 +24,6 @@ pub mod schedule;
 pub mod sheet;
 pub mod sheets;
 pub mod stages;
+pub mod stated;
 pub mod tally;
 pub mod trial;

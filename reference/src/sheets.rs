@@ -58,6 +58,8 @@ pub enum Kind {
     WrongSizes,
     /// P, N or L is out of range, and a line is out of form.
     WrongSizesAndDamage,
+    /// P, N or L is out of range, and there is a second Q.
+    WrongSizesAndSecondQ,
     /// The clock is spent by S lines of 999 steps.
     SpentClock,
     /// The history fills its area as far as lines can.
@@ -71,7 +73,7 @@ pub enum Kind {
 }
 
 /// The kinds that a hundred sheets have, beside those that run calls.
-const DAMAGED: [Kind; 34] = [
+const DAMAGED: [Kind; 35] = [
     Kind::Empty,
     Kind::OnlyQ,
     Kind::OtherByte,
@@ -106,6 +108,7 @@ const DAMAGED: [Kind; 34] = [
     Kind::LongHistory,
     Kind::FullSheet,
     Kind::LongSheet,
+    Kind::WrongSizesAndSecondQ,
 ];
 
 /// The kind of sheet number `number`. Once in two hundred the clock is spent.
@@ -153,6 +156,11 @@ pub fn sheet(seed: u64, number: u64) -> Vec<u8> {
         Kind::WrongSizesAndDamage => {
             let mut sheet = wrong_sizes(random);
             sheet.extend_from_slice(&wrong_steps(random));
+            sheet
+        }
+        Kind::WrongSizesAndSecondQ => {
+            let mut sheet = wrong_sizes(random);
+            sheet.extend_from_slice(&q_line(sizes(random)));
             sheet
         }
         Kind::SpentClock => spent_clock(random),
@@ -282,11 +290,13 @@ fn leading_zero(random: &mut Random, line: &mut [u8]) {
 
 fn unused_field(random: &mut Random) -> Vec<u8> {
     let value = random.among(&[1, 2, 10, MOST]);
-    match random.below(4) {
+    match random.below(6) {
         0 => line(b'Q', [1, 1, 1, value]),
         1 => line(b'D', [0, value, 0, 0]),
-        2 => line(b'D', [0, 0, 0, value]),
-        _ => line(b'S', [0, 1, value, 0]),
+        2 => line(b'D', [0, 0, value, 0]),
+        3 => line(b'D', [0, 0, 0, value]),
+        4 => line(b'S', [0, 1, value, 0]),
+        _ => line(b'S', [0, 1, 0, value]),
     }
 }
 

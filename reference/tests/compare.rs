@@ -101,6 +101,41 @@ fn a_program_that_reads_sheets_in_another_way_is_found() {
 }
 
 #[test]
+fn a_program_that_takes_an_unused_field_is_found() {
+    for (letter, field) in [
+        (b'Q', 3),
+        (b'D', 1),
+        (b'D', 2),
+        (b'D', 3),
+        (b'S', 2),
+        (b'S', 3),
+    ] {
+        let wrong = |sheet: &[u8]| {
+            on_lines(sheet, |line| {
+                if line.len() == LINE && line[0] == letter {
+                    line[1 + 7 * field..8 + 7 * field].copy_from_slice(b"      0");
+                }
+            })
+        };
+        let name = char::from(letter);
+        assert!(found(wrong).is_some(), "field {field} of {name} taken");
+    }
+}
+
+#[test]
+fn a_program_that_looks_at_the_sizes_before_the_letters_is_found() {
+    let wrong = |sheet: &[u8]| {
+        let first = right(&sheet[..sheet.len().min(LINE)]);
+        let whole = right(sheet);
+        if whole.starts_with(b"42 ") && first.starts_with(b"1") {
+            return first;
+        }
+        whole
+    };
+    assert!(found(wrong).is_some(), "11 to 13 before 42");
+}
+
+#[test]
 fn a_program_that_prints_another_refusal_is_found() {
     for number in [11, 12, 13, 31, 32, 33, 34, 35, 36, 37, 41, 42, 43] {
         let wrong = |sheet: &[u8]| other_number(right(sheet), number);

@@ -4,6 +4,7 @@ mod common;
 
 use common::{D, HISTORY, PRINTED, Q};
 use darthog_reference::sheet::{run, SheetRefusal};
+use darthog_reference::stated::sheets::{spent_clock, OUT_OF_FORM, SPENT_CLOCK_HISTORY};
 
 /// The history of an accepted sheet; the rest of the area is untouched.
 fn history(sheet: &str) -> String {
@@ -28,29 +29,7 @@ fn the_printed_sheet() {
 
 #[test]
 fn refusal_41_a_line_not_in_form() {
-    for bad in [
-        "D     00      0      0      0\n", // leading zero
-        "D             0      0      0\n", // a field of spaces
-        "D0            0      0      0\n", // spaces after digits
-        "D     +1      0      0      0\n",
-        "D     1a      0      0      0\n",
-        "D    1 1      0      0      0\n",
-        "D\t     0      0      0      0\n",
-        "d      0      0      0      0\n", // another letter
-        "X      0      0      0      0\n",
-        "       0      0      0      0\n",
-        "D      0      0      0      0 ", // no line feed
-        "D      0      0      0      0\r",
-        "D      0      1      0      0\n", // unused fields hold 0
-        "D      0      0      1      0\n",
-        "D      0      0      0      1\n",
-        "S      0      1      1      0\n",
-        "S      0      1      0      1\n",
-        "S      0      0      0      0\n", // step counts
-        "S      0   1000      0      0\n",
-        "S      09999999      0      0\n",
-        "Q      1      1      1      1\n",
-    ] {
+    for bad in OUT_OF_FORM {
         assert_eq!(bad.len(), 30, "{bad:?}");
         assert_eq!(refusal(format!("{Q}{bad}").as_bytes()), (41, 2), "{bad:?}");
         let late = format!("{Q}{D}{D}{bad}{bad}");
@@ -164,26 +143,6 @@ D     11      0      0      0      0
 /// Processor 1 waits for the head's lock until the clock ends.
 #[test]
 fn refusal_31_at_the_end_of_the_clock() {
-    let mut sheet = "\
-Q      2      2      1      0
-I      0      0      0      1
-S      0      3      0      0
-I      1      0      0      1
-S      1      2      0      0
-"
-    .to_string();
-    // The clock is 7 now; 1000 lines of 999 waits and 992 more end it.
-    for _ in 0..1000 {
-        sheet += "S      1    999      0      0\n";
-    }
-    sheet += "S      1    992      0      0\n";
-    sheet += "S      1      1      0      0\n";
-    sheet += "D      9      0      0      0\n";
-    let expected = "\
-I      1      0      0      0      1
-I      5      1      0      0      1
-R 999999      1     31      0      0
-R 999999      9     31      0      0
-";
-    assert_eq!(history(&sheet), expected);
+    let sheet = String::from_utf8(spent_clock()).unwrap();
+    assert_eq!(history(&sheet), SPENT_CLOCK_HISTORY);
 }

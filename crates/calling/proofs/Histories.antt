@@ -1,11 +1,10 @@
 -- The run of a sheet's lines, one call at a time. Assumes nothing.
-use mathlib.Core.Path.{_≡_, refl, sym, ap, _∙_}
+use mathlib.Core.Path.{_≡_, refl, sym, ap, _∙_, subst}
 use mathlib.Core.Bool.{Bool, true, false, cond, false≢true}
-use mathlib.Core.List.{List, [], _∷_, _++_, append-nil}
+use mathlib.Core.List.{List, [], _∷_, _++_, append-nil, append-assoc}
 use Prim.Native.Nat.{ℕ, zero, suc, _+_, _-_, _*_, _≤_, _<_}
 use native.Mathlib.Omega.{arith}
 use lib.Dec.{ltb, leb, eqb}
-use lib.ListN.{length, length-append}
 use Rattle.laws.proofs.Booleans.{cond-elim}
 use Rattle.checks.specs.Check.{valid}
 use Rattle.record.specs.declared.queues.Queue.{Queue}
@@ -147,55 +146,62 @@ next-line s r (suc k) h =
     ∙ ap (λ (j : ℕ). runLine (runLines s r k) (lineOf (partAt s j))) f
     ∙ ap (λ (j : ℕ). runLine (runLines s r j) (lineOf (partAt s (suc k + 1)))) g
 
--- a history grows
-longer : (es fs : List Event) → length es ≤ length (es ++ fs)
-longer es fs = let h = length-append es fs in omega (arith, h)
+-- a history grows: what is there stays, and more comes behind it
+pub record Grows (es fs : List Event) : Type 0 where
+  pub rest : List Event
+  pub is : fs ≡ es ++ rest
 
-from-longer : (l : Line) (n : ℕ) (r : Running) → length (r .events) ≤ length (lineFrom l n r .events)
+grows-none : (es : List Event) → Grows es es
+grows-none es = record { rest = []; is = sym (append-nil es) }
+
+grows-by : (es fs : List Event) → Grows es (es ++ fs)
+grows-by es fs = record { rest = fs; is = refl }
+
+pub grows-on : (es fs gs : List Event) → Grows es fs → Grows fs gs → Grows es gs
+grows-on es fs gs a b = record {
+  rest = a .rest ++ b .rest;
+  is = b .is ∙ ap (λ (x : List Event). x ++ b .rest) (a .is) ∙ append-assoc es (a .rest) (b .rest);
+}
+
+pub rest-grows : (l : Line) (n : ℕ) (r : Running) → Grows (r .events) (lineFrom l n r .events)
 unfolding lineFrom
-from-longer l zero r = omega arith
-from-longer l (suc n) r =
-    let g = longer (r .events) (eventsOf l (callOn l (r .queue) .queue .clock) (callOn l (r .queue) .answer)) in
-    let m = from-longer l n (after l r) in
-    cond-elim (λ (x : Running). length (r .events) ≤ length (x .events)) (isRefused (callOn l (r .queue) .answer)) (after l r) (lineFrom l n (after l r))
+rest-grows l zero r = grows-none (r .events)
+rest-grows l (suc n) r =
+    let o = callOn l (r .queue) in
+    let g = grows-by (r .events) (eventsOf l (o .queue .clock) (o .answer)) in
+    cond-elim (λ (x : Running). Grows (r .events) (x .events)) (isRefused (o .answer)) (after l r) (lineFrom l n (after l r))
     g
-    (omega (arith, g, m))
+    (grows-on (r .events) (after l r .events) _ g (rest-grows l n (after l r)))
 
-steps-longer : (p : ℕ) (n : ℕ) (r : Running) → length (r .events) ≤ length (stepsLine r p n .events)
+steps-grow : (p n : ℕ) (r : Running) → Grows (r .events) (stepsLine r p n .events)
 unfolding stepsLine
-steps-longer p zero r = omega arith
-steps-longer p (suc n) r =
+steps-grow p zero r = grows-none (r .events)
+steps-grow p (suc n) r =
     let o = step (r .queue) p in
-    let g = longer (r .events) (stepEvents (o .queue .clock) p (o .answer)) in
-    let m = steps-longer p n (stepOnce r p o) in
-    cond-elim (λ (x : Running). length (r .events) ≤ length (x .events)) (isRefused (o .answer)) (stepOnce r p o) (stepsLine (stepOnce r p o) p n)
+    let g = grows-by (r .events) (stepEvents (o .queue .clock) p (o .answer)) in
+    cond-elim (λ (x : Running). Grows (r .events) (x .events)) (isRefused (o .answer)) (stepOnce r p o) (stepsLine (stepOnce r p o) p n)
     g
-    (omega (arith, g, m))
+    (grows-on (r .events) (stepOnce r p o .events) _ g (steps-grow p n (stepOnce r p o)))
 
-line-longer : (r : Running) (l : Line) → length (r .events) ≤ length (runLine r l .events)
-line-longer r l =
-    cond-elim (λ (x : Running). length (r .events) ≤ length (x .events)) (eqb (l .letter) letterI) _ _ (longer (r .events) _)
-    (cond-elim (λ (x : Running). length (r .events) ≤ length (x .events)) (eqb (l .letter) letterD) _ _ (longer (r .events) _)
-    (steps-longer (l .first) (l .second) r))
+line-grows : (r : Running) (l : Line) → Grows (r .events) (runLine r l .events)
+line-grows r l =
+    cond-elim (λ (x : Running). Grows (r .events) (x .events)) (eqb (l .letter) letterI) _ _ (grows-by (r .events) _)
+    (cond-elim (λ (x : Running). Grows (r .events) (x .events)) (eqb (l .letter) letterD) _ _ (grows-by (r .events) _)
+    (steps-grow (l .first) (l .second) r))
 
-lines-longer : (s : List ℕ) (r : Running) (k n j : ℕ) → j ≡ n + k → length (runLines s r k .events) ≤ length (runLines s r j .events)
+lines-grow : (s : List ℕ) (r : Running) (k n j : ℕ) → n + k ≡ j → Grows (runLines s r k .events) (runLines s r j .events)
 unfolding runLines
-lines-longer s r k zero j e =
+lines-grow s r k zero j e =
     let f : k ≡ j = omega arith in
-    let g = ap (λ (i : ℕ). length (runLines s r i .events)) f in
-    omega (arith, g)
-lines-longer s r k (suc n) j e =
+    subst (λ (i : ℕ). Grows (runLines s r k .events) (runLines s r i .events)) f (grows-none (runLines s r k .events))
+lines-grow s r k (suc n) j e =
     let f : suc (n + k) ≡ j = omega arith in
-    let g = lines-longer s r k n (n + k) refl in
-    let m : length (runLines s r (n + k) .events) ≤ length (runLines s r (suc (n + k)) .events) = line-longer (runLines s r (n + k)) (lineOf (partAt s (n + k + 2))) in
-    let h = ap (λ (i : ℕ). length (runLines s r i .events)) f in
-    omega (arith, g, m, h)
+    subst (λ (i : ℕ). Grows (runLines s r k .events) (runLines s r i .events)) f
+    (grows-on (runLines s r k .events) (runLines s r (n + k) .events) _ (lines-grow s r k n (n + k) refl)
+    (line-grows (runLines s r (n + k)) (lineOf (partAt s (n + k + 2)))))
 
-pub history-grows : (s : List ℕ) (r : Running) (k m : ℕ) → k ≤ m → length (runLines s r k .events) ≤ length (runLines s r m .events)
-history-grows s r k m h = lines-longer s r k (m - k) m (omega arith)
-
-pub rest-grows : (l : Line) (n : ℕ) (r : Running) → length (r .events) ≤ length (lineFrom l n r .events)
-rest-grows l n r = from-longer l n r
+pub history-grows : (s : List ℕ) (r : Running) (k m : ℕ) → k ≤ m → Grows (runLines s r k .events) (runLines s r m .events)
+history-grows s r k m h = lines-grow s r k (m - k) m (omega arith)
 
 -- a line with two calls or more asks for no node
 pub no-node : (l : Line) (q : Queue) → 2 ≤ callsOf l → nodeFor l q ≡ 0

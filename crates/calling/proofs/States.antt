@@ -1,5 +1,5 @@
 -- What holds between two lines of a sheet and between two calls of a line: the record, and the history as far as it is written. Assumes nothing.
-use mathlib.Core.Path.{_≡_, refl, sym, ap, _∙_}
+use mathlib.Core.Path.{_≡_, refl, sym, ap, _∙_, subst}
 use mathlib.Core.Bool.{Bool, true, false, cond}
 use mathlib.Core.List.{List, [], _∷_, _++_, append-nil}
 use Prim.Native.Nat.{ℕ, zero, suc, _+_, _-_, _*_, _≤_, _<_}
@@ -27,15 +27,19 @@ use Rattle.sheet.specs.Scans.{roomAt, withEvent}
 use Rattle.sheet.specs.Sheets.{runLine, runLines, history, fitted}
 use Rattle.sheet.proofs.Stores.{sets-behind}
 use Rattle.sheet.proofs.Written.{length-event, length-history, history-append}
-use Rattle.calling.specs.Calls.{callsOf, prints, eventsOf, eventOf, areaWith}
+use Rattle.calling.specs.Calls.{callsOf, prints, eventsOf, eventOf}
 use Rattle.calling.proofs.Accepting.{call-accepts}
 use Rattle.calling.proofs.Called.{callOn, call-kept, nodeFor, refusalOn, callDecision, call-refused, call-accepted}
-use Rattle.calling.proofs.Histories.{afterCall, after, lineFrom, from-none, from-more, whole-line, next-line, history-grows, rest-grows, no-node, events-one}
+use Rattle.calling.proofs.Histories.{afterCall, after, lineFrom, from-none, from-more, whole-line, next-line, Grows, grows-on, history-grows, rest-grows, no-node, events-one}
+
+-- an area with bytes at its front, or only counted
+abbrev pub filled : List ℕ → List ℕ → Bool → List ℕ
+filled h area writing = cond writing (h ++ drop (length h) area) area
 
 -- the history so far: a₀ is the area as it was lent, a as it is
 pub record Written (a₀ a : List ℕ) (at : ℕ) (es : List Event) (w : Bool) : Type 0 where
   pub long : at ≡ length (historyBytes es)
-  pub bytes : a ≡ areaWith (historyBytes es) a₀ w
+  pub bytes : a ≡ filled (historyBytes es) a₀ w
   pub fits : at ≤ length a₀
 
 -- a record that passes check 21, with its arrays' lengths
@@ -43,6 +47,13 @@ pub record Kept (q : Queue) : Type 0 where
   pub passes : valid q ≡ true
   pub nodes : length (q .nodes) ≡ nodeSlots
   pub callers : length (q .callers) ≡ maxProcessors
+
+-- a history that is longer than its area: it begins with the lines written, and one more has no room
+pub record Longer (es : List Event) (h : List ℕ) (room : ℕ) : Type 0 where
+  pub rest : List Event
+  pub is : h ≡ historyBytes (es ++ rest)
+  pub over : room < length h
+  pub last : room < length (historyBytes es) + 37
 
 -- k lines are run, the Q line counted
 pub record Between (s : List ℕ) (q₀ : Queue) (k : ℕ) (q : Queue) (a₀ a : List ℕ) (at : ℕ) (w : Bool) : Type 0 where
@@ -61,7 +72,7 @@ pub record Within (s : List ℕ) (q₀ : Queue) (k : ℕ) (l : Line) (x left : �
   pub written : Written a₀ a at events w
 
 -- nothing is written yet
-nothing-written : (a : List ℕ) (w : Bool) → a ≡ areaWith [] a w
+nothing-written : (a : List ℕ) (w : Bool) → a ≡ filled [] a w
 nothing-written a true = refl
 nothing-written a false = refl
 
@@ -74,7 +85,7 @@ at-first s q a w v = record {
   written = record { long = refl; bytes = nothing-written a w; fits = omega arith };
 }
 
-length-area : (h a : List ℕ) (w : Bool) → length h ≤ length a → length (areaWith h a w) ≡ length a
+length-area : (h a : List ℕ) (w : Bool) → length h ≤ length a → length (filled h a w) ≡ length a
 length-area h a true f = simp (length-append, length-drop) (omega arith)
 length-area h a false f = refl
 
@@ -83,8 +94,8 @@ one-more : (es : List Event) (e : Event) → historyBytes (es ++ (e ∷ [])) ≡
 one-more es e = history-append es (e ∷ []) ∙ ap (λ (x : List ℕ). historyBytes es ++ x) (append-nil (eventBytes e))
 
 stored : (h a b c : List ℕ) (at : ℕ) (w : Bool) (e : Event) →
-    at ≡ length h → b ≡ areaWith h a w → length h + length (eventBytes e) ≤ length a → roomAt b at ≡ true → c ≡ withEvent b at e w →
-    c ≡ areaWith (h ++ eventBytes e) a w
+    at ≡ length h → b ≡ filled h a w → length h + length (eventBytes e) ≤ length a → roomAt b at ≡ true → c ≡ withEvent b at e w →
+    c ≡ filled (h ++ eventBytes e) a w
 stored h a b c at true e p k f r d =
     d
     ∙ ap (λ (t : Bool). cond t (sets b at (eventBytes e)) b) r
@@ -106,7 +117,7 @@ written-more a₀ a b at es e w h r d =
     let f : length (historyBytes es) + length (eventBytes e) ≤ length a₀ = omega (arith, n, l, g, room) in
     record {
       long = omega (arith, n, m, l, o);
-      bytes = stored (historyBytes es) a₀ a b at w e l (h .bytes) f r d ∙ ap (λ (x : List ℕ). areaWith x a₀ w) (sym (one-more es e));
+      bytes = stored (historyBytes es) a₀ a b at w e l (h .bytes) f r d ∙ ap (λ (x : List ℕ). filled x a₀ w) (sym (one-more es e));
       fits = omega (arith, g, room);
     }
 
@@ -115,13 +126,9 @@ same-area a₀ a at es w h =
     let o = h .long in
     ap length (h .bytes) ∙ length-area (historyBytes es) a₀ w (omega (arith, o, h .fits))
 
--- a history that is only counted leaves the area as it was
-pub counted-area : (a₀ a : List ℕ) (at : ℕ) (es : List Event) (w : Bool) → Written a₀ a at es w → w ≡ false → a ≡ a₀
-counted-area a₀ a at es w h e = h .bytes ∙ ap (λ (b : Bool). areaWith (historyBytes es) a₀ b) e
-
-pub counted-event : (a b : List ℕ) (at : ℕ) (e : Event) (w : Bool) → b ≡ withEvent a at e w → w ≡ false → b ≡ a
-counted-event a b at e w h f =
-    h ∙ ap (λ (x : Bool). cond (roomAt a at) (cond x (sets a at (eventBytes e)) a) a) f ∙ cond-elim (λ (x : List ℕ). x ≡ a) (roomAt a at) a a refl refl
+-- an event that has no room changes nothing
+pub no-room : (a b : List ℕ) (at : ℕ) (e : Event) (w : Bool) → roomAt a at ≡ false → b ≡ withEvent a at e w → b ≡ a
+no-room a b at e w r h = h ∙ ap (λ (t : Bool). cond t (cond w (sets a at (eventBytes e)) a) a) r
 
 pub event-area : (a b : List ℕ) (at : ℕ) (e : Event) (w : Bool) → b ≡ withEvent a at e w → length b ≡ length a
 event-area a b at e w h =
@@ -217,23 +224,31 @@ module _ (s : List ℕ) (q₀ : Queue) (k : ℕ) (l : Line) (x : ℕ) (a₀ : Li
         lineFrom l m r ≡ runLines s (running q₀ []) (k - 1) →
         roomAt a at ≡ false →
         k - 1 ≤ lineCount s - 1 →
-        length a₀ < length (history s q₀)
+        Longer (i .events) (history s q₀) (length a₀)
     long m r e f g room c =
         let h = i .written in
         let o = h .long in
-        let n : length a ≡ length a₀ = ap length (h .bytes) ∙ length-area (historyBytes (i .events)) a₀ w (omega (arith, o, h .fits)) in
+        let n = same-area a₀ a at (i .events) w h in
         let small : length a < at + 37 = leb-false (at + 37) (length a) room in
         let last = runLines s (running q₀ []) (lineCount s - 1) .events in
         let g₁ = history-grows s (running q₀ []) (k - 1) (lineCount s - 1) c in
-        let g₂ = rest-grows l m r in
-        let g₃ = ap (λ (y : Running). length (y .events)) g in
-        let g₄ = ap length f ∙ length-append (i .events) (e ∷ []) in
+        let g₂ = subst (λ (y : Running). Grows (r .events) (y .events)) g (rest-grows l m r) in
+        let g₃ : Grows (i .events) (r .events) = record { rest = e ∷ []; is = f } in
+        let g₄ = grows-on (r .events) (runLines s (running q₀ []) (k - 1) .events) last g₂ g₁ in
+        let g₅ = grows-on (i .events) (r .events) last g₃ g₄ in
+        let b₁ = ap length f ∙ length-append (i .events) (e ∷ []) in
+        let b₂ = ap length (g₄ .is) ∙ length-append (r .events) (g₄ .rest) in
         let l₁ = length-history (i .events) in
         let l₂ = length-history last in
-        omega (arith, o, n, small, g₁, g₂, g₃, g₄, l₁, l₂)
+        record {
+          rest = g₅ .rest;
+          is = ap historyBytes (g₅ .is);
+          over = omega (arith, o, n, small, b₁, b₂, l₁, l₂);
+          last = omega (arith, o, n, small);
+        }
 
     pub refused-long :
-        (r : ℕ) (e : Event) → r ≡ refusalOn l q x → 0 < r → roomAt a at ≡ false → k - 1 ≤ lineCount s - 1 → length a₀ < length (history s q₀)
+        (r : ℕ) (e : Event) → r ≡ refusalOn l q x → 0 < r → roomAt a at ≡ false → k - 1 ≤ lineCount s - 1 → Longer (i .events) (history s q₀) (length a₀)
     refused-long r e f h room c =
         long 0 (running q (i .events ++ (eventOf l (q .clock) (ans.Refused r) ∷ []))) (eventOf l (q .clock) (ans.Refused r)) refl
         (from-none l (running q (i .events ++ (eventOf l (q .clock) (ans.Refused r) ∷ []))) ∙ sym (refused-prints r) ∙ rest-refused r f h)
@@ -307,7 +322,7 @@ module _ (s : List ℕ) (q₀ : Queue) (k : ℕ) (l : Line) (x : ℕ) (a₀ : Li
       }
 
       pub accepted-long :
-          prints (l .letter) (u .answer) ≡ true → roomAt a at ≡ false → k - 1 ≤ lineCount s - 1 → length a₀ < length (history s q₀)
+          prints (l .letter) (u .answer) ≡ true → roomAt a at ≡ false → k - 1 ≤ lineCount s - 1 → Longer (i .events) (history s q₀) (length a₀)
       accepted-long p room c =
           long (left - 1) (running (u .queue) (i .events ++ (eventOf l (u .queue .clock) (u .answer) ∷ []))) (eventOf l (u .queue .clock) (u .answer)) refl
           (ap (lineFrom l (left - 1)) (sym (printed p)) ∙ rest-accepted u e answers)
@@ -322,11 +337,12 @@ pub at-last :
     (s : List ℕ) (q₀ : Queue) (k : ℕ) (q : Queue) (a₀ a : List ℕ) (at : ℕ) (w : Bool) →
     Between s q₀ k q a₀ a at w →
     k - 1 ≡ lineCount s - 1 →
-    (ran.Length at ≡ fitted (history s q₀) (length a₀)) × (a ≡ areaWith (history s q₀) a₀ w)
+    (ran.Length at ≡ fitted (history s q₀) (length a₀)) × (length (history s q₀) ≤ length a₀) × (a ≡ filled (history s q₀) a₀ w)
 at-last s q₀ k q a₀ a at w b c =
     let e : historyBytes (b .events) ≡ history s q₀ = ap (λ (r : Running). historyBytes (r .events)) (b .ran) ∙ ap (λ (j : ℕ). historyBytes (runLines s (running q₀ []) j .events)) c in
     let n : at ≡ length (history s q₀) = b .written .long ∙ ap length e in
     let f : length (history s q₀) ≤ length a₀ = omega (arith, n, b .written .fits) in (
       ap ran.Length n ∙ sym (ap (λ (t : Bool). cond t (ran.Refused 43 0) (ran.Length (length (history s q₀)))) (le-ltb (length a₀) (length (history s q₀)) f)),
-      b .written .bytes ∙ ap (λ (h : List ℕ). areaWith h a₀ w) e,
+      f,
+      b .written .bytes ∙ ap (λ (h : List ℕ). filled h a₀ w) e,
     )

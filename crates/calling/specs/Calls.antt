@@ -2,9 +2,8 @@
 -- crates/rules/specs/Calls and crates/sheet/specs/Events say, for the contracts of small functions.
 use Prim.Native.Nat.{ℕ}
 use mathlib.Core.Bool.{Bool, true, false, cond}
-use mathlib.Core.List.{List, [], _∷_, _++_}
+use mathlib.Core.List.{List}
 use lib.Dec.{ltb, leb, eqb}
-use lib.ListN.{length, drop}
 use Rattle.checks.specs.Making.{outside}
 use Rattle.record.specs.declared.stages.Stage.{Stage}
 use Rattle.record.specs.Limits.{maxNumber}
@@ -116,7 +115,3 @@ abbrev pub eventOf : Line → ℕ → Answer → Event
 eventOf l time a =
     byLetter (l .letter) (beginEvent time (l .first) (event letterI time (l .first) (l .second) (l .third) (l .fourth)) a)
     (beginEvent time (l .first) (event letterD time (l .first) 0 0 0) a) (stepEvent time (l .first) a)
-
--- the area with a history that is written or only counted
-abbrev pub areaWith : List ℕ → List ℕ → Bool → List ℕ
-areaWith h area writing = cond writing (h ++ drop (length h) area) area

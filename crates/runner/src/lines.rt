@@ -1,13 +1,14 @@
 // The lines of a sheet after its Q line. One function holds the record in a local and loops over lines and calls, so that no call copies it. Only an
 // Insert that nothing else refuses copies it once, to look for a node.
 ghost use mathlib.Core.Path.{_≡_};
-ghost use mathlib.Core.Bool.{true, false};
+ghost use mathlib.Core.Bool.{true};
 ghost use Prim.Native.Nat.{_+_, _≤_};
 ghost use lib.ListN.{length};
 ghost use Rattle.checks.specs.Check.{valid as validOf};
 ghost use Rattle.sheet.specs.Letters.{letterI};
 ghost use Rattle.sheet.specs.Sheets.{history as historyOf, fitted};
-ghost use Rattle.calling.specs.Calls.{decisionOf, areaWith};
+ghost use Rattle.calling.specs.Calls.{decisionOf};
+ghost use Rattle.runner.specs.Area.{areaWith};
 ghost use Rattle.runner.specs.Waiting.{isWaits, waitsLeft};
 use calling::calls::asks_node;
 use calling::calls::call_refusal;
@@ -89,13 +90,13 @@ fn waits_left(a: Answer, left: u32, t: u32) -> u32
     if left < most { left } else { most }
 }
 
-// The lines 2 and on of a sheet, run on the queue that its first line made: the length of the history, or 43 as soon as it is longer than the area. The
-// history is written, or only counted.
+// The lines 2 and on of a sheet, run on the queue that its first line made: the length of the history,
+// or 43 as soon as it is longer than the area. The history is written, or only counted. Where 43 ends
+// a run that writes, the lines that had room stay in the area.
 pub fn run_lines(sheet: &[u8], mut q: Queue, area: &mut [u8], writing: bool) -> Ran
     requires { ⌜ validOf q ≡ true ⌝ }
     ensures { λ r. ⌜ r ≡ fitted (historyOf (now (sheet .entry)) q) (length (now (area .entry))) ⌝ }
-    ensures { λ _. ⌜ (length (historyOf (now (sheet .entry)) q) ≤ length (now (area .entry)) → now (area .exit) ≡ areaWith (historyOf (now (sheet .entry)) q) (now (area .entry)) writing) ⌝ }
-    ensures { λ _. ⌜ (writing ≡ false → now (area .exit) ≡ now (area .entry)) ⌝ }
+    ensures { λ _. ⌜ now (area .exit) ≡ areaWith (historyOf (now (sheet .entry)) q) (now (area .entry)) writing ⌝ }
 {
     let count = line_count(sheet);
     let mut at: usize = 0;

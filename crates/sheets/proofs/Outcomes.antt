@@ -19,7 +19,7 @@ use Rattle.sheet.specs.Lines.{lineOf, partAt, firstOutOfForm, firstMisplaced}
 use Rattle.sheet.specs.Sheets.{history, historyOf, fitted, ranSheet, written, areaAfter}
 use Rattle.sheet.specs.Sheets.{fittedOutcome, queueOutcome, outcome, ranOf, reportedRun}
 use Rattle.sheet.proofs.Reports.{fitted-ran, refused-ran, outcome-told}
-use Rattle.calling.specs.Calls.{areaWith}
+use Rattle.runner.specs.Area.{atFront}
 
 pub refused-untouched : (s area : List ℕ) (n k : ℕ) → ran.Refused n k ≡ ranSheet s (length area) → area ≡ areaAfter s area
 refused-untouched s area n k e = ap (λ (r : Ran). written (historyOf s (lineOf (partAt s 1))) area r) e
@@ -112,7 +112,7 @@ pub written-whole :
     length h ≤ length area →
     b ≡ area →
     r ≡ fitted h (length b) →
-    a ≡ areaWith h b true →
+    a ≡ atFront h b →
     a ≡ written h area r
 written-whole h area b a r f e i k =
     k
@@ -123,7 +123,7 @@ written-whole h area b a r f e i k =
 pub copied-whole :
     (h area part rest a : List ℕ) (room n : ℕ) →
     ran.Length n ≡ fitted h room →
-    part ≡ areaWith h rest true →
+    part ≡ atFront h rest →
     (more : List ℕ) →
     a ≡ take n (part ++ more) ++ drop n area →
     a ≡ written h area (ran.Length n)
@@ -135,7 +135,7 @@ copied-whole h area part rest a room n e p more k =
 pub copied-within :
     (h part rest : List ℕ) (room n : ℕ) →
     ran.Length n ≡ fitted h room →
-    part ≡ areaWith h rest true →
+    part ≡ atFront h rest →
     (more : List ℕ) →
     n ≤ length (part ++ more)
 copied-within h part rest room n e p more =

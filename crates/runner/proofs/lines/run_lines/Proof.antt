@@ -35,7 +35,8 @@ use Rattle.sheet.specs.Sheets.{history}
 use Rattle.sheet.proofs.Parts.{tail-part, line-start, part-next}
 use Rattle.calling.specs.Calls.{slotOf, callRefusal, asksNode, withNode, prints}
 use Rattle.calling.proofs.Called.{early, nodeFor, refusalOn, callOn, callDecision, slot-low, clock-low, caller-low, caller-slot, height-low, call-decided, call-changes, call-accepted}
-use Rattle.calling.proofs.States.{Between, Within, Kept, same-area, event-area, counted-area, counted-event, at-first, begins, ends, call-refuses, call-silent, call-prints, refused-long, accepted-long, refuses-long, at-last}
+use Rattle.calling.proofs.States.{Between, Within, Kept, same-area, event-area, at-first, begins, ends, call-refuses, call-silent, call-prints, refused-long, accepted-long, refuses-long, at-last}
+use Rattle.runner.proofs.Areas.{area-whole, area-part}
 use Rattle.runner.proofs.Waits.{call-waits}
 use Rattle.runner.proofs.lines.run_lines.Statement.{statement}
 use Rattle.runner.proofs.lines.run_lines.Tie as tie
@@ -184,12 +185,6 @@ room-fits c room =
     let f = area-fits (c .before .before .before .before .before .before .before .before .before .before .before .before .before .before .before .before) in
     omega (arith, h, n, f)
 
-refused-counted : (c : tie.After-append-event Inv-loop2 μ-loop2 Inv-loop μ-loop) → c .before .before .before .before .before .before .before .before .before .before .before .before .before .before .before .before .before .before .before .before .before .before .before .before .before .args .writing ≡ false → c .append-event .last .0 ≡ c .before .before .before .before .before .before .before .before .before .before .before .before .before .before .before .before .before .before .before .before .before .before .before .before .before .args .area .now
-refused-counted c f =
-    let b = c .before .before .before .before .before .before .before .before .before .before in
-    counted-event (b .loop2 .area) (c .append-event .last .0) (b .loop2 .at) (c .before .before .event-of .result) (c .before .before .before .before .before .before .before .before .before .before .before .before .before .before .before .before .before .before .before .before .before .before .before .before .before .args .writing) (c .append-event .ensures .1) f
-    ∙ counted-area _ _ (b .loop2 .at) _ _ (held (c .before .before .before .before .before .before .before .before .before) .written) f
-
 -- an accepted call: its line, its record, its node and its processor
 known : (c : tie.In-loop2 Inv-loop2 μ-loop2 Inv-loop μ-loop) → c .before .before .before .if1 .x ≡ nodeFor (c .before .before .before .before .before .before .before .before .before .line-at .result) (c .before .loop2 .q)
 known c = held c .node (some c)
@@ -281,12 +276,6 @@ printed-area c =
     let b = c .before .before .before .before .before .before .before .before .before .before .before .before .before .before .before .before .before .before .before .before .before .before .before .before .before in
     event-area (b .loop2 .area) (c .append-event2 .last .0) (b .loop2 .at) (c .before .before .event-of2 .result) (c .before .before .before .before .before .before .before .before .before .before .before .before .before .before .before .before .before .before .before .before .before .before .before .before .before .before .before .before .before .before .before .before .before .before .before .before .before .before .before .before .args .writing) (c .append-event2 .ensures .1)
     ∙ same-area _ _ (b .loop2 .at) _ _ (held (c .before .before .before .before .before .before .before .before .before .before .before .before .before .before .before .before .before .before .before .before .before .before .before .before) .written)
-
-printed-counted : (c : tie.After-append-event2 Inv-loop2 μ-loop2 Inv-loop μ-loop) → c .before .before .before .before .before .before .before .before .before .before .before .before .before .before .before .before .before .before .before .before .before .before .before .before .before .before .before .before .before .before .before .before .before .before .before .before .before .before .before .before .args .writing ≡ false → c .append-event2 .last .0 ≡ c .before .before .before .before .before .before .before .before .before .before .before .before .before .before .before .before .before .before .before .before .before .before .before .before .before .before .before .before .before .before .before .before .before .before .before .before .before .before .before .before .args .area .now
-printed-counted c f =
-    let b = c .before .before .before .before .before .before .before .before .before .before .before .before .before .before .before .before .before .before .before .before .before .before .before .before .before in
-    counted-event (b .loop2 .area) (c .append-event2 .last .0) (b .loop2 .at) (c .before .before .event-of2 .result) (c .before .before .before .before .before .before .before .before .before .before .before .before .before .before .before .before .before .before .before .before .before .before .before .before .before .before .before .before .before .before .before .before .before .before .before .before .before .before .before .before .args .writing) (c .append-event2 .ensures .1) f
-    ∙ counted-area _ _ (b .loop2 .at) _ _ (held (c .before .before .before .before .before .before .before .before .before .before .before .before .before .before .before .before .before .before .before .before .before .before .before .before) .written) f
 
 line-count-requires : tie.Need-line-count-requires Inv-loop2 μ-loop2 Inv-loop μ-loop
 line-count-requires c κs = search needs
@@ -395,8 +384,10 @@ returns c =
     let long =
     refused-long (a .sheet .now) (a .t2) (o .loop .k + 1) (b .before .before .before .before .before .before .before .before .before .line-at .result) (b .before .before .before .if1 .x) (a .area .now) (a .writing)
     (b .before .loop2 .q) (b .before .loop2 .area) (b .before .loop2 .at) (b .before .loop2 .left) (held b) (some b)
-    (c .before .before .before .before .before .before .before .with-node .result) (c .before .before .before .before .before .event-of .result) (refusal-is (c .before .before .before .before .before .before .before)) (c .before .before .before .before .before .before .if2 .taken) room (last-line b) in
-    (refuses-long (history (a .sheet .now) (a .t2)) (length (a .area .now)) long, (λ h. absurd (omega (arith, long, h)), λ f. refused-counted (c .before .before .before) f))
+    (c .before .before .before .before .before .before .before .with-node .result) (c .before .before .before .before .before .event-of .result) (refusal-is (c .before .before .before .before .before .before .before)) (c .before .before .before .before .before .before .if2 .taken) room (last-line b) in (
+      refuses-long (history (a .sheet .now) (a .t2)) (length (a .area .now)) (long .over),
+      area-part _ _ _ _ (b .before .loop2 .at) _ (c .before .before .before .before .before .event-of .result) _ (held b .written) long room (c .before .before .before .append-event .ensures .1),
+    )
 
 add-at : tie.Need-add-at Inv-loop2 μ-loop2 Inv-loop μ-loop
 add-at c =
@@ -560,8 +551,10 @@ returns-2 c =
     accepted-long (a .sheet .now) (a .t2) (o .loop .k + 1) (b .before .before .before .before .before .before .before .before .before .line-at .result) (b .before .before .before .if1 .x) (a .area .now) (a .writing)
     (b .before .loop2 .q) (b .before .loop2 .area) (b .before .loop2 .at) (b .before .loop2 .left) (held b) (some b)
     _ (outcome (c .before .before .before .before .before .before .before .before)) (zero (c .before .before .before .before .before .before .before .before .before .before .before .before .before .before .before .before .before .before .before .before .before))
-    (sym (c .before .before .before .before .before .before .before .prints .ensures) ∙ not-false _ (c .before .before .before .before .before .before .if4 .left)) room (last-line b) in
-    (refuses-long (history (a .sheet .now) (a .t2)) (length (a .area .now)) long, (λ h. absurd (omega (arith, long, h)), λ f. printed-counted (c .before .before .before) f))
+    (sym (c .before .before .before .before .before .before .before .prints .ensures) ∙ not-false _ (c .before .before .before .before .before .before .if4 .left)) room (last-line b) in (
+      refuses-long (history (a .sheet .now) (a .t2)) (length (a .area .now)) (long .over),
+      area-part _ _ _ _ (b .before .loop2 .at) _ (c .before .before .before .before .before .event-of2 .result) _ (held b .written) long room (c .before .before .before .append-event2 .ensures .1),
+    )
 
 add-at-2 : tie.Need-add-at-2 Inv-loop2 μ-loop2 Inv-loop μ-loop
 add-at-2 c =
@@ -597,7 +590,7 @@ returns-3 c =
     let e : o .before .line-count .result ≡ lineCount (a .sheet .now) = o .before .line-count .ensures in
     let k : o .loop .k - 1 ≡ lineCount (a .sheet .now) - 1 = omega (arith, e, c .loop-test .left, o .loop .inv .2) in
     let r = at-last (a .sheet .now) (a .t2) (o .loop .k) (o .loop .q) (a .area .now) (o .loop .area) (o .loop .at) (a .writing) (o .loop .inv .0) k in
-    (r .0, (λ _. r .1, λ f. counted-area _ _ _ _ _ (o .loop .inv .0 .written) f))
+    (r .0, r .2 ∙ sym (area-whole (a .sheet .now) (a .t2) (a .area .now) (a .writing) (r .1)))
 
 pub run-lines-spec : {M : Type 1} → statement M
 run-lines-spec =

@@ -1,9 +1,11 @@
 use mathlib.Core.Path.{_≡_, refl, sym, ap, _∙_}
+use mathlib.Core.Bool.{true}
 use Prim.Native.Nat.{ℕ, _≤_}
 use native.Mathlib.Omega.{arith}
 use lib.ListN.{length, take}
 use lib.Seq.{length-take-le}
 use Rattle.sheet.specs.Sheets.{history, fitted}
+use Rattle.runner.proofs.Areas.{area-whole}
 use Rattle.sheets.proofs.Outcomes.{length-fits, length-told, copied-whole, copied-within}
 use borrow.Author.Needs.{needs}
 use Rattle.sheets.proofs.runs.run_aside.Statement.{statement}
@@ -33,7 +35,7 @@ copy-front-requires c κs =
     let fits = length-fits h _ _ e in
     let n = length-take-le _ (x .aside .now) (c .before .before .before .before .before .before .before .before .before .before .before .before .pre .1) in
     let m = length-told h _ _ e in
-    (copied-within h _ _ _ _ e (run .ensures .1 .0 fits) _, omega (arith, fits, n, m))
+    (copied-within h _ _ _ _ e (run .ensures .1 ∙ area-whole (x .sheet .now) (x .q) (take (length (x .area .now)) (x .aside .now)) true fits) _, omega (arith, fits, n, m))
 
 same-length : tie.Need-same-length
 same-length c = search needs
@@ -58,7 +60,7 @@ returns-2 c =
     let e = sym (c .before .before .before .before .before .before .bytes .given .1) ∙ run .ensures .0 in
     let fits = length-fits h _ _ e in
     let n = length-take-le _ (x .aside .now) (c .before .before .before .before .before .before .before .before .before .before .before .before .before .before .before .pre .1) in
-    (e ∙ ap (λ (k : ℕ). fitted h k) n, copied-whole h (x .area .now) _ _ _ _ _ e (run .ensures .1 .0 fits) _ (c .before .before .copy-front .ensures))
+    (e ∙ ap (λ (k : ℕ). fitted h k) n, copied-whole h (x .area .now) _ _ _ _ _ e (run .ensures .1 ∙ area-whole (x .sheet .now) (x .q) (take (length (x .area .now)) (x .aside .now)) true fits) _ (c .before .before .copy-front .ensures))
 
 pub run-aside-spec : {M : Type 1} → statement M
 run-aside-spec =

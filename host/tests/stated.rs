@@ -1,0 +1,274 @@
+//! Check 21 of the compiled entries, with what is expected written by hand:
+//! each stored field at the ends of its range, slots past P, N+1 and L, the
+//! reference's single changes, tags, and the end of the clock. The reference
+//! must say the same, but no expectation comes from it alone.
+
+mod common;
+
+use common::{expected, refused, seed, Call, Counts, Lent};
+use darthog_host::raw::Reply;
+use darthog_reference::any_record::slots_past;
+use darthog_reference::image::{
+    decode, encode, NODES_AT, NODE_BYTES, PROCESSORS_AT, PROCESSOR_BYTES,
+};
+use darthog_reference::perturb::{breaking, past, to_the_edge, Change};
+use darthog_reference::queue::{Queue, Stage};
+use darthog_reference::random::Random;
+use darthog_reference::schedule::{Schedule, Sizes};
+use darthog_reference::stated::cases::each_case;
+use darthog_reference::stated::records::record;
+use darthog_reference::stated::rows::TABLES;
+use darthog_reference::trial::fresh_of;
+
+/// Every call on a record, by one processor.
+fn calls(processor: u32) -> [Call; 4] {
+    [
+        Call::Backlog,
+        Call::Step(processor),
+        Call::DeleteMin(processor),
+        Call::Insert(processor, 7, 42, 1),
+    ]
+}
+
+/// Calls that a taken record refuses for their numbers: 21 comes first.
+const STRANGE: [Call; 3] = [
+    Call::Step(u32::MAX),
+    Call::DeleteMin(16),
+    Call::Insert(99, u32::MAX, u32::MAX, 0),
+];
+
+/// Makes calls on images, and compares what comes back with what is expected
+/// and with the reference.
+struct Judge {
+    random: Random,
+    counts: Counts,
+    calls: u64,
+}
+
+impl Judge {
+    fn new() -> Judge {
+        Judge {
+            random: Random::new(seed()),
+            counts: Counts::default(),
+            calls: 0,
+        }
+    }
+
+    /// A call on bytes of its own. Not taken: 21, and no byte changes. Taken:
+    /// anything but 21. Both as the reference has it.
+    fn call(&mut self, bytes: &[u8], call: &Call, taken: bool, what: &str) -> Reply {
+        let mut lent = Lent::new(bytes, &mut self.random);
+        let got = lent.call(call);
+        if taken {
+            assert_ne!(got.code, 21, "{what}, {call:?} got {got:?}");
+        } else {
+            assert_eq!(got, refused(21), "{what}, {call:?}");
+            assert!(lent.now() == bytes, "{what}, {call:?} changed a byte");
+        }
+        let (reply, after) = expected(bytes, call);
+        assert_eq!(got, reply, "{what}, {call:?}: the reference differs");
+        assert!(lent.now() == after, "{what}, {call:?}: other bytes");
+        self.counts.note(call.entry(), got.code);
+        self.calls += 1;
+        got
+    }
+
+    /// Every call by one processor, and where 21 is expected also calls with
+    /// numbers that are refused later. A taken record of the tables has no node
+    /// in use.
+    fn case(&mut self, queue: &Queue, processor: u32, taken: bool, what: &str) {
+        let bytes = encode(queue);
+        for call in calls(processor) {
+            let got = self.call(&bytes, &call, taken, what);
+            if taken && call == Call::Backlog {
+                assert_eq!(got, refused(0), "{what}, {call:?}");
+            }
+        }
+        if !taken {
+            let strange = STRANGE[self.calls as usize % STRANGE.len()];
+            self.call(&bytes, &strange, false, what);
+        }
+    }
+}
+
+#[test]
+fn each_field_is_taken_and_refused_as_stated() {
+    let mut judge = Judge::new();
+    let mut total = 0;
+    for table in &TABLES {
+        let base = format!("{:?} {:?} as it is", table.sizes, table.filling);
+        judge.case(&record(table), 0, true, &base);
+        let seen = each_case(table, |case| {
+            let what = case.words(table);
+            judge.case(&case.queue, case.processor(), case.taken, &what);
+        });
+        seen.must_have_all(table);
+        total += seen.total();
+    }
+    println!("{total} cases, {} calls", judge.calls);
+    assert!(total > 45_000, "only {total} cases");
+    judge.counts.must_have(&[
+        ("backlog", &[0, 21]),
+        ("step", &[1, 2, 3, 4, 5, 6, 21, 31, 34]),
+        ("delete_min", &[0, 21, 31, 33]),
+        ("insert", &[0, 21, 31, 33]),
+    ]);
+}
+
+/// Records of runs: fresh ones, and some in the middle of operations.
+fn bases() -> Vec<Queue> {
+    let mut bases = Vec::new();
+    for (processors, nodes, levels, calls) in [
+        (1, 1, 1, 0),
+        (1, 1, 1, 20),
+        (2, 3, 2, 300),
+        (3, 4, 3, 500),
+        (5, 9, 7, 400),
+        (15, 30, 8, 700),
+        (16, 200, 8, 2000),
+    ] {
+        let sizes = Sizes {
+            processors,
+            nodes,
+            levels,
+        };
+        let mut queue = fresh_of(sizes);
+        let mut schedule = Schedule::new(calls, sizes);
+        for _ in 0..calls {
+            let call = schedule.next_call();
+            let outcome = queue.call(&call);
+            schedule.note(&call, &outcome);
+        }
+        bases.push(queue);
+    }
+    bases
+}
+
+/// Makes each change on a base and one call on what comes of it, each call in
+/// its turn. Slots past the sizes stay as they are.
+fn judge_changes(judge: &mut Judge, base: &Queue, changes: &[Change], taken: bool) {
+    for (number, change) in changes.iter().enumerate() {
+        let mut queue = base.clone();
+        (change.make)(&mut queue);
+        let bytes = encode(&queue);
+        let processor = (number / 4) as u32 % u32::from(base.processor_count);
+        let call = calls(processor)[number % 4];
+        judge.call(&bytes, &call, taken, &change.name);
+        if taken {
+            let (_, after) = expected(&bytes, &call);
+            let after = decode(&after).expect("it was written");
+            let same = slots_past(&after) == slots_past(&queue);
+            assert!(same, "{}: a slot past the sizes changed", change.name);
+        }
+    }
+}
+
+#[test]
+fn the_references_changes_are_taken_and_refused_as_their_lists_say() {
+    let mut judge = Judge::new();
+    let mut made = [0, 0, 0];
+    for base in bases() {
+        for call in calls(0) {
+            judge.call(&encode(&base), &call, true, "a record of a run");
+        }
+        let lists = [breaking(&base), to_the_edge(&base), past(&base)];
+        for (number, list) in lists.iter().enumerate() {
+            judge_changes(&mut judge, &base, list, number > 0);
+            made[number] += list.len();
+        }
+    }
+    let [broken, edge, far] = made;
+    println!("{broken} changes give 21, {edge} to the edge and {far} past the sizes do not");
+    assert!(broken > 10_000 && edge > 1_000 && far > 1_000);
+    judge.counts.must_have(&[
+        ("backlog", &[0, 21]),
+        ("step", &[1, 2, 21]),
+        ("delete_min", &[0, 21, 33]),
+        ("insert", &[0, 21, 33]),
+    ]);
+}
+
+/// Bytes of a node that are no image where the node is as a fresh one: what it
+/// is, where, and the byte.
+const NODE_TAGS: [(&str, usize, u8); 9] = [
+    ("mark", 17, 2),
+    ("mark", 17, 255),
+    ("stamp", 18, 2),
+    ("time without a stamp", 19, 1),
+    ("time without a stamp", 22, 1),
+    ("use", 36, 3),
+    ("use", 36, 255),
+    ("time without a retirement", 37, 1),
+    ("time without a retirement", 40, 1),
+];
+
+/// The same for an idle processor.
+const PROCESSOR_TAGS: [(&str, usize, u8); 5] = [
+    ("stage", 5, 27),
+    ("stage", 5, 255),
+    ("node without a place", 6, 1),
+    ("level without a place", 7, 1),
+    ("node of G3 but at G4", 8, 1),
+];
+
+/// Whether the bytes are an image at all is asked of every slot, used or not;
+/// docs/DECISIONS.md has the reason.
+#[test]
+fn a_wrong_tag_is_21_in_a_used_slot_and_in_an_unused_one() {
+    let mut judge = Judge::new();
+    let table = &TABLES[2];
+    assert_eq!(table.sizes, [2, 3, 2]);
+    let image = encode(&record(table));
+    let node = |slot: usize| NODES_AT + slot * NODE_BYTES;
+    let processor = |slot: usize| PROCESSORS_AT + slot * PROCESSOR_BYTES;
+    let mut places = Vec::new();
+    for slot in [0, 1, 3, 4, 5, 201] {
+        places.extend(NODE_TAGS.map(|tag| (tag, format!("node {slot}"), node(slot))));
+    }
+    for slot in [0, 1, 2, 15] {
+        let whose = format!("processor {slot}");
+        places.extend(PROCESSOR_TAGS.map(|tag| (tag, whose.clone(), processor(slot))));
+    }
+    assert_eq!(places.len(), 74);
+    for ((field, at, byte), whose, start) in places {
+        let mut bytes = image.clone();
+        bytes[start + at] = byte;
+        let what = format!("{whose}, {field}: byte {byte} at {at}, expected 21");
+        for call in calls(0) {
+            judge.call(&bytes, &call, false, &what);
+        }
+    }
+}
+
+/// At 999,998 a call is accepted and its time is 999,999; then all but Backlog
+/// are refused with 31, which comes after 21 and before 32.
+#[test]
+fn the_clock_ends_at_999_999() {
+    let mut judge = Judge::new();
+    let began = |time| Reply {
+        first: time,
+        ..refused(0)
+    };
+    for table in &TABLES {
+        let mut queue = record(table);
+        let whose = format!("{:?} {:?}", table.sizes, table.filling);
+        let idle = queue.processors[0].stage == Stage::Idle;
+        let number = if idle { began(999_999) } else { refused(33) };
+        for (clock, delete_min) in [(999_998, number), (999_999, refused(31))] {
+            queue.clock = clock;
+            let bytes = encode(&queue);
+            let what = format!("{whose}, clock {clock}, expected {delete_min:?}");
+            let got = judge.call(&bytes, &Call::DeleteMin(0), true, &what);
+            assert_eq!(got, delete_min, "{what}");
+        }
+        let bytes = encode(&queue);
+        for call in calls(0).into_iter().skip(1).chain(STRANGE) {
+            let got = judge.call(&bytes, &call, true, &whose);
+            assert_eq!(got, refused(31), "{whose}, clock 999,999, {call:?}");
+        }
+        let backlog = judge.call(&bytes, &Call::Backlog, true, &whose);
+        assert_eq!(backlog, refused(0), "{whose}, clock 999,999, Backlog");
+        queue.clock = 1_000_000;
+        judge.case(&queue, 0, false, &format!("{whose}, clock 1,000,000"));
+    }
+}

@@ -1,0 +1,140 @@
+//! The expectations that are written by hand, against the reference: each
+//! field of check 21 at the ends of its range, and sheets.
+
+use darthog_reference::any_record::slots_past;
+use darthog_reference::calls::{Call, Outcome};
+use darthog_reference::queue::Queue;
+use darthog_reference::sheet::{run, SheetRefusal};
+use darthog_reference::stated::cases::each_case;
+use darthog_reference::stated::records::record;
+use darthog_reference::stated::rows::{Field, Filling, Row, FIELDS, TABLES};
+use darthog_reference::stated::sheets::{areas, refused};
+
+/// Calls by processor 0, and calls that would be refused for their numbers.
+const CALLS: [Call; 6] = [
+    Call::Backlog,
+    Call::Step { processor: 0 },
+    Call::DeleteMin { processor: 0 },
+    Call::Insert {
+        processor: 0,
+        due: 0,
+        item: 0,
+        height: 1,
+    },
+    Call::Step {
+        processor: u64::MAX,
+    },
+    Call::Insert {
+        processor: 99,
+        due: u64::MAX,
+        item: u64::MAX,
+        height: 0,
+    },
+];
+
+/// Makes every call on a copy of its own: 21 where that is expected and no
+/// change; else never 21, and Backlog counts 0, since no node is in use.
+fn judge(queue: &Queue, taken: bool, what: &str) {
+    for call in &CALLS {
+        let mut after = queue.clone();
+        let got = after.call(call);
+        if !taken {
+            assert_eq!(got, Outcome::Refused(21), "{what}, {call:?}");
+            assert!(after == *queue, "{what}, {call:?} changed the record");
+            continue;
+        }
+        assert_ne!(got, Outcome::Refused(21), "{what}, {call:?}");
+        if *call == Call::Backlog {
+            assert_eq!(got, Outcome::Count(0), "{what}, {call:?}");
+        }
+        let same = slots_past(&after) == slots_past(queue);
+        assert!(same, "{what}, {call:?} changed a slot past the sizes");
+    }
+}
+
+#[test]
+fn each_field_is_taken_and_refused_as_stated() {
+    let mut total = 0;
+    for table in &TABLES {
+        let base = format!("{:?} {:?} as it is", table.sizes, table.filling);
+        judge(&record(table), true, &base);
+        let seen = each_case(table, |case| {
+            judge(&case.queue, case.taken, &case.words(table));
+        });
+        seen.must_have_all(table);
+        total += seen.total();
+    }
+    println!("{total} cases");
+    assert!(total > 45_000, "only {total} cases");
+}
+
+#[test]
+fn every_table_has_one_row_for_each_field() {
+    for table in &TABLES {
+        let mut fields: Vec<Field> = table.rows().map(|row| row.field).collect();
+        fields.sort_unstable();
+        assert_eq!(fields, FIELDS, "{:?}", table.sizes);
+        let full = |row: &Row| !row.taken.is_empty() && !row.refused.is_empty();
+        assert!(table.rows().all(full), "{:?}", table.sizes);
+    }
+    let fillings = [Filling::Least, Filling::Greatest];
+    assert!(TABLES
+        .chunks(2)
+        .all(|pair| [pair[0].filling, pair[1].filling] == fillings));
+}
+
+/// What an area holds before a run.
+fn junk(length: usize) -> Vec<u8> {
+    (0..length)
+        .map(|place| (place % 251) as u8 | 0x80)
+        .collect()
+}
+
+#[test]
+fn a_history_fits_into_the_stated_areas() {
+    let (mut fitted, mut short) = (0, 0);
+    for case in areas() {
+        let name = case.name;
+        for &length in case.fits {
+            let mut area = junk(length);
+            let mut expected = area.clone();
+            expected[..case.history.len()].copy_from_slice(&case.history);
+            let got = run(&case.sheet, &mut area);
+            assert_eq!(got, Ok(case.history.len()), "{name}, area of {length}");
+            assert!(area == expected, "{name}, area of {length}: other bytes");
+            fitted += 1;
+        }
+        for &length in case.too_short {
+            let mut area = junk(length);
+            let expected = SheetRefusal {
+                number: 43,
+                line: 0,
+            };
+            let got = run(&case.sheet, &mut area);
+            assert_eq!(got, Err(expected), "{name}, area of {length}");
+            assert!(area == junk(length), "{name}, area of {length}: touched");
+            short += 1;
+        }
+    }
+    println!("{fitted} areas with room, {short} without");
+    assert_eq!((fitted, short), (35, 41));
+}
+
+#[test]
+fn sheets_are_refused_as_stated() {
+    let mut numbers: Vec<u32> = Vec::new();
+    for (sheet, number, line) in refused() {
+        for length in [0, 1, 65_536, 65_537] {
+            let mut area = junk(length);
+            let expected = SheetRefusal { number, line };
+            let words = String::from_utf8_lossy(&sheet);
+            let got = run(&sheet, &mut area);
+            assert_eq!(got, Err(expected), "area of {length}: {words}");
+            assert!(area == junk(length), "area of {length}: touched: {words}");
+        }
+        numbers.push(number);
+    }
+    numbers.sort_unstable();
+    numbers.dedup();
+    assert_eq!(numbers, [11, 12, 13, 41, 42]);
+}
