@@ -1,22 +1,16 @@
-// Runs the sheet on standard input, its first 64 KiB, and prints its history, or a refusal's number and line.
+// Runs the sheet on standard input, its first 64 KiB, and prints its history, or a refusal's number
+// and line. What is printed is print_run's to say; this function only reads and writes.
+mod decimals;
+mod printing;
+
+use crate::printing::print_run;
 use libc::STDIN_FILENO;
 use libc::STDOUT_FILENO;
-use sheet::Ran;
-use sheets::run_sheet;
 
 fn main() {
     let mut sheet = io::large_buffer();
     let n = io::read_full(STDIN_FILENO, &mut sheet);
-    let mut history = io::large_buffer();
-    match run_sheet(&sheet[..n], &mut history) {
-        Ran::Refused(number, line) => {
-            io::print_decimal(STDOUT_FILENO, number as u64);
-            io::write_all(STDOUT_FILENO, b" ");
-            io::print_decimal(STDOUT_FILENO, line as u64);
-            io::write_all(STDOUT_FILENO, b"\n");
-        }
-        Ran::Length(k) => {
-            io::write_all(STDOUT_FILENO, &history[..k]);
-        }
-    }
+    let mut area = io::large_buffer();
+    let k = print_run(&sheet[..n], &mut area);
+    io::write_all(STDOUT_FILENO, &area[..k]);
 }

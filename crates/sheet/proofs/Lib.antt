@@ -6,3 +6,4 @@ pub mod Parts
 pub mod Readings
 pub mod Written
 pub mod ReadBack
+pub mod Reports

@@ -1,7 +1,7 @@
 -- Laws of a line's form, in the order in which a reader finds it, and of the first line that fails a test. Assumes nothing.
 use mathlib.Core.Path.{_≡_, refl, sym, ap, _∙_}
 use mathlib.Core.Bool.{Bool, true, false, cond, _&&_}
-use mathlib.Core.List.{List}
+use mathlib.Core.List.{List, [], _∷_}
 use Prim.Native.Nat.{ℕ, zero, suc, _+_, _≤_, _<_}
 use native.Mathlib.Decide.{ℕ-discrete}
 use native.Mathlib.Numerals.{add-one}
@@ -13,10 +13,12 @@ use Rattle.sheet.specs.declared.lines.Line.{Line}
 use Rattle.sheet.specs.declared.lines.Reading.{Reading}
 use Rattle.sheet.specs.declared.lines.Reading.the-variants as reading
 use Rattle.sheet.specs.declared.lines.Scan.{Scan}
-use Rattle.sheet.specs.Columns.{field}
+use Rattle.sheet.specs.declared.lines.Scan.the-variants as scan
+use Rattle.sheet.specs.Columns.{field, inForm, valueOf}
 use Rattle.sheet.specs.Letters.{letterRules}
 use Rattle.sheet.specs.Lines.{noRule, ruleIndex, keepsForm, fieldsKeep, lineInForm, lineOf, readLine, firstFailing, lineCount, rightLetter, firstMisplaced, partAt, firstOutOfForm}
-use Rattle.sheet.specs.Scans.{scansKeep, scannedLine, reportedReading}
+use Rattle.sheet.specs.Scans.{scansKeep, scannedLine}
+use Rattle.sheet.specs.Scans.{formReport, lineNumbers, reportedScan, reportedReading}
 
 -- what the tests of a line say of its reading
 reads-bad : (s : List ℕ) (i : ℕ) → i ≡ ruleIndex letterRules (getD s 0 0) → keepsForm s i ≡ false → reading.Bad ≡ readLine s
@@ -97,9 +99,25 @@ module _ (s : List ℕ) (i : ℕ) (at-letter : i ≡ ruleIndex letterRules (getD
         (all-hold (leb 30 (length s)) (leb (suc i) 4) (fieldsKeep (getD letterRules i noRule) s) (eqb (getD s 29 0) 10)
         (le-leb 30 (length s) long) (le-leb (suc i) 4 (omega arith)) (sym keep-same ∙ keep) (eq-eqb (getD s 29 0) 10 feed))
 
--- a reading that is the definition's is so in document 01's numbers too
-pub said : {r d : Reading} → r ≡ d → (r ≡ d) × (reportedReading r ≡ reportedReading d)
-said e = (e, ap reportedReading e)
+-- in document 01's numbers: a field, and a line
+pub scan-reported : (f : Scan) → reportedScan f ≡ formReport (inForm f) (valueOf f ∷ [])
+scan-reported scan.Blank = refl
+scan-reported scan.Zero = refl
+scan-reported (scan.Number n) = refl
+scan-reported scan.Bad = refl
+
+reading-reported :
+    (t : Bool) (l : Line) →
+    reportedReading (cond t (reading.Form l) reading.Bad)
+    ≡ formReport t (l .letter ∷ (l .first ∷ (l .second ∷ (l .third ∷ (l .fourth ∷ [])))))
+reading-reported true l = refl
+reading-reported false l = refl
+
+-- a reading that is the definition's, and in numbers
+pub said :
+    (s : List ℕ) {r : Reading} → r ≡ readLine s →
+    (r ≡ readLine s) × (reportedReading r ≡ formReport (lineInForm s) (lineNumbers s))
+said s e = (e, ap reportedReading e ∙ reading-reported (lineInForm s) (lineOf s))
 
 -- the answer of a reading
 answer-bad : (t : Bool) (l : Line) → reading.Bad ≡ cond t (reading.Form l) reading.Bad → false ≡ t

@@ -1,11 +1,11 @@
 -- Laws of runs of stores, `sets` of lib.Seq. Assumes nothing.
 use mathlib.Core.Path.{_≡_, refl, sym, ap, _∙_}
-use mathlib.Core.List.{List, [], _∷_, _++_}
+use mathlib.Core.List.{List, [], _∷_, _++_, append-nil}
 use Prim.Native.Nat.{ℕ, suc, _+_, _≤_}
-use native.Mathlib.Nat.{add-zero, add-suc, suc-add}
+use native.Mathlib.Nat.{add-zero, zero-add, add-suc, suc-add}
 use native.Mathlib.Omega.{arith}
 use lib.ListN.{length, drop, set, length-append, length-drop}
-use lib.Seq.{sets, sets-eq, set-comm, drop-append-add, drop-drop, take-append-seam}
+use lib.Seq.{sets, sets-eq, set-comm, drop-length, drop-append-add, drop-drop, take-append-seam}
 
 -- one store, and then a run of stores at other places
 pub set-sets : (l : List ℕ) (i j v : ℕ) (vs : List ℕ) → i + length vs ≤ j → sets (set l j v) i vs ≡ set (sets l i vs) j v
@@ -26,6 +26,14 @@ sets-last l i n v vs e =
     set-sets l i (i + n) v vs (omega arith)
     ∙ ap (λ (k : ℕ). set (sets l i vs) (i + k) v) (sym e)
     ∙ sym (sets-append l i vs (v ∷ []))
+
+-- stores over the whole of a list
+pub sets-whole : (l vs : List ℕ) → length vs ≡ length l → sets l 0 vs ≡ vs
+sets-whole l vs e =
+    sets-eq vs l 0 (omega arith)
+    ∙ ap (λ (k : ℕ). vs ++ drop k l) (zero-add (length vs) ∙ e)
+    ∙ ap (λ (x : List ℕ). vs ++ x) (drop-length l)
+    ∙ append-nil vs
 
 -- a run of stores behind what a writer has written so far: h is what is written, area what was lent
 pub sets-behind :

@@ -13,8 +13,12 @@ use Rattle.sheet.specs.Sheets.{ranSheet, historyOf}
 abbrev pub lent : ℕ
 lent = 65536
 
+-- a refusal's line of text
+abbrev pub refusalText : ℕ → ℕ → List ℕ
+refusalText n k = decimal n ++ (space ∷ (decimal k ++ (lineFeed ∷ [])))
+
 abbrev pub printedOf : List ℕ → Ran → List ℕ
-printedOf h (ran.Refused n k) = decimal n ++ (space ∷ (decimal k ++ (lineFeed ∷ [])))
+printedOf h (ran.Refused n k) = refusalText n k
 printedOf h (ran.Length n) = h
 
 abbrev pub printed : List ℕ → List ℕ

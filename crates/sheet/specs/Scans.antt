@@ -16,6 +16,7 @@ use Rattle.sheet.specs.declared.lines.Scan.the-variants as scan
 use Rattle.sheet.specs.Columns.{inForm, valueOf, lastDigit}
 use Rattle.sheet.specs.Events.{eventLength, eventBytes}
 use Rattle.sheet.specs.Letters.{space, letterQ}
+use Rattle.sheet.specs.Lines.{fieldAt}
 
 -- n lies between the bounds of field k
 abbrev pub inBounds : Rule → ℕ → ℕ → Bool
@@ -33,6 +34,14 @@ scansKeep r a b c d = scanKeeps r 0 a && scanKeeps r 1 b && scanKeeps r 2 c && s
 abbrev pub scannedLine : ℕ → Scan → Scan → Scan → Scan → Line
 scannedLine letter a b c d =
     record { letter = letter; first = valueOf a; second = valueOf b; third = valueOf c; fourth = valueOf d }
+
+-- what a reader of columns reports: 0 with the numbers read or, out of form, 41 (01, refusals)
+abbrev pub formReport : Bool → List ℕ → Report
+formReport form values = cond form (report 0 values) (report 41 [])
+
+-- the letter and the four numbers of the line that s starts with
+abbrev pub lineNumbers : List ℕ → List ℕ
+lineNumbers s = getD s 0 0 ∷ (fieldAt s 0 ∷ (fieldAt s 1 ∷ (fieldAt s 2 ∷ (fieldAt s 3 ∷ []))))
 
 -- each field in document 01's numbers: 0 with its number, or refusal 41
 abbrev pub reportedScan : Scan → Report

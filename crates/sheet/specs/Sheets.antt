@@ -1,10 +1,11 @@
 -- The run of a sheet: refusals 41, 42, 11 to 13 and 43 in their order, the history, its length, and the area that is lent for it.
 use Prim.Native.Nat.{ℕ, zero, suc, _+_, _-_}
 use mathlib.Core.Bool.{cond}
-use mathlib.Core.List.{List, [], _++_}
+use mathlib.Core.List.{List, [], _∷_, _++_}
 use lib.Dec.{ltb, eqb}
-use lib.ListN.{length, drop}
+use lib.ListN.{length, drop, getD}
 use Rattle.record.specs.declared.queues.Queue.{Queue}
+use Rattle.record.specs.Report.{Report, report}
 use Rattle.checks.specs.Making.{made}
 use Rattle.rules.specs.Calls.{beginInsert, beginDelete}
 use Rattle.sheet.specs.declared.events.Ran.{Ran}
@@ -34,20 +35,41 @@ history s q = historyBytes (runLines s (running q []) (lineCount s - 1) .events)
 abbrev pub fitted : List ℕ → ℕ → Ran
 fitted h room = cond (ltb room (length h)) (ran.Refused 43 0) (ran.Length (length h))
 
+-- the same in numbers
+abbrev pub fittedOutcome : List ℕ → ℕ → Report
+fittedOutcome h room = cond (ltb room (length h)) (report 43 (0 ∷ [])) (report 0 (length h ∷ []))
+
 -- the Q line makes the queue, or is refused
-abbrev pub runMade : List ℕ → ℕ → ℕ → Queue → Ran
-runMade s room refusal q = cond (eqb refusal 0) (fitted (history s q) room) (ran.Refused refusal 1)
+abbrev pub madeOutcome : List ℕ → ℕ → ℕ → Queue → Report
+madeOutcome s room refusal q =
+    cond (eqb refusal 0) (fittedOutcome (history s q) room) (report refusal (1 ∷ []))
 
-abbrev pub runQueue : List ℕ → ℕ → Line → Ran
-runQueue s room l =
-    runMade s room (made (l .first) (l .second) (l .third) .refusal) (made (l .first) (l .second) (l .third) .queue)
+abbrev pub queueOutcome : List ℕ → ℕ → Line → Report
+queueOutcome s room l =
+    madeOutcome s room (made (l .first) (l .second) (l .third) .refusal)
+    (made (l .first) (l .second) (l .third) .queue)
 
--- the outcome of a sheet, with room for so many bytes of history
+-- the outcome of a sheet, with room for so many bytes of history, in numbers: a refusal and its
+-- line, or 0 and the length of the history (01, refusals; sheet and history)
+abbrev pub outcome : List ℕ → ℕ → Report
+outcome s room =
+    cond (ltb 0 (firstOutOfForm s)) (report 41 (firstOutOfForm s ∷ []))
+    (cond (ltb 0 (firstMisplaced s)) (report 42 (firstMisplaced s ∷ []))
+    (queueOutcome s room (lineOf (partAt s 1))))
+
+-- an outcome in numbers, as the enum that the code answers with
+abbrev pub ranOf : Report → Ran
+ranOf o =
+    cond (eqb (o .number) 0) (ran.Length (getD (o .values) 0 0))
+    (ran.Refused (o .number) (getD (o .values) 0 0))
+
 abbrev pub ranSheet : List ℕ → ℕ → Ran
-ranSheet s room =
-    cond (ltb 0 (firstOutOfForm s)) (ran.Refused 41 (firstOutOfForm s))
-    (cond (ltb 0 (firstMisplaced s)) (ran.Refused 42 (firstMisplaced s))
-    (runQueue s room (lineOf (partAt s 1))))
+ranSheet s room = ranOf (outcome s room)
+
+-- each case of that enum in numbers
+abbrev pub reportedRun : Ran → Report
+reportedRun (ran.Refused n line) = report n (line ∷ [])
+reportedRun (ran.Length n) = report 0 (n ∷ [])
 
 -- "A refusal returns its number and leaves everything lent untouched." "The rest of the area is untouched."
 abbrev pub written : List ℕ → List ℕ → Ran → List ℕ

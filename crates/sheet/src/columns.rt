@@ -1,10 +1,11 @@
 // Numbers in seven columns: read, and written.
 ghost use mathlib.Core.Path.{_≡_};
+ghost use mathlib.Core.List.{[], _∷_};
 ghost use Prim.Native.Nat.{_+_, _≤_};
 ghost use lib.ListN.{length, getD};
 ghost use lib.Seq.{sets};
 ghost use Rattle.sheet.specs.Columns.{isDigit, nextColumn, field as fieldOf, inForm, valueOf as valueIn, lastDigit, columns};
-ghost use Rattle.sheet.specs.Scans.{paddedDigit, reportedScan};
+ghost use Rattle.sheet.specs.Scans.{paddedDigit, formReport, reportedScan};
 use crate::letters::DIGIT_ZERO;
 use crate::letters::SPACE;
 use crate::letters::WIDTH;
@@ -70,7 +71,10 @@ pub fn byte_at(part: &[u8], k: usize) -> u8
 // The seven columns that a part starts with.
 pub fn field(part: &[u8]) -> Scan
     ensures { λ r. ⌜ r ≡ fieldOf (now (part .entry)) ⌝ }
-    ensures numbers { λ r. ⌜ reportedScan r ≡ reportedScan (fieldOf (now (part .entry))) ⌝ }
+    ensures numbers { λ r.
+        ⌜ reportedScan r
+        ≡ formReport (inForm (fieldOf (now (part .entry))))
+        (valueIn (fieldOf (now (part .entry))) ∷ []) ⌝ }
 {
     let mut f = Scan::Blank;
     let mut k: usize = 0;
@@ -130,4 +134,13 @@ pub(crate) fn columns_into(area: &mut [u8], at: usize, n: u32)
         area[at + k] = padded_digit(rest);
         rest = rest / 10;
     }
+}
+
+// The seven columns of n.
+pub fn columns_of(n: u32) -> [u8; 7]
+    ensures { λ r. ⌜ r ≡ columns n ⌝ }
+{
+    let mut bytes = [SPACE; 7];
+    columns_into(&mut bytes, 0, n);
+    bytes
 }

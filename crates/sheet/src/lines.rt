@@ -4,8 +4,9 @@ ghost use Prim.Native.Nat.{_+_, _*_, _<_};
 ghost use lib.ListN.{getD, drop};
 ghost use Rattle.sheet.specs.Columns.{field as fieldOf};
 ghost use Rattle.sheet.specs.Letters.{letterRules};
-ghost use Rattle.sheet.specs.Lines.{noRule, ruleIndex, lineOf, readLine};
-ghost use Rattle.sheet.specs.Scans.{reportedReading, inBounds, scanKeeps, scansKeep, scannedLine};
+ghost use Rattle.sheet.specs.Lines.{noRule, ruleIndex, lineInForm, lineOf, readLine};
+ghost use Rattle.sheet.specs.Scans.{formReport, lineNumbers, reportedReading};
+ghost use Rattle.sheet.specs.Scans.{inBounds, scanKeeps, scansKeep, scannedLine};
 use crate::columns::byte_at;
 use crate::columns::field;
 use crate::columns::in_form;
@@ -167,7 +168,9 @@ pub fn line_at(part: &[u8]) -> Line
 // The line that a part starts with, if it is in form.
 pub fn read_line(part: &[u8]) -> Reading
     ensures { λ r. ⌜ r ≡ readLine (now (part .entry)) ⌝ }
-    ensures numbers { λ r. ⌜ reportedReading r ≡ reportedReading (readLine (now (part .entry))) ⌝ }
+    ensures numbers { λ r.
+        ⌜ reportedReading r
+        ≡ formReport (lineInForm (now (part .entry))) (lineNumbers (now (part .entry))) ⌝ }
 {
     if part.len() < LINE {
         return Reading::Bad;

@@ -1,7 +1,7 @@
 // The run of a sheet for hosts in C and Rust. It is exported, takes any bytes, and has no `requires`. include/darthog_sheet.h declares it for C.
 ghost use mathlib.Core.Path.{_≡_};
 ghost use lib.ListN.{length};
-ghost use Rattle.sheet.specs.Sheets.{ranSheet, areaAfter};
+ghost use Rattle.sheet.specs.Sheets.{outcome, reportedRun, areaAfter};
 ghost use Rattle.sheetentry.specs.Replies.{replyTo};
 use sheet::Ran;
 use sheets::run_sheet;
@@ -14,7 +14,7 @@ pub struct SheetReply {
 }
 
 fn sheet_reply(r: Ran) -> SheetReply
-    ensures { λ s. ⌜ s ≡ replyTo r ⌝ }
+    ensures { λ s. ⌜ s ≡ replyTo (reportedRun r) ⌝ }
 {
     match r {
         Ran::Refused(number, line) => SheetReply {
@@ -31,7 +31,7 @@ fn sheet_reply(r: Ran) -> SheetReply
 // Runs a sheet and writes its history to the front of the area; a refused sheet leaves the area as it was.
 #[no_mangle]
 pub extern "C" fn darthog_run_sheet(sheet: &[u8], history: &mut [u8]) -> SheetReply
-    ensures { λ r. ⌜ r ≡ replyTo (ranSheet (now (sheet .entry)) (length (now (history .entry)))) ⌝ }
+    ensures { λ r. ⌜ r ≡ replyTo (outcome (now (sheet .entry)) (length (now (history .entry)))) ⌝ }
     ensures { λ _. ⌜ now (history .exit) ≡ areaAfter (now (sheet .entry)) (now (history .entry)) ⌝ }
 {
     let r = run_sheet(sheet, history);

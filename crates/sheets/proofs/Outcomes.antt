@@ -1,7 +1,7 @@
 -- The outcome of a sheet, one refusal after the other. Assumes nothing.
 use mathlib.Core.Path.{_≡_, refl, sym, ap, _∙_}
 use mathlib.Core.Bool.{Bool, true, false, cond}
-use mathlib.Core.List.{List, _++_, append-assoc}
+use mathlib.Core.List.{List, [], _∷_, _++_, append-assoc}
 use Prim.Native.Nat.{ℕ, _+_, _≤_, _<_}
 use native.Mathlib.Omega.{arith}
 use lib.Dec.{ltb, eqb}
@@ -11,42 +11,77 @@ use borrow.Author.Tests.{lt-ltb, le-ltb, ltb-false, eq-eqb, ne-eqb}
 use Rattle.checks.specs.declared.making.Made.{Made}
 use Rattle.checks.specs.Making.{made}
 use Rattle.record.specs.declared.queues.Queue.{Queue}
+use Rattle.record.specs.Report.{Report, report}
 use Rattle.sheet.specs.declared.events.Ran.{Ran}
 use Rattle.sheet.specs.declared.events.Ran.the-variants as ran
 use Rattle.sheet.specs.declared.lines.Line.{Line}
 use Rattle.sheet.specs.Lines.{lineOf, partAt, firstOutOfForm, firstMisplaced}
-use Rattle.sheet.specs.Sheets.{history, historyOf, fitted, runQueue, ranSheet, written, areaAfter}
+use Rattle.sheet.specs.Sheets.{history, historyOf, fitted, ranSheet, written, areaAfter}
+use Rattle.sheet.specs.Sheets.{fittedOutcome, queueOutcome, outcome, ranOf, reportedRun}
+use Rattle.sheet.proofs.Reports.{fitted-ran, refused-ran, outcome-told}
 use Rattle.runner.specs.Area.{atFront}
 
 pub refused-untouched : (s area : List ℕ) (n k : ℕ) → ran.Refused n k ≡ ranSheet s (length area) → area ≡ areaAfter s area
 refused-untouched s area n k e = ap (λ (r : Ran). written (historyOf s (lineOf (partAt s 1))) area r) e
 
+-- in numbers
+pub told : (s : List ℕ) (room : ℕ) {r : Ran} → r ≡ ranSheet s room → reportedRun r ≡ outcome s room
+told s room e = ap reportedRun e ∙ outcome-told s room
+
 module _ (s : List ℕ) (room : ℕ) where
+  -- what is left behind 41
+  abbrev placed : Report
+  placed =
+      cond (ltb 0 (firstMisplaced s)) (report 42 (firstMisplaced s ∷ []))
+      (queueOutcome s room (lineOf (partAt s 1)))
+
+  by-form : (t : Bool) → ltb 0 (firstOutOfForm s) ≡ t
+      → outcome s room ≡ cond t (report 41 (firstOutOfForm s ∷ [])) placed
+  by-form t h = ap (λ (b : Bool). cond b (report 41 (firstOutOfForm s ∷ [])) placed) h
+
+  by-place : (t : Bool) → ltb 0 (firstMisplaced s) ≡ t
+      → placed
+      ≡ cond t (report 42 (firstMisplaced s ∷ [])) (queueOutcome s room (lineOf (partAt s 1)))
+  by-place t h =
+      let q = queueOutcome s room (lineOf (partAt s 1)) in
+      ap (λ (b : Bool). cond b (report 42 (firstMisplaced s ∷ [])) q) h
+
   pub out-of-form : (k : ℕ) → k ≡ firstOutOfForm s → 0 < k → ran.Refused 41 k ≡ ranSheet s room
-  out-of-form k e h = rw e (sym (ap (λ (b : Bool). cond b (ran.Refused 41 (firstOutOfForm s)) (cond (ltb 0 (firstMisplaced s)) (ran.Refused 42 (firstMisplaced s)) (runQueue s room (lineOf (partAt s 1))))) (lt-ltb 0 (firstOutOfForm s) (rw (sym e) h))))
+  out-of-form k e h =
+      rw e (ap ranOf (sym (by-form true (lt-ltb 0 (firstOutOfForm s) (rw (sym e) h)))))
 
   module _ (form : firstOutOfForm s ≤ 0) where
-    passed-form : ranSheet s room ≡ cond (ltb 0 (firstMisplaced s)) (ran.Refused 42 (firstMisplaced s)) (runQueue s room (lineOf (partAt s 1)))
-    passed-form = ap (λ (b : Bool). cond b (ran.Refused 41 (firstOutOfForm s)) (cond (ltb 0 (firstMisplaced s)) (ran.Refused 42 (firstMisplaced s)) (runQueue s room (lineOf (partAt s 1))))) (le-ltb 0 (firstOutOfForm s) form)
+    passed-form : outcome s room ≡ placed
+    passed-form = by-form false (le-ltb 0 (firstOutOfForm s) form)
 
     pub misplaced : (k : ℕ) → k ≡ firstMisplaced s → 0 < k → ran.Refused 42 k ≡ ranSheet s room
     misplaced k e h =
         rw e
-        (sym (passed-form ∙ ap (λ (b : Bool). cond b (ran.Refused 42 (firstMisplaced s)) (runQueue s room (lineOf (partAt s 1)))) (lt-ltb 0 (firstMisplaced s) (rw (sym e) h))))
+        (ap ranOf (sym (passed-form ∙ by-place true (lt-ltb 0 (firstMisplaced s) (rw (sym e) h)))))
 
-    module _ (place : firstMisplaced s ≤ 0) (m : Made) (e : m ≡ made (lineOf s .first) (lineOf s .second) (lineOf s .third)) where
-      passed-place : ranSheet s room ≡ cond (eqb (m .refusal) 0) (fitted (history s (m .queue)) room) (ran.Refused (m .refusal) 1)
-      passed-place =
-          passed-form
-          ∙ ap (λ (b : Bool). cond b (ran.Refused 42 (firstMisplaced s)) (runQueue s room (lineOf (partAt s 1)))) (le-ltb 0 (firstMisplaced s) place)
-          ∙ ap (λ (n : Made). cond (eqb (n .refusal) 0) (fitted (history s (n .queue)) room) (ran.Refused (n .refusal) 1)) (sym e)
+    module _
+        (place : firstMisplaced s ≤ 0) (m : Made)
+        (e : m ≡ made (lineOf s .first) (lineOf s .second) (lineOf s .third)) where
+      -- what is left behind 42
+      abbrev making : Bool → Made → Report
+      making t n = cond t (fittedOutcome (history s (n .queue)) room) (report (n .refusal) (1 ∷ []))
+
+      by-refusal : (t : Bool) → eqb (m .refusal) 0 ≡ t → ranSheet s room ≡ ranOf (making t m)
+      by-refusal t h =
+          ap ranOf
+          (passed-form
+          ∙ by-place false (le-ltb 0 (firstMisplaced s) place)
+          ∙ ap (λ (n : Made). making (eqb (n .refusal) 0) n) (sym e)
+          ∙ ap (λ (b : Bool). making b m) h)
 
       pub not-made : 0 < m .refusal → ran.Refused (m .refusal) 1 ≡ ranSheet s room
       not-made h =
-          sym (passed-place ∙ ap (λ (b : Bool). cond b (fitted (history s (m .queue)) room) (ran.Refused (m .refusal) 1)) (ne-eqb (m .refusal) 0 (λ z. omega arith)))
+          let n = ne-eqb (m .refusal) 0 (λ z. omega arith) in
+          refused-ran (m .refusal) 1 n ∙ sym (by-refusal false n)
 
       pub runs : m .refusal ≡ 0 → fitted (history s (m .queue)) room ≡ ranSheet s room
-      runs h = sym (passed-place ∙ ap (λ (b : Bool). cond b (fitted (history s (m .queue)) room) (ran.Refused (m .refusal) 1)) (eq-eqb (m .refusal) 0 h))
+      runs h =
+          fitted-ran (history s (m .queue)) room ∙ sym (by-refusal true (eq-eqb (m .refusal) 0 h))
 
 -- a history that fits
 abbrev is-refused : Ran → Bool

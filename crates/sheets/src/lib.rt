@@ -3,7 +3,7 @@ mod runs;
 
 ghost use mathlib.Core.Path.{_≡_};
 ghost use lib.ListN.{length};
-ghost use Rattle.sheet.specs.Sheets.{ranSheet, areaAfter};
+ghost use Rattle.sheet.specs.Sheets.{outcome, ranSheet, reportedRun, areaAfter};
 ghost use Rattle.sheets.specs.Agreement.{SheetAgrees};
 use crate::runs::run_once;
 use crate::runs::run_twice;
@@ -22,6 +22,8 @@ const ONE_RUN: usize = 65536;
 // was.
 pub fn run_sheet(sheet: &[u8], history: &mut [u8]) -> Ran
     ensures { λ r. ⌜ r ≡ ranSheet (now (sheet .entry)) (length (now (history .entry))) ⌝ }
+    ensures numbers { λ r.
+        ⌜ reportedRun r ≡ outcome (now (sheet .entry)) (length (now (history .entry))) ⌝ }
     ensures { λ _. ⌜ now (history .exit) ≡ areaAfter (now (sheet .entry)) (now (history .entry)) ⌝ }
     ensures { λ _. ⌜ SheetAgrees (now (sheet .entry)) ⌝ }
 {

@@ -1,8 +1,9 @@
-use mathlib.Core.Path.{_≡_, sym, _∙_}
+use mathlib.Core.Path.{sym}
 use Prim.Native.Nat.{_≤_}
-use native.Mathlib.Omega.{arith}
-use lib.ListN.{length, take, length-take}
-use Rattle.darthog.proofs.Lengths.{run-within}
+use lib.ListN.{length, take, drop}
+use lib.Seq.{length-take-le}
+use Rattle.sheet.specs.Program.{programPrints}
+use Rattle.darthog.proofs.Printed.{printed-within}
 use borrow.Author.Needs.{needs}
 use Rattle.darthog.proofs.main.Statement.{statement}
 use Rattle.darthog.proofs.main.Tie as tie
@@ -22,71 +23,34 @@ large-buffer-requires-2 c κs = search needs
 array-share-prefix-sheet : tie.Need-array-share-prefix-sheet
 array-share-prefix-sheet c = search needs
 
-slice-aggregate-run-sheet : tie.Need-slice-aggregate-run-sheet
-slice-aggregate-run-sheet c = search needs
+slice-aggregate-print-run : tie.Need-slice-aggregate-print-run
+slice-aggregate-print-run c = search needs
 
-slice-aggregate-run-sheet-2 : tie.Need-slice-aggregate-run-sheet-2
-slice-aggregate-run-sheet-2 c = search needs
+print-run-requires : tie.Need-print-run-requires
+print-run-requires c κs = search needs
 
-run-sheet-requires : tie.Need-run-sheet-requires
-run-sheet-requires c κs = search needs
+-- what is printed lies within the area
+within : (c : tie.After-print-run) → c .print-run .result ≤ length (c .print-run .last .1 .0)
+within c =
+    let i = c .before .before .before .before .before .read-full in
+    let a = c .before .before .before .large-buffer2 .result in
+    let p = c .print-run in
+    let text = programPrints (take (i .result) (i .last .1 .0)) in
+    printed-within text (drop (length text) a) (p .last .1 .0) (p .ensures .0) (p .ensures .1)
 
-enum-known-number : tie.Need-enum-known-number
-enum-known-number c = search needs
-
-cast-print-decimal : tie.Need-cast-print-decimal
-cast-print-decimal c = search needs
-
-print-decimal-requires : tie.Need-print-decimal-requires
-print-decimal-requires c κs = search needs
+array-share-prefix-area : tie.Need-array-share-prefix-area
+array-share-prefix-area c = within c
 
 slice-aggregate-write-all : tie.Need-slice-aggregate-write-all
-slice-aggregate-write-all c = search needs
+slice-aggregate-write-all c =
+    let p = c .before .print-run in
+    sym (length-take-le (p .result) (p .last .1 .0) (within (c .before)))
 
 write-all-requires : tie.Need-write-all-requires
 write-all-requires c κs = search needs
 
-print-decimal-requires-2 : tie.Need-print-decimal-requires-2
-print-decimal-requires-2 c κs = search needs
-
-slice-aggregate-write-all-2 : tie.Need-slice-aggregate-write-all-2
-slice-aggregate-write-all-2 c = search needs
-
-write-all-requires-2 : tie.Need-write-all-requires-2
-write-all-requires-2 c κs = search needs
-
-enum-known-k : tie.Need-enum-known-k
-enum-known-k c = search needs
-
--- the history's length lies within its area
-fits : (c : tie.After-k) → c .k .given .0 .0 ≤ length (c .before .before .before .run-sheet .last .1 .0)
-fits c =
-    let r = c .before .before .before .run-sheet in
-    let n = c .before .before .before .before .before .before .before .before .read-full .result in
-    let l = c .before .before .before .before .before .before .before .before .read-full .last .1 .0 in
-    let a = c .before .before .before .before .before .before .large-buffer2 .result in
-    let h = run-within (c .k .given .0 .0) (r .result) (take n l) (length a) (c .k .given .1) (r .ensures .0) in
-    omega (arith, h)
-
-array-share-prefix-history : tie.Need-array-share-prefix-history
-array-share-prefix-history c = fits (c .before)
-
-slice-aggregate-write-all-3 : tie.Need-slice-aggregate-write-all-3
-slice-aggregate-write-all-3 c =
-    let k = c .before .before .k .given .0 .0 in
-    let l = c .before .before .before .before .before .run-sheet .last .1 .0 in
-    let n = length-take k l in
-    let h = fits (c .before .before) in
-    omega (arith, n, h)
-
-write-all-requires-3 : tie.Need-write-all-requires-3
-write-all-requires-3 c κs = search needs
-
 returns : tie.Need-returns
 returns c = search needs
-
-returns-2 : tie.Need-returns-2
-returns-2 c = search needs
 
 pub main-spec : {M : Type 1} → statement M
 main-spec =
@@ -97,20 +61,9 @@ main-spec =
     read-full-requires
     large-buffer-requires-2
     array-share-prefix-sheet
-    slice-aggregate-run-sheet
-    slice-aggregate-run-sheet-2
-    run-sheet-requires
-    enum-known-number
-    cast-print-decimal
-    print-decimal-requires
+    slice-aggregate-print-run
+    print-run-requires
+    array-share-prefix-area
     slice-aggregate-write-all
     write-all-requires
-    print-decimal-requires-2
-    slice-aggregate-write-all-2
-    write-all-requires-2
-    enum-known-k
-    array-share-prefix-history
-    slice-aggregate-write-all-3
-    write-all-requires-3
-    returns
-    returns-2)
+    returns)

@@ -16,7 +16,7 @@ same-length c = search needs
 returns : tie.Need-returns
 returns c =
     let e = c .before .before .before .run-sheet .ensures in
-    (c .sheet-reply .ensures ∙ ap replyTo (e .0), e .1 .0)
+    (c .sheet-reply .ensures ∙ ap replyTo (e .1 .0), e .1 .1 .0)
 
 pub darthog-run-sheet-spec : {M : Type 1} → statement M
 darthog-run-sheet-spec = tie.close (tie.spec run-sheet-requires sheet-reply-requires same-length returns)

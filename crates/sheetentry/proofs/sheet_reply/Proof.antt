@@ -1,4 +1,6 @@
 use mathlib.Core.Path.{sym, ap}
+use Rattle.sheet.specs.declared.events.Ran.{Ran}
+use Rattle.sheet.specs.Sheets.{reportedRun}
 use Rattle.sheetentry.specs.Replies.{replyTo}
 use borrow.Author.Needs.{needs}
 use Rattle.sheetentry.proofs.sheet_reply.Statement.{statement}
@@ -14,10 +16,10 @@ enum-known-r-2 : tie.Need-enum-known-r-2
 enum-known-r-2 c = search needs
 
 returns : tie.Need-returns
-returns c = sym (ap replyTo (c .before .r .given .1))
+returns c = sym (ap (λ (r : Ran). replyTo (reportedRun r)) (c .before .r .given .1))
 
 returns-2 : tie.Need-returns-2
-returns-2 c = sym (ap replyTo (c .before .r2 .given .1))
+returns-2 c = sym (ap (λ (r : Ran). replyTo (reportedRun r)) (c .before .r2 .given .1))
 
 pub sheet-reply-spec : {M : Type 1} → statement M
 sheet-reply-spec = tie.close (tie.spec enum-known-r cast-t6 enum-known-r-2 returns returns-2)

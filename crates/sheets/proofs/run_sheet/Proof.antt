@@ -12,7 +12,8 @@ use Rattle.sheet.specs.declared.lines.Line.{Line}
 use Rattle.sheet.specs.Lines.{firstOutOfForm, firstMisplaced, lineOf}
 use Rattle.sheet.specs.Sheets.{history}
 use Rattle.sheets.proofs.Agreement.{sheet-agrees}
-use Rattle.sheets.proofs.Outcomes.{refused-untouched, out-of-form, misplaced, not-made, runs, sheet-written}
+use Rattle.sheets.proofs.Outcomes.{out-of-form, misplaced, not-made, runs}
+use Rattle.sheets.proofs.Outcomes.{refused-untouched, told, sheet-written}
 use borrow.Author.Needs.{needs}
 use Rattle.sheets.proofs.run_sheet.Statement.{statement}
 use Rattle.sheets.proofs.run_sheet.Tie as tie
@@ -39,7 +40,8 @@ returns : tie.Need-returns
 returns c =
     let a = c .before .before .before .before .args in
     let e = out-of-form (a .sheet .now) (length (a .history .now)) (c .before .first-out-of-form .result) (c .before .first-out-of-form .ensures) (c .if1 .taken) in
-    (e, (refused-untouched (a .sheet .now) (a .history .now) _ _ e, sheet-agrees (a .sheet .now)))
+    let k = refused-untouched (a .sheet .now) (a .history .now) _ _ e in
+    (e, (told (a .sheet .now) (length (a .history .now)) e, (k, sheet-agrees (a .sheet .now))))
 
 first-misplaced-requires : tie.Need-first-misplaced-requires
 first-misplaced-requires c κs = search needs
@@ -51,7 +53,8 @@ returns-2 c =
     let e =
     misplaced (a .sheet .now) (length (a .history .now)) (omega (arith, f, c .before .before .if1 .left)) (c .before .first-misplaced .result)
     (c .before .first-misplaced .ensures) (c .if2 .taken) in
-    (e, (refused-untouched (a .sheet .now) (a .history .now) _ _ e, sheet-agrees (a .sheet .now)))
+    let k = refused-untouched (a .sheet .now) (a .history .now) _ _ e in
+    (e, (told (a .sheet .now) (length (a .history .now)) e, (k, sheet-agrees (a .sheet .now))))
 
 line-at-requires : tie.Need-line-at-requires
 line-at-requires c κs = search needs
@@ -64,7 +67,8 @@ returns-3 c =
     let m = c .before .before in
     let a = m .before .before .before .before .before .before .before .before .args in
     let e = not-made (a .sheet .now) (length (a .history .now)) (form-passed m) (place-passed m) (m .make .result) (made-is m) (c .if3 .taken) in
-    (e, (refused-untouched (a .sheet .now) (a .history .now) _ _ e, sheet-agrees (a .sheet .now)))
+    let k = refused-untouched (a .sheet .now) (a .history .now) _ _ e in
+    (e, (told (a .sheet .now) (length (a .history .now)) e, (k, sheet-agrees (a .sheet .now))))
 
 run-once-requires : tie.Need-run-once-requires
 run-once-requires c κs = (queue-passes (c .before .before .before .before .before), c .before .if4 .taken)
@@ -80,7 +84,10 @@ returns-4 c =
     let f = runs (a .sheet .now) (length (a .history .now)) (form-passed m) (place-passed m) (m .make .result) (made-is m) z in
     let h = sym (ap (λ (x : Made). history (a .sheet .now) (x .queue)) (made-is m)) in
     let e = c .before .before .run-once .ensures in
-    (e .0 ∙ f, (sheet-written (a .sheet .now) (a .history .now) _ (m .make .result .queue) _ f h (e .0) (e .1), sheet-agrees (a .sheet .now)))
+    let r = e .0 ∙ f in
+    let q = m .make .result .queue in
+    let w = sheet-written (a .sheet .now) (a .history .now) _ q _ f h (e .0) (e .1) in
+    (r, (told (a .sheet .now) (length (a .history .now)) r, (w, sheet-agrees (a .sheet .now))))
 
 run-twice-requires : tie.Need-run-twice-requires
 run-twice-requires c κs = queue-passes (c .before .before .before .before .before)
@@ -96,7 +103,10 @@ returns-5 c =
     let f = runs (a .sheet .now) (length (a .history .now)) (form-passed m) (place-passed m) (m .make .result) (made-is m) z in
     let h = sym (ap (λ (x : Made). history (a .sheet .now) (x .queue)) (made-is m)) in
     let e = c .before .before .run-twice .ensures in
-    (e .0 ∙ f, (sheet-written (a .sheet .now) (a .history .now) _ (m .make .result .queue) _ f h (e .0) (e .1), sheet-agrees (a .sheet .now)))
+    let r = e .0 ∙ f in
+    let q = m .make .result .queue in
+    let w = sheet-written (a .sheet .now) (a .history .now) _ q _ f h (e .0) (e .1) in
+    (r, (told (a .sheet .now) (length (a .history .now)) r, (w, sheet-agrees (a .sheet .now))))
 
 pub run-sheet-spec : {M : Type 1} → statement M
 run-sheet-spec =

@@ -8,7 +8,7 @@ use Rattle.sheet.proofs.lines.read_line.Statement.{statement}
 use Rattle.sheet.proofs.lines.read_line.Tie as tie
 
 returns : tie.Need-returns
-returns c = said (read-short (now (c .before .before .args .part)) (c .if1 .taken))
+returns c = let s = now (c .before .before .args .part) in said s (read-short s (c .if1 .taken))
 
 shared-slice-read-letter : tie.Need-shared-slice-read-letter
 shared-slice-read-letter c = search needs
@@ -18,8 +18,9 @@ rule-index-requires c κs = search needs
 
 returns-2 : tie.Need-returns-2
 returns-2 c =
+    let s = now (c .before .before .before .before .before .args .part) in
     let i = c .before .rule-index in
-    said (read-letter (now (c .before .before .before .before .before .args .part)) (i .result) (i .ensures) (c .if2 .taken))
+    said s (read-letter s (i .result) (i .ensures) (c .if2 .taken))
 
 field-at-requires : tie.Need-field-at-requires
 field-at-requires c κs = search needs
@@ -44,7 +45,7 @@ returns-3 c =
     let q = c .before .before .before .before .field-at2 in
     let u = c .before .before .before .field-at3 in
     let v = c .before .before .field-at4 in
-    said
+    said s
     (read-fields s (i .result) (i .ensures) (p .result) (q .result) (u .result) (v .result) (p .ensures) (q .ensures) (u .ensures) (v .ensures)
     (sym (c .before .fields-keep .ensures) ∙ not-true _ (c .if3 .taken)))
 
@@ -53,8 +54,9 @@ shared-slice-read-if4 c = search needs
 
 returns-4 : tie.Need-returns-4
 returns-4 c =
+    let s = now (c .before .before .before .before .before .before .before .before .before .before .before .before .before .args .part) in
     let i = c .before .before .before .before .before .before .before .before .before .rule-index in
-    said (read-feed (now (c .before .before .before .before .before .before .before .before .before .before .before .before .before .args .part)) (i .result) (i .ensures) (c .if4 .taken))
+    said s (read-feed s (i .result) (i .ensures) (c .if4 .taken))
 
 scanned-line-requires : tie.Need-scanned-line-requires
 scanned-line-requires c κs = search needs
@@ -67,7 +69,7 @@ returns-5 c =
     let q = c .before .before .before .before .before .before .before .field-at2 in
     let u = c .before .before .before .before .before .before .field-at3 in
     let v = c .before .before .before .before .before .field-at4 in
-    said
+    said s
     (ap reading.Form (c .scanned-line .ensures)
     ∙ read-form s (i .result) (i .ensures) (p .result) (q .result) (u .result) (v .result) (p .ensures) (q .ensures) (u .ensures) (v .ensures)
     (c .before .before .before .before .before .before .before .before .before .before .before .before .if1 .left) (c .before .before .before .before .before .before .before .before .before .if2 .left) (sym (c .before .before .before .before .fields-keep .ensures) ∙ not-false _ (c .before .before .before .if3 .left)) (c .before .if4 .left))
