@@ -48,7 +48,7 @@ pub record Kept (q : Queue) : Type 0 where
   pub nodes : length (q .nodes) ≡ nodeSlots
   pub callers : length (q .callers) ≡ maxProcessors
 
--- a history that is longer than its area: it begins with the lines written, and one more has no room
+-- a history longer than its area: it begins with the lines written, and one more has no room
 pub record Longer (es : List Event) (h : List ℕ) (room : ℕ) : Type 0 where
   pub rest : List Event
   pub is : h ≡ historyBytes (es ++ rest)

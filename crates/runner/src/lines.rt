@@ -90,9 +90,9 @@ fn waits_left(a: Answer, left: u32, t: u32) -> u32
     if left < most { left } else { most }
 }
 
-// The lines 2 and on of a sheet, run on the queue that its first line made: the length of the history,
-// or 43 as soon as it is longer than the area. The history is written, or only counted. Where 43 ends
-// a run that writes, the lines that had room stay in the area.
+// The lines 2 and on of a sheet, run on the queue that its first line made: the length of the
+// history, or 43 as soon as it is longer than the area. The history is written, or only counted.
+// Where 43 ends a run that writes, the lines that had room stay in the area.
 pub fn run_lines(sheet: &[u8], mut q: Queue, area: &mut [u8], writing: bool) -> Ran
     requires { ⌜ validOf q ≡ true ⌝ }
     ensures { λ r. ⌜ r ≡ fitted (historyOf (now (sheet .entry)) q) (length (now (area .entry))) ⌝ }
