@@ -109,7 +109,7 @@ def changed_items(files, edit):
     for file, old, _ in edit.pairs:
         items = files.get((edit.crate, file), [])
         holders = [i for i in items if old in i.text]
-        if holders:
+        if holders and holders[0] not in changed:
             changed.append(holders[0])
     return changed
 

@@ -39,7 +39,11 @@ impl Case {
         let (sizes, filling) = (table.sizes, table.filling);
         let (field, spot, value) = (self.field, self.spot, self.value);
         let expected = if self.taken { "taken" } else { "21" };
-        format!("{sizes:?} {filling:?}: {field:?} at {spot:?} is {value}, expected {expected}")
+        let place = match spot {
+            Spot::Stage(p, _) => format!("processor {p}, {:?}", self.queue.processors[p].stage),
+            _ => format!("{spot:?}"),
+        };
+        format!("{sizes:?} {filling:?}: {field:?} at {place} is {value}, expected {expected}")
     }
 }
 

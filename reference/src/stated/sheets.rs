@@ -3,10 +3,7 @@
 /// A Q line for the smallest queue.
 pub const Q: &str = "Q      1      1      1      0\n";
 
-/// How many bytes the history of one printed run has: seven lines.
-pub const RUN_BYTES: usize = 259;
-
-/// A line that is not in form.
+/// Lines that are not in form.
 pub const OUT_OF_FORM: [&str; 24] = [
     "D     00      0      0      0\n", // leading zero
     "D             0      0      0\n", // a field of spaces
