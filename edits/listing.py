@@ -38,6 +38,19 @@ class Item:
     cites: set = field(default_factory=set)
 
     @property
+    def body(self):
+        """What follows a function's contract: from the line that is its opening brace alone."""
+        indent = self.text[:len(self.text) - len(self.text.lstrip(" "))]
+        return self.text.partition(f"\n{indent}{{\n")[2]
+
+    @property
+    def path(self):
+        """The function as the prover names it."""
+        module = self.file.removeprefix("src/").removesuffix(".rt").replace("/", "::")
+        parts = [self.crate] + ([] if module in ("lib", "main") else [module]) + [self.name]
+        return "::".join(parts)
+
+    @property
     def title(self):
         module = self.file.removeprefix("src/").removeprefix("specs/").rsplit(".", 1)[0]
         path = f"{module}::{self.name}" if self.file.startswith("src/") else f"{module}.{self.name}"
@@ -112,6 +125,17 @@ def changed_items(files, edit):
         if holders and holders[0] not in changed:
             changed.append(holders[0])
     return changed
+
+
+def name_functions(top, crates, edits):
+    """Tells each edit that changes the body of one function, and nothing else, this function's name."""
+    files, _ = read_items(top, crates)
+    for edit in edits:
+        holders = [[i for i in files.get((edit.crate, file), []) if i.kind == "fn" and old in i.body]
+                   for file, old, _ in edit.pairs]
+        paths = {i.path for found in holders for i in found}
+        if all(holders) and len(paths) == 1:
+            edit.function = paths.pop()
 
 
 def reached(item, definitions):
