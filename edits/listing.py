@@ -1,10 +1,10 @@
 """Which public function or definition each edit changes, and which have fewer than two edits.
 
-A function's edits are those in its own text: its contract refuses them. A definition's edits are those
-in its own text, and those of every function and every other definition that cites it, directly or
-through others: what they rule out, they rule out by it. The statements of theorems are definitions that
-nothing cites, so that they need edits of their own. Names are resolved by the `use` and `ghost use`
-lines of each file.
+A function's edits are those in its own text: its contract refuses them. A definition's edits are
+those in its own text, and those of every function and every other definition that cites it,
+directly or through others: what they rule out, they rule out by it. The statements of theorems are
+definitions that nothing cites, so that they need edits of their own. Names are resolved by the
+`use` and `ghost use` lines of each file.
 """
 
 import re
@@ -77,11 +77,12 @@ def source_items(crate, file, text):
 
 def spec_items(crate, file, text):
     found = [m for m in SPEC_ITEM.finditer(text) if m["name"] not in ("use", "module", "pub")]
-    return cut([Item(crate, file, "definition", m["name"], bool(m["pub"]), m.start()) for m in found], text)
+    items = [Item(crate, file, "definition", m["name"], bool(m["pub"]), m.start()) for m in found]
+    return cut(items, text)
 
 
 def imported(pattern, text):
-    """The names that a file takes from specs/: the name used here, and (crate, module, name there)."""
+    """The names that a file takes from specs/: the one used here, and (crate, module, name there)."""
     names = {}
     for path, listed in pattern.findall(text):
         own = re.fullmatch(r"Rattle·(\w+?)(?:·specs\.specs|\.specs)\.(?!declared)([\w.]+)", path)
@@ -128,11 +129,13 @@ def changed_items(files, edit):
 
 
 def name_functions(top, crates, edits):
-    """Tells each edit that changes the body of one function, and nothing else, this function's name."""
+    """Tells each edit that changes the body of one function, and nothing else, that one's name."""
     files, _ = read_items(top, crates)
     for edit in edits:
-        holders = [[i for i in files.get((edit.crate, file), []) if i.kind == "fn" and old in i.body]
-                   for file, old, _ in edit.pairs]
+        holders = []
+        for file, old, _ in edit.pairs:
+            functions = (i for i in files.get((edit.crate, file), []) if i.kind == "fn")
+            holders.append([i for i in functions if old in i.body])
         paths = {i.path for found in holders for i in found}
         if all(holders) and len(paths) == 1:
             edit.function = paths.pop()

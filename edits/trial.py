@@ -1,4 +1,4 @@
-"""One trial: edits put into a copy of their crate, checked by the prover, and what it said judged."""
+"""A trial: edits put into a copy of their crate, checked by the prover, and what it said judged."""
 
 import os
 import re
@@ -10,15 +10,16 @@ from pathlib import Path
 TOP = Path(__file__).resolve().parent.parent
 WORK = TOP / "target" / "edits"
 
-# What the prover says where a proof file does not fit its function any more: a need, a place of the code or
-# a local of a loop is gone or new. None of these is about a fact.
+# What the prover says where a proof file does not fit its function any more: a need, a place of the
+# code or a local of a loop is gone or new. None of these is about a fact.
 MISFITS = (
     re.compile(r"has no `?Need-"),
     re.compile(r"that can be named from here"),
     re.compile(r"record `[^`]*\.Lts\.[^`]*`\s+has no field `[^`]*`"),
     re.compile(r"error: `(?:Inv-|μ-|[^`]*-spec`)[^`]*`?: (?!`[^`]*`\s+was not\s+admitted)"),
 )
-ERROR = re.compile(r"^(?P<file>[\w/]+\.(?:rt|antt)):(?P<at>\d+:\d+): error: (?P<name>`[^`]*`)?", re.M)
+ERROR = re.compile(
+    r"^(?P<file>[\w/]+\.(?:rt|antt)):(?P<at>\d+:\d+): error: (?P<name>`[^`]*`)?", re.M)
 NOT_ADMITTED = re.compile(r"`[^`]*`\s+was not\s+admitted")
 
 
@@ -127,18 +128,19 @@ def check_as_it_is(crate, name):
     """Whether the crate is proved as it is, over an incremental folder that is left for the edits.
 
     What rt check proved of a library lies in its rlib, module by module, in the form that the
-    incremental folder has too. The prover takes a module from there only if it is up to date, so that a
-    folder which starts from them costs time at the worst.
+    incremental folder has too. The prover takes a module from there only if it is up to date, so
+    that a folder which starts from them costs time at the worst.
     """
     place = workspace(crate, "as_it_is")
     proved_by_check = TOP / "target" / "rlib" / f"{crate}.rlib" / "toolchain" / "checked"
+    folder = place / "target" / "inc" / crate / name
     if name and proved_by_check.is_dir():
-        shutil.copytree(proved_by_check, place / "target" / "inc" / crate / name, dirs_exist_ok=True)
+        shutil.copytree(proved_by_check, folder, dirs_exist_ok=True)
     return is_proved(*check(place, crate))
 
 
 def check_edited(crate, name, edits):
-    """Checks a copy of the crate with these edits: the status and what was said, or why it can not be."""
+    """Checks a copy of the crate with these edits: status and words, or why it can not be."""
     place = workspace(crate, name)
     fault = next(filter(None, (apply_edit(e, place / "crates" / crate) for e in edits)), "")
     status, said = None, fault
@@ -191,8 +193,8 @@ def judge(status, said):
 def judge_function(status, said, function):
     """Whether a check of several edits refused a fact of this function's own; where, or nothing.
 
-    Its needs depend on its body and on the contracts of what it calls, and the other edits change no
-    contract, so that what is refused here is refused of the function's edit alone.
+    Its needs depend on its body and on the contracts of what it calls, and the other edits change
+    no contract, so that what is refused here is refused of the function's edit alone.
     """
     line = re.search(rf"^fn {re.escape(function)}: (?!proved)(.*)$", said, re.M)
     if status is None or not is_refused(status, said) or not line:

@@ -5,9 +5,11 @@
  * image, of whatever length and whatever they hold, are refused with 21. Nothing is kept between calls but the bytes, and no call allocates: the
  * stack that a call takes is below 64 KiB.
  *
- * Workers take turns. A step that waits (DARTHOG_WAITS) waits for a lock that another processor holds, and only that processor's steps free it; let the
- * others step before this one steps again. It is an accepted call and uses up the clock: a queue takes 999,999 begins and steps, waits included. Then
- * each is refused with 31 for good, and the host files what is left in a new queue. 37 refuses an Insert for now: let the workers step on, and try again.
+ * Workers take turns. A step that waits (DARTHOG_WAITS) waits for a lock that another processor
+ * holds, and only that processor's steps free it: let the others step before this one steps again.
+ * It is an accepted call and uses up the clock. A queue takes 999,999 begins and steps, waits
+ * included; then each is refused with 31, for good, and the host files what is left in a new queue.
+ * 37 refuses an Insert for now: let the workers step on, and try again.
  *
  * What the host owes: image points to length readable bytes (writable ones where the pointer is not const), is not null even where length is 0, and
  * no other thread reads or writes these bytes during the call.
@@ -50,7 +52,7 @@ enum {
     DARTHOG_BAD_ENTRIES = 12,    /* making: entries not 1 to 200 */
     DARTHOG_BAD_LEVELS = 13,     /* making: levels not 1 to 8 */
     DARTHOG_BAD_RECORD = 21,     /* every call: no image, or a record whose numbers are out of range; making: length is not an image's */
-    DARTHOG_CLOCK_ENDED = 31,    /* begin and step: the clock is 999,999, and the queue's life has ended */
+    DARTHOG_CLOCK_ENDED = 31,    /* begin and step: the clock is 999,999, its end */
     DARTHOG_NO_PROCESSOR = 32,   /* begin and step: the queue has no such processor */
     DARTHOG_BUSY = 33,           /* begin: the processor is busy */
     DARTHOG_IDLE = 34,           /* step: the processor is idle */
