@@ -11,14 +11,12 @@ use darthog_reference::any_record::slots_past;
 use darthog_reference::image::{
     decode, encode, NODES_AT, NODE_BYTES, PROCESSORS_AT, PROCESSOR_BYTES,
 };
-use darthog_reference::perturb::{breaking, past, to_the_edge, Change};
+use darthog_reference::perturb::{bases, breaking, past, to_the_edge, Change};
 use darthog_reference::queue::{Queue, Stage};
 use darthog_reference::random::Random;
-use darthog_reference::schedule::{Schedule, Sizes};
 use darthog_reference::stated::cases::each_case;
 use darthog_reference::stated::records::record;
 use darthog_reference::stated::rows::TABLES;
-use darthog_reference::trial::fresh_of;
 
 /// Every call on a record, by one processor.
 fn calls(processor: u32) -> [Call; 4] {
@@ -115,35 +113,6 @@ fn each_field_is_taken_and_refused_as_stated() {
     ]);
 }
 
-/// Records of runs: fresh ones, and some in the middle of operations.
-fn bases() -> Vec<Queue> {
-    let mut bases = Vec::new();
-    for (processors, nodes, levels, calls) in [
-        (1, 1, 1, 0),
-        (1, 1, 1, 20),
-        (2, 3, 2, 300),
-        (3, 4, 3, 500),
-        (5, 9, 7, 400),
-        (15, 30, 8, 700),
-        (16, 200, 8, 2000),
-    ] {
-        let sizes = Sizes {
-            processors,
-            nodes,
-            levels,
-        };
-        let mut queue = fresh_of(sizes);
-        let mut schedule = Schedule::new(calls, sizes);
-        for _ in 0..calls {
-            let call = schedule.next_call();
-            let outcome = queue.call(&call);
-            schedule.note(&call, &outcome);
-        }
-        bases.push(queue);
-    }
-    bases
-}
-
 /// Makes each change on a base and one call on what comes of it, each call in
 /// its turn. Slots past the sizes stay as they are.
 fn judge_changes(judge: &mut Judge, base: &Queue, changes: &[Change], taken: bool) {
@@ -167,7 +136,7 @@ fn judge_changes(judge: &mut Judge, base: &Queue, changes: &[Change], taken: boo
 fn the_references_changes_are_taken_and_refused_as_their_lists_say() {
     let mut judge = Judge::new();
     let mut made = [0, 0, 0];
-    for base in bases() {
+    for (_, base) in bases() {
         for call in calls(0) {
             judge.call(&encode(&base), &call, true, "a record of a run");
         }

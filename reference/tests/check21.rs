@@ -2,63 +2,9 @@
 //! call, every field at the edge of its range passes, and slots past P, N+1
 //! and L are neither looked at nor changed.
 
-use darthog_reference::calls::{Call, Outcome};
-use darthog_reference::perturb::{breaking, past, to_the_edge};
-use darthog_reference::queue::{fresh, Queue};
-use darthog_reference::schedule::{Schedule, Sizes};
-
-/// Fresh records and records in the middle of a run.
-fn bases() -> Vec<(Sizes, Queue)> {
-    let mut bases = Vec::new();
-    for (processors, nodes, levels, calls) in [
-        (1, 1, 1, 0),
-        (1, 1, 1, 20),
-        (2, 3, 2, 300),
-        (3, 4, 3, 500),
-        (5, 9, 7, 400),
-        (15, 30, 8, 700),
-        (16, 200, 8, 2000),
-    ] {
-        let sizes = Sizes {
-            processors,
-            nodes,
-            levels,
-        };
-        let mut queue = fresh(processors, nodes, levels).unwrap();
-        let mut schedule = Schedule::new(calls, sizes);
-        for _ in 0..calls {
-            let call = schedule.next_call();
-            let outcome = queue.call(&call);
-            schedule.note(&call, &outcome);
-        }
-        assert!(queue.sound());
-        bases.push((sizes, queue));
-    }
-    bases
-}
-
-fn all_kinds_of_call() -> [Call; 6] {
-    [
-        Call::Backlog,
-        Call::Step { processor: 0 },
-        Call::Step {
-            processor: u64::MAX,
-        },
-        Call::DeleteMin { processor: 0 },
-        Call::Insert {
-            processor: 0,
-            due: 0,
-            item: 0,
-            height: 1,
-        },
-        Call::Insert {
-            processor: 99,
-            due: u64::MAX,
-            item: u64::MAX,
-            height: 0,
-        },
-    ]
-}
+use darthog_reference::calls::Outcome;
+use darthog_reference::perturb::{bases, breaking, past, to_the_edge, CALLS};
+use darthog_reference::schedule::Schedule;
 
 #[test]
 fn each_field_out_of_range_is_refused_with_21() {
@@ -69,7 +15,7 @@ fn each_field_out_of_range_is_refused_with_21() {
             (change.make)(&mut queue);
             assert!(!queue.sound(), "{}", change.name);
             let before = queue.clone();
-            for call in all_kinds_of_call() {
+            for call in CALLS {
                 let outcome = queue.call(&call);
                 assert_eq!(outcome, Outcome::Refused(21), "{}", change.name);
             }

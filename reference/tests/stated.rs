@@ -3,34 +3,13 @@
 
 use darthog_reference::any_record::slots_past;
 use darthog_reference::calls::{Call, Outcome};
+use darthog_reference::perturb::CALLS;
 use darthog_reference::queue::Queue;
 use darthog_reference::sheet::{run, SheetRefusal};
 use darthog_reference::stated::cases::each_case;
 use darthog_reference::stated::records::record;
 use darthog_reference::stated::rows::{Field, Filling, Row, FIELDS, TABLES};
 use darthog_reference::stated::sheets::{areas, refused};
-
-/// Calls by processor 0, and calls that would be refused for their numbers.
-const CALLS: [Call; 6] = [
-    Call::Backlog,
-    Call::Step { processor: 0 },
-    Call::DeleteMin { processor: 0 },
-    Call::Insert {
-        processor: 0,
-        due: 0,
-        item: 0,
-        height: 1,
-    },
-    Call::Step {
-        processor: u64::MAX,
-    },
-    Call::Insert {
-        processor: 99,
-        due: u64::MAX,
-        item: u64::MAX,
-        height: 0,
-    },
-];
 
 /// Makes every call on a copy of its own: 21 where that is expected and no
 /// change; else never 21, and Backlog counts 0, since no node is in use.

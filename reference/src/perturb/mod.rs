@@ -1,12 +1,68 @@
 //! Single changes to a record that passes check 21: those that break it, those
 //! that bring a field to the edge of its range, and those past P, N+1 and L.
 
+use crate::calls::Call;
 use crate::queue::{Node, Operation, Place, Processor, Queue, Stage, Use, HEAD, LIMIT};
 use crate::queue::{MOST_LEVELS, MOST_PROCESSORS, NODE_SLOTS};
+use crate::schedule::{Schedule, Sizes};
+use crate::trial::fresh_of;
 
 mod breaking;
 
 pub use breaking::breaking;
+
+/// Calls of every kind by processor 0, and calls that would be refused for
+/// their numbers: check 21 comes before these.
+pub const CALLS: [Call; 6] = [
+    Call::Backlog,
+    Call::Step { processor: 0 },
+    Call::DeleteMin { processor: 0 },
+    Call::Insert {
+        processor: 0,
+        due: 0,
+        item: 0,
+        height: 1,
+    },
+    Call::Step {
+        processor: u64::MAX,
+    },
+    Call::Insert {
+        processor: 99,
+        due: u64::MAX,
+        item: u64::MAX,
+        height: 0,
+    },
+];
+
+/// Records to change: fresh ones, and some in the middle of operations.
+pub fn bases() -> Vec<(Sizes, Queue)> {
+    let mut bases = Vec::new();
+    for (processors, nodes, levels, calls) in [
+        (1, 1, 1, 0),
+        (1, 1, 1, 20),
+        (2, 3, 2, 300),
+        (3, 4, 3, 500),
+        (5, 9, 7, 400),
+        (15, 30, 8, 700),
+        (16, 200, 8, 2000),
+    ] {
+        let sizes = Sizes {
+            processors,
+            nodes,
+            levels,
+        };
+        let mut queue = fresh_of(sizes);
+        let mut schedule = Schedule::new(calls, sizes);
+        for _ in 0..calls {
+            let call = schedule.next_call();
+            let outcome = queue.call(&call);
+            schedule.note(&call, &outcome);
+        }
+        assert!(queue.sound());
+        bases.push((sizes, queue));
+    }
+    bases
+}
 
 /// One change with a name.
 pub struct Change {
