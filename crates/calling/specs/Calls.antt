@@ -1,5 +1,6 @@
--- One call of a sheet's line, of numbers: which refusal it meets, what it decides, and what it prints. These only name parts of what
--- crates/rules/specs/Calls and crates/sheet/specs/Events say, for the contracts of small functions.
+-- One call of a sheet's line, of numbers: which refusal it meets, what it decides, and what it
+-- prints. The contracts of the small functions that a run is made of cite these; a call on a whole
+-- record is in crates/rules/specs/Calls, and what it prints in crates/sheet/specs/Events.
 use Prim.Native.Nat.{ℕ}
 use mathlib.Core.Bool.{Bool, true, false, cond}
 use mathlib.Core.List.{List}
