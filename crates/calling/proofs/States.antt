@@ -4,10 +4,10 @@ use mathlib.Core.Bool.{Bool, true, false, cond}
 use mathlib.Core.List.{List, [], _∷_, _++_, append-nil}
 use Prim.Native.Nat.{ℕ, zero, suc, _+_, _-_, _*_, _≤_, _<_}
 use native.Mathlib.Omega.{arith}
-use lib.Dec.{ltb, leb, eqb}
+use lib.Dec.{leb, eqb}
 use lib.ListN.{length, drop, length-append, length-drop}
 use lib.Seq.{sets, length-sets}
-use borrow.Author.Tests.{lt-ltb, le-ltb, leb-true, leb-false}
+use borrow.Author.Tests.{leb-true, leb-false}
 use Rattle.laws.proofs.Booleans.{cond-elim}
 use Rattle.checks.specs.Check.{valid}
 use Rattle.record.specs.declared.queues.Queue.{Queue}
@@ -24,8 +24,9 @@ use Rattle.sheet.specs.declared.lines.Line.{Line}
 use Rattle.sheet.specs.Events.{Running, running, isRefused, eventBytes, historyBytes}
 use Rattle.sheet.specs.Lines.{lineOf, partAt, lineCount}
 use Rattle.sheet.specs.Scans.{roomAt, withEvent}
-use Rattle.sheet.specs.Sheets.{runLine, runLines, history, fitted}
+use Rattle.sheet.specs.Sheets.{runLine, runLines, history, fitted, atFront}
 use Rattle.sheet.proofs.Stores.{sets-behind}
+use Rattle.sheet.proofs.Reports.{fits-length}
 use Rattle.sheet.proofs.Written.{length-event, length-history, history-append}
 use Rattle.calling.specs.Calls.{callsOf, prints, eventsOf, eventOf}
 use Rattle.calling.proofs.Accepting.{call-accepts}
@@ -34,7 +35,7 @@ use Rattle.calling.proofs.Histories.{afterCall, after, lineFrom, from-n
 
 -- an area with bytes at its front, or only counted
 abbrev pub filled : List ℕ → List ℕ → Bool → List ℕ
-filled h area writing = cond writing (h ++ drop (length h) area) area
+filled h area writing = cond writing (atFront h area) area
 
 -- the history so far: a₀ is the area as it was lent, a as it is
 pub record Written (a₀ a : List ℕ) (at : ℕ) (es : List Event) (w : Bool) : Type 0 where
@@ -328,10 +329,6 @@ module _ (s : List ℕ) (q₀ : Queue) (k : ℕ) (l : Line) (x : ℕ) (a₀ : Li
           (ap (lineFrom l (left - 1)) (sym (printed p)) ∙ rest-accepted u e answers)
           room c
 
--- 43
-pub refuses-long : (h : List ℕ) (room : ℕ) → room < length h → ran.Refused 43 0 ≡ fitted h room
-refuses-long h room f = sym (ap (λ (b : Bool). cond b (ran.Refused 43 0) (ran.Length (length h))) (lt-ltb room (length h) f))
-
 -- all lines are run
 pub at-last :
     (s : List ℕ) (q₀ : Queue) (k : ℕ) (q : Queue) (a₀ a : List ℕ) (at : ℕ) (w : Bool) →
@@ -342,7 +339,7 @@ at-last s q₀ k q a₀ a at w b c =
     let e : historyBytes (b .events) ≡ history s q₀ = ap (λ (r : Running). historyBytes (r .events)) (b .ran) ∙ ap (λ (j : ℕ). historyBytes (runLines s (running q₀ []) j .events)) c in
     let n : at ≡ length (history s q₀) = b .written .long ∙ ap length e in
     let f : length (history s q₀) ≤ length a₀ = omega (arith, n, b .written .fits) in (
-      ap ran.Length n ∙ sym (ap (λ (t : Bool). cond t (ran.Refused 43 0) (ran.Length (length (history s q₀)))) (le-ltb (length a₀) (length (history s q₀)) f)),
+      ap ran.Length n ∙ sym (fits-length (history s q₀) (length a₀) f),
       f,
       b .written .bytes ∙ ap (λ (h : List ℕ). filled h a₀ w) e,
     )

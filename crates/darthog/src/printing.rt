@@ -1,9 +1,9 @@
 // What the program prints: a sheet's history, or its refusal (01, sheet and history).
 ghost use mathlib.Core.Path.{_≡_};
-ghost use mathlib.Core.List.{_++_};
 ghost use Prim.Native.Nat.{_≤_};
-ghost use lib.ListN.{length, drop};
+ghost use lib.ListN.{length};
 ghost use Rattle.sheet.specs.Program.{refusalText, printed, programPrints};
+ghost use Rattle.sheet.specs.Sheets.{atFront};
 use crate::decimals::decimal_into;
 use sheet::Ran;
 use sheet::letters::LINE_FEED;
@@ -18,8 +18,7 @@ fn print_refusal(area: &mut [u8], number: u32, line: u32) -> usize
     requires { ⌜ 16 ≤ length (now area) ⌝ }
     ensures { λ r. ⌜ r ≡ length (refusalText number line) ⌝ }
     ensures { λ _.
-        ⌜ now (area .exit)
-        ≡ refusalText number line ++ drop (length (refusalText number line)) (now (area .entry)) ⌝ }
+        ⌜ now (area .exit) ≡ atFront (refusalText number line) (now (area .entry)) ⌝ }
 {
     let middle = decimal_into(area, 0, number);
     area[middle] = SPACE;
@@ -33,9 +32,7 @@ fn print_sheet(sheet: &[u8], area: &mut [u8]) -> usize
     requires { ⌜ (length (now sheet) ≤ 65536) × (length (now area) ≡ 65536) ⌝ }
     ensures { λ r. ⌜ r ≡ length (printed (now (sheet .entry))) ⌝ }
     ensures { λ _.
-        ⌜ now (area .exit)
-        ≡ printed (now (sheet .entry))
-        ++ drop (length (printed (now (sheet .entry)))) (now (area .entry)) ⌝ }
+        ⌜ now (area .exit) ≡ atFront (printed (now (sheet .entry))) (now (area .entry)) ⌝ }
 {
     match run_sheet(sheet, area) {
         Ran::Refused(number, line) => print_refusal(area, number as u32, line as u32),
@@ -47,9 +44,7 @@ fn print_sheet(sheet: &[u8], area: &mut [u8]) -> usize
 pub fn print_run(sheet: &[u8], area: &mut [u8; 65536]) -> usize
     ensures { λ r. ⌜ r ≡ length (programPrints (now (sheet .entry))) ⌝ }
     ensures { λ _.
-        ⌜ now (area .exit)
-        ≡ programPrints (now (sheet .entry))
-        ++ drop (length (programPrints (now (sheet .entry)))) (now (area .entry)) ⌝ }
+        ⌜ now (area .exit) ≡ atFront (programPrints (now (sheet .entry))) (now (area .entry)) ⌝ }
 {
     if sheet.len() <= LENT {
         return print_sheet(sheet, area);

@@ -12,10 +12,10 @@ use Rattle.sheet.specs.declared.events.Event.{Event}
 use Rattle.sheet.specs.Events.{running, historyBytes}
 use Rattle.sheet.specs.Lines.{lineCount}
 use Rattle.sheet.specs.Scans.{roomAt, withEvent}
-use Rattle.sheet.specs.Sheets.{runLines, history}
+use Rattle.sheet.specs.Sheets.{runLines, history, atFront}
 use Rattle.sheet.proofs.Written.{length-history, history-append}
 use Rattle.calling.proofs.States.{Written, Longer, filled, no-room}
-use Rattle.runner.specs.Area.{wholeBytes, wholeLines, atFront, areaWith}
+use Rattle.runner.specs.Area.{wholeBytes, wholeLines, areaWith}
 
 -- some lines of 37 bytes that have room
 lines-low : (n lines room : ℕ) → n ≡ 37 * lines → n ≤ room → n ≤ wholeBytes room

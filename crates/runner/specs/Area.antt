@@ -2,9 +2,10 @@
 -- or not. It alone is no run of a sheet: the sheet's own run leaves the area as it was on 43.
 use Prim.Native.Nat.{ℕ, _*_, _/_}
 use mathlib.Core.Bool.{Bool, cond}
-use mathlib.Core.List.{List, _++_}
-use lib.ListN.{length, take, drop}
+use mathlib.Core.List.{List}
+use lib.ListN.{length, take}
 use Rattle.sheet.specs.Events.{eventLength}
+use Rattle.sheet.specs.Sheets.{atFront}
 
 -- so many bytes of the room take whole lines
 abbrev pub wholeBytes : ℕ → ℕ
@@ -13,10 +14,6 @@ wholeBytes room = eventLength * (room / eventLength)
 -- the lines of a history that have room in whole
 abbrev pub wholeLines : List ℕ → ℕ → List ℕ
 wholeLines h room = take (wholeBytes room) h
-
--- an area with a text at its front, and behind it as it was
-abbrev pub atFront : List ℕ → List ℕ → List ℕ
-atFront text area = text ++ drop (length text) area
 
 -- written, the lines that have room in whole stand at the front; only counted, nothing changes
 abbrev pub areaWith : List ℕ → List ℕ → Bool → List ℕ

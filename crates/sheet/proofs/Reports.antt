@@ -2,27 +2,29 @@
 use mathlib.Core.Path.{_≡_, refl, sym, ap}
 use mathlib.Core.Bool.{Bool, true, false, cond}
 use mathlib.Core.List.{List, [], _∷_}
-use Prim.Native.Nat.{ℕ}
+use Prim.Native.Nat.{ℕ, _≤_, _<_}
 use lib.Dec.{ltb, eqb}
 use lib.ListN.{length}
+use borrow.Author.Tests.{lt-ltb, le-ltb}
 use Rattle.laws.proofs.Booleans.{cond-cases, cond-elim}
 use Rattle.checks.specs.Making.{made}
 use Rattle.record.specs.Report.{Report, report}
+use Rattle.sheet.specs.declared.events.Ran.{Ran}
 use Rattle.sheet.specs.declared.events.Ran.the-variants as ran
 use Rattle.sheet.specs.Lines.{firstOutOfForm, firstMisplaced, lineOf, partAt}
-use Rattle.sheet.specs.Sheets.{history, fitted, fittedOutcome, outcome}
+use Rattle.sheet.specs.Sheets.{history, fitted, outcome}
 use Rattle.sheet.specs.Sheets.{ranOf, ranSheet, reportedRun}
 
 -- a history that fits or not
-fitted-by :
-    (t : Bool) (n : ℕ) →
-    cond t (ran.Refused 43 0) (ran.Length n)
-    ≡ ranOf (cond t (report 43 (0 ∷ [])) (report 0 (n ∷ [])))
-fitted-by true n = refl
-fitted-by false n = refl
+abbrev fitted-by : List ℕ → Bool → Ran
+fitted-by h long = ranOf (cond long (report 43 (0 ∷ [])) (report 0 (length h ∷ [])))
 
-pub fitted-ran : (h : List ℕ) (room : ℕ) → fitted h room ≡ ranOf (fittedOutcome h room)
-fitted-ran h room = fitted-by (ltb room (length h)) (length h)
+pub fits-length :
+    (h : List ℕ) (room : ℕ) → length h ≤ room → fitted h room ≡ ran.Length (length h)
+fits-length h room f = ap (fitted-by h) (le-ltb room (length h) f)
+
+pub refuses-long : (h : List ℕ) (room : ℕ) → room < length h → ran.Refused 43 0 ≡ fitted h room
+refuses-long h room f = sym (ap (fitted-by h) (lt-ltb room (length h) f))
 
 -- a refusal has a number that is not 0
 pub refused-ran : (n line : ℕ) → eqb n 0 ≡ false → ran.Refused n line ≡ ranOf (report n (line ∷ []))

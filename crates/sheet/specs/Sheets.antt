@@ -32,10 +32,6 @@ abbrev pub history : List ℕ → Queue → List ℕ
 history s q = historyBytes (runLines s (running q []) (lineCount s - 1) .events)
 
 -- 43: "history longer than its area; line 0"
-abbrev pub fitted : List ℕ → ℕ → Ran
-fitted h room = cond (ltb room (length h)) (ran.Refused 43 0) (ran.Length (length h))
-
--- the same in numbers
 abbrev pub fittedOutcome : List ℕ → ℕ → Report
 fittedOutcome h room = cond (ltb room (length h)) (report 43 (0 ∷ [])) (report 0 (length h ∷ []))
 
@@ -66,10 +62,17 @@ ranOf o =
 abbrev pub ranSheet : List ℕ → ℕ → Ran
 ranSheet s room = ranOf (outcome s room)
 
+abbrev pub fitted : List ℕ → ℕ → Ran
+fitted h room = ranOf (fittedOutcome h room)
+
 -- each case of that enum in numbers
 abbrev pub reportedRun : Ran → Report
 reportedRun (ran.Refused n line) = report n (line ∷ [])
 reportedRun (ran.Length n) = report 0 (n ∷ [])
+
+-- an area with a text at its front, and behind it as it was
+abbrev pub atFront : List ℕ → List ℕ → List ℕ
+atFront text area = text ++ drop (length text) area
 
 -- "A refusal returns its number and leaves everything lent untouched." "The rest of the area is untouched."
 abbrev pub written : List ℕ → List ℕ → Ran → List ℕ

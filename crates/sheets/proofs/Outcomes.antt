@@ -16,10 +16,9 @@ use Rattle.sheet.specs.declared.events.Ran.{Ran}
 use Rattle.sheet.specs.declared.events.Ran.the-variants as ran
 use Rattle.sheet.specs.declared.lines.Line.{Line}
 use Rattle.sheet.specs.Lines.{lineOf, partAt, firstOutOfForm, firstMisplaced}
-use Rattle.sheet.specs.Sheets.{history, historyOf, fitted, ranSheet, written, areaAfter}
+use Rattle.sheet.specs.Sheets.{history, historyOf, fitted, ranSheet, atFront, written, areaAfter}
 use Rattle.sheet.specs.Sheets.{fittedOutcome, queueOutcome, outcome, ranOf, reportedRun}
-use Rattle.sheet.proofs.Reports.{fitted-ran, refused-ran, outcome-told}
-use Rattle.runner.specs.Area.{atFront}
+use Rattle.sheet.proofs.Reports.{fits-length, refused-ran, outcome-told}
 
 pub refused-untouched : (s area : List ℕ) (n k : ℕ) → ran.Refused n k ≡ ranSheet s (length area) → area ≡ areaAfter s area
 refused-untouched s area n k e = ap (λ (r : Ran). written (historyOf s (lineOf (partAt s 1))) area r) e
@@ -80,8 +79,7 @@ module _ (s : List ℕ) (room : ℕ) where
           refused-ran (m .refusal) 1 n ∙ sym (by-refusal false n)
 
       pub runs : m .refusal ≡ 0 → fitted (history s (m .queue)) room ≡ ranSheet s room
-      runs h =
-          fitted-ran (history s (m .queue)) room ∙ sym (by-refusal true (eq-eqb (m .refusal) 0 h))
+      runs h = sym (by-refusal true (eq-eqb (m .refusal) 0 h))
 
 -- a history that fits
 abbrev is-refused : Ran → Bool
@@ -91,12 +89,11 @@ is-refused (ran.Length n) = false
 pub length-fits : (h : List ℕ) (room n : ℕ) → ran.Length n ≡ fitted h room → length h ≤ room
 length-fits h room n e = ltb-false room (length h) (at (ltb room (length h)) (sym (ap is-refused e)))
   where
-    at : (b : Bool) → is-refused (cond b (ran.Refused 43 0) (ran.Length (length h))) ≡ false → b ≡ false
+    at : (b : Bool) →
+        is-refused (ranOf (cond b (report 43 (0 ∷ [])) (report 0 (length h ∷ [])))) ≡ false →
+        b ≡ false
     at true k = k
     at false k = refl
-
-pub fits-length : (h : List ℕ) (room : ℕ) → length h ≤ room → fitted h room ≡ ran.Length (length h)
-fits-length h room f = ap (λ (t : Bool). cond t (ran.Refused 43 0) (ran.Length (length h))) (le-ltb room (length h) f)
 
 abbrev length-of : Ran → ℕ
 length-of (ran.Refused n k) = 0

@@ -35,7 +35,8 @@ use Rattle.sheet.specs.Sheets.{history}
 use Rattle.sheet.proofs.Parts.{tail-part, line-start, part-next}
 use Rattle.calling.specs.Calls.{slotOf, callRefusal, asksNode, withNode, prints}
 use Rattle.calling.proofs.Called.{early, nodeFor, refusalOn, callOn, callDecision, slot-low, clock-low, caller-low, caller-slot, height-low, call-decided, call-changes, call-accepted}
-use Rattle.calling.proofs.States.{Between, Within, Kept, same-area, event-area, at-first, begins, ends, call-refuses, call-silent, call-prints, refused-long, accepted-long, refuses-long, at-last}
+use Rattle.calling.proofs.States.{Between, Within, Kept, same-area, event-area, at-first, begins, ends, call-refuses, call-silent, call-prints, refused-long, accepted-long, at-last}
+use Rattle.sheet.proofs.Reports.{refuses-long}
 use Rattle.runner.proofs.Areas.{area-whole, area-part}
 use Rattle.runner.proofs.Waits.{call-waits}
 use Rattle.runner.proofs.lines.run_lines.Statement.{statement}
