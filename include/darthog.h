@@ -8,8 +8,9 @@
  * Workers take turns. A step that waits (DARTHOG_WAITS) waits for a lock that another processor
  * holds, and only that processor's steps free it: let the others step before this one steps again.
  * It is an accepted call and uses up the clock. A queue takes 999,999 begins and steps, waits
- * included; then each is refused with 31, for good, and the host files what is left in a new queue.
- * 37 refuses an Insert for now: let the workers step on, and try again.
+ * included; then each is refused with 31, for good, and nothing can be taken out any more: before
+ * that, take out what is left and file it in a new queue. 37 refuses an Insert for now: let the
+ * workers step on or take entries out, and try again.
  *
  * What the host owes: image points to length readable bytes (writable ones where the pointer is not const), is not null even where length is 0, and
  * no other thread reads or writes these bytes during the call.

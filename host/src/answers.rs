@@ -17,8 +17,8 @@ pub enum Refusal {
     /// The bytes are no image, or that of a record whose numbers are out of
     /// their ranges.
     BadRecord = 21,
-    /// Begin and step: the clock is 999,999. The queue's life has ended: file
-    /// what is left in a new one.
+    /// Begin and step: the clock is 999,999. The queue's life has ended, and
+    /// nothing can be taken out any more: move to a new one before that.
     ClockEnded = 31,
     /// Begin and step: the queue has no such processor.
     NoProcessor = 32,
@@ -31,8 +31,8 @@ pub enum Refusal {
     TooLarge = 35,
     /// Insert: height not 1 to the queue's levels.
     BadHeight = 36,
-    /// Insert: no node that may be used now. Let the workers step on, and try
-    /// again.
+    /// Insert: no node that may be used now. Let the workers step on or take
+    /// entries out, and try again.
     NoNode = 37,
 }
 
