@@ -5,6 +5,8 @@
 //! while processor p holds it. Every field is open, so that a test can put
 //! any value into it.
 
+use std::cmp::Ordering;
+
 /// The most processors a queue can have.
 pub const MOST_PROCESSORS: usize = 16;
 /// The most nodes for entries a queue can have.
@@ -15,8 +17,8 @@ pub const MOST_LEVELS: usize = 8;
 pub const NODE_SLOTS: usize = MOST_NODES + 2;
 /// The last value of the clock, and the greatest due minute and item.
 pub const LIMIT: u32 = 999_999;
-/// The greatest count of seconds that becomes a due minute.
-pub const MOST_SECONDS: u64 = 59_999_999;
+/// The greatest count of seconds that becomes a due minute (document 02, W8).
+pub const MOST_SECONDS: u64 = 59_999_969;
 /// The number of the head.
 pub const HEAD: u8 = 0;
 /// What a lock holds while nobody has it.
@@ -211,13 +213,19 @@ pub fn fresh(p: u64, n: u64, l: u64) -> Result<Queue, Refusal> {
     })
 }
 
-/// A count of seconds as whole minutes, the rest dropped.
-/// Refused with 35 above 59,999,999 seconds.
+/// The minute nearest to a count of seconds; half a minute goes to the even one
+/// of its two. Refused with 35 above 59,999,969 seconds (document 02, W8).
 pub fn due_from_seconds(seconds: u64) -> Result<u32, Refusal> {
     if seconds > MOST_SECONDS {
         return Err(35);
     }
-    Ok((seconds / 60) as u32)
+    let below = (seconds / 60) as u32;
+    Ok(match (seconds % 60).cmp(&30) {
+        Ordering::Less => below,
+        Ordering::Greater => below + 1,
+        Ordering::Equal if below % 2 == 0 => below,
+        Ordering::Equal => below + 1,
+    })
 }
 
 /// The array slot of a level.
