@@ -13,7 +13,7 @@ enum { WORKERS = 4, ENTRIES = 12, LEVELS = 4 };
 /* What is filed: in how many seconds it is due, and its item. */
 static const struct { uint64_t seconds; uint32_t item; } withdrawals[ENTRIES] = {
     {5400, 101}, {60, 102}, {3599, 103}, {86400, 104}, {59, 105},   {7200, 106},
-    {125, 107},  {3600, 108}, {60, 109}, {600, 110},  {43200, 111}, {59999999, 112},
+    {125, 107},  {3600, 108}, {60, 109}, {600, 110},  {43200, 111}, {59999969, 112},
 };
 
 /* A worker: whether it is in an operation, whether it found the queue empty, and the turn of the entry that it marked. */

@@ -27,7 +27,7 @@ pub enum Refusal {
     /// Step: the processor is idle.
     Idle = 34,
     /// Insert: due or item above 999,999. A due minute: seconds above
-    /// 59,999,999.
+    /// 59,999,969.
     TooLarge = 35,
     /// Insert: height not 1 to the queue's levels.
     BadHeight = 36,
@@ -76,7 +76,7 @@ impl fmt::Display for Refusal {
             Refusal::NoProcessor => "no such processor",
             Refusal::Busy => "the processor is busy",
             Refusal::Idle => "the processor is idle",
-            Refusal::TooLarge => "due or item above 999,999, or seconds above 59,999,999",
+            Refusal::TooLarge => "due or item above 999,999, or seconds above 59,999,969",
             Refusal::BadHeight => "height not 1 to the queue's levels",
             Refusal::NoNode => "no node that may be used",
         };

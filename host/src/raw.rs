@@ -67,6 +67,7 @@ extern "C" {
     /// How many nodes are in use.
     pub fn darthog_backlog(image: *const u8, length: usize) -> Reply;
 
-    /// The due minute of a count of seconds.
+    /// The due minute of a count of seconds: the nearest, half a minute to the
+    /// even one.
     pub fn darthog_due(seconds: u64) -> Reply;
 }

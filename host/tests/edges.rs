@@ -7,6 +7,7 @@ use darthog_host::raw::{darthog_due, Reply};
 use darthog_reference::image::{encode, IMAGE_LENGTH};
 use darthog_reference::queue::{due_from_seconds, fresh, Queue, LIMIT};
 use darthog_reference::random::Random;
+use darthog_reference::stated::minutes::{MINUTES, TOO_MANY_SECONDS};
 
 /// Every call that an image of another length refuses, and a making.
 const CALLS: [Call; 6] = [
@@ -169,24 +170,33 @@ fn due(seconds: u64) -> Reply {
 }
 
 #[test]
+fn a_due_minute_is_the_stated_one() {
+    for (seconds, minute) in MINUTES {
+        let expected = Reply {
+            first: minute,
+            ..refused(0)
+        };
+        assert_eq!(due(seconds), expected, "{seconds} seconds");
+    }
+    for seconds in TOO_MANY_SECONDS {
+        assert_eq!(due(seconds), refused(35), "{seconds} seconds");
+    }
+}
+
+#[test]
 fn a_due_minute_is_the_references() {
     let mut random = Random::new(seed());
-    let mut edges = vec![
-        u64::MAX,
-        u64::MAX - 1,
-        1 << 32,
-        (1 << 32) - 1,
-        (1 << 32) + 59,
-    ];
+    let mut edges = vec![u64::MAX, u64::MAX - 1];
     for middle in [
         0u64,
         60,
         120,
         3_600,
-        59_999_940,
+        59_999_970,
         60_000_000,
         1 << 26,
         1 << 31,
+        1 << 32,
     ] {
         for seconds in middle.saturating_sub(61)..=middle + 61 {
             edges.push(seconds);
@@ -215,8 +225,4 @@ fn a_due_minute_is_the_references() {
     }
     println!("due: {accepted} accepted, {too_large} refused with 35");
     assert!(accepted > 1_000 && too_large > 1_000);
-    assert_eq!(due(59).first, 0);
-    assert_eq!(due(60).first, 1);
-    assert_eq!(due(59_999_999).first, 999_999);
-    assert_eq!(due(60_000_000), refused(35));
 }

@@ -10,6 +10,7 @@ use darthog_reference::image::encode;
 use darthog_reference::queue::{due_from_seconds, fresh, LIMIT};
 use darthog_reference::random::Random;
 use darthog_reference::schedule::{Schedule, Sizes};
+use darthog_reference::stated::minutes::{MINUTES, TOO_MANY_SECONDS};
 use darthog_reference::trial::fresh_of;
 use std::collections::BTreeMap;
 
@@ -178,15 +179,18 @@ fn bytes_that_the_library_does_not_take_make_no_queue() {
 
 #[test]
 fn a_due_minute_or_too_many_seconds() {
+    for (seconds, minute) in MINUTES {
+        assert_eq!(due_minute(seconds), Ok(minute), "{seconds} seconds");
+    }
+    for seconds in TOO_MANY_SECONDS {
+        assert_eq!(due_minute(seconds), Err(Refusal::TooLarge));
+    }
     let mut random = Random::new(seed());
-    let edges = [0, 59, 60, 59_999_999, 60_000_000, u64::MAX];
-    let drawn = (0..1000).map(|_| random.below(120_000_000));
-    let all: Vec<u64> = edges.into_iter().chain(drawn).collect();
-    for seconds in all {
+    for _ in 0..1000 {
+        let seconds = random.below(120_000_000);
         let found = due_minute(seconds).map_err(Refusal::number);
         assert_eq!(found, due_from_seconds(seconds), "{seconds} seconds");
     }
-    assert_eq!(due_minute(60_000_000), Err(Refusal::TooLarge));
 }
 
 #[test]

@@ -2,6 +2,7 @@
 
 use darthog_reference::answer::{Answer, Entry};
 use darthog_reference::queue::{due_from_seconds, fresh, Queue, Use};
+use darthog_reference::stated::minutes::{MINUTES, TOO_MANY_SECONDS};
 
 fn steps(queue: &mut Queue, processor: u64, count: u32) -> Answer {
     let mut last = Answer::Moved;
@@ -71,13 +72,29 @@ fn run_1_a_fresh_queue_is_as_described() {
 
 #[test]
 fn run_2_seconds() {
-    assert_eq!(due_from_seconds(0), Ok(0));
-    assert_eq!(due_from_seconds(59), Ok(0));
-    assert_eq!(due_from_seconds(60), Ok(1));
-    assert_eq!(due_from_seconds(119), Ok(1));
-    assert_eq!(due_from_seconds(59_999_999), Ok(999_999));
-    assert_eq!(due_from_seconds(60_000_000), Err(35));
-    assert_eq!(due_from_seconds(u64::MAX), Err(35));
+    for (seconds, minute) in MINUTES {
+        assert_eq!(due_from_seconds(seconds), Ok(minute), "{seconds} seconds");
+    }
+    for seconds in TOO_MANY_SECONDS {
+        assert_eq!(due_from_seconds(seconds), Err(35), "{seconds} seconds");
+    }
+}
+
+/// The counts of the first and of the last five minutes: of all minutes the
+/// given one is nearest, and even where another is as near.
+#[test]
+fn run_2_no_minute_is_nearer() {
+    for seconds in (0..300).chain(59_999_670..=59_999_969) {
+        let minute = u64::from(due_from_seconds(seconds).expect("the count is taken"));
+        let given = seconds.abs_diff(60 * minute);
+        for other in (0..=1_000_000).filter(|other| *other != minute) {
+            let apart = seconds.abs_diff(60 * other);
+            assert!(
+                given < apart || given == apart && minute % 2 == 0,
+                "{seconds} seconds: {minute}, and not {other}"
+            );
+        }
+    }
 }
 
 #[test]
