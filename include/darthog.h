@@ -57,7 +57,7 @@ enum {
     DARTHOG_NO_PROCESSOR = 32,   /* begin and step: the queue has no such processor */
     DARTHOG_BUSY = 33,           /* begin: the processor is busy */
     DARTHOG_IDLE = 34,           /* step: the processor is idle */
-    DARTHOG_TOO_LARGE = 35,      /* Insert: due or item above 999,999; a due minute: seconds above 59,999,969 */
+    DARTHOG_TOO_LARGE = 35,      /* Insert: due or item above 999,999; due: above 59,999,969 s */
     DARTHOG_BAD_HEIGHT = 36,     /* Insert: height not 1 to the queue's levels */
     DARTHOG_NO_NODE = 37         /* Insert: no node that may be used now; later there may be one */
 };
@@ -77,8 +77,8 @@ struct darthog_reply darthog_step(uint8_t *image, size_t length, uint32_t proces
 /* How many nodes are in use. */
 struct darthog_reply darthog_backlog(const uint8_t *image, size_t length);
 
-/* The due minute of a count of seconds: the minute nearest to it, and for half a minute the even one of its two: 89 seconds are 1, 90 and 150 are 2.
- * 35 above 59,999,969 seconds. */
+/* The due minute of a count of seconds: the minute nearest to it, and for half a minute the even
+ * one of its two: 89 seconds are 1, 90 and 150 are 2. Refused with 35 above 59,999,969 seconds. */
 struct darthog_reply darthog_due(uint64_t seconds);
 
 #ifdef __cplusplus

@@ -1,4 +1,5 @@
--- The nearest minute is the only one within half a minute, an odd one within less: so there is one, and it is the computed one. Assumes nothing.
+-- The nearest minute is the only one within half a minute, an odd one within less: so there is one,
+-- and it is the computed one. Assumes nothing.
 use Prim.Native.Nat.{ℕ, _+_, _-_, _*_, _/_, _%_, _≤_, _<_}
 use mathlib.Core.Path.{_≡_, refl, sym, ap, subst}
 use mathlib.Core.Logic.{⊎-elim}
@@ -7,6 +8,7 @@ use lib.Dec.{ltb}
 use native.Mathlib.Nat.{eq-or-lt-of-le}
 use native.Mathlib.Omega.{arith, by-contra}
 use borrow.Author.Tests.{ltb-true, ltb-false}
+use Rattle.record.specs.Limits.{maxNumber}
 use Rattle.checks.specs.Due.{Nearest, nearestMinute, OneNearest, TakenIfDue}
 
 -- s seconds are at most half a minute from m minutes, and less than that if m is odd
@@ -57,8 +59,12 @@ computed-within s = go (ltb (s % 60) 30) refl (ltb 30 (s % 60)) refl
     go :
         (a : Bool) → ltb (s % 60) 30 ≡ a → (b : Bool) → ltb 30 (s % 60) ≡ b →
         Within s (cond a (s / 60) (cond b (s / 60 + 1) (s / 60 + s / 60 % 2)))
-    go true e b f = let h = ltb-true (s % 60) 30 e in record { below = omega arith; above = omega arith }
-    go false e true f = let h = ltb-true 30 (s % 60) f in record { below = omega arith; above = omega arith }
+    go true e b f =
+        let h = ltb-true (s % 60) 30 e in
+        record { below = omega arith; above = omega arith }
+    go false e true f =
+        let h = ltb-true 30 (s % 60) f in
+        record { below = omega arith; above = omega arith }
     go false e false f =
         let h = ltb-false (s % 60) 30 e in
         let i = ltb-false 30 (s % 60) f in
@@ -66,7 +72,9 @@ computed-within s = go (ltb (s % 60) 30) refl (ltb 30 (s % 60)) refl
         record { below = omega arith; above = omega arith }
 
 -- what code shows of a minute that it found
-pub found : (s m : ℕ) → m * 60 + m % 2 ≤ s + 30 → s + m % 2 ≤ m * 60 + 30 → (m ≡ nearestMinute s) × Nearest s m
+pub found :
+    (s m : ℕ) → m * 60 + m % 2 ≤ s + 30 → s + m % 2 ≤ m * 60 + 30 →
+    (m ≡ nearestMinute s) × Nearest s m
 found s m b a =
     let w : Within s m = record { below = b; above = a } in
     (within-one s m (nearestMinute s) w (computed-within s), nearest-of s m w)
@@ -80,7 +88,8 @@ one-nearest s m = (
 -- the minute 999,999 is odd
 pub taken-if-due : TakenIfDue
 taken-if-due s m n =
-    let w = within-of s m n in (
+    let w = within-of s m n in
+    let odd : m ≡ maxNumber → m % 2 ≡ 1 = λ e. ap (λ (x : ℕ). x % 2) e in (
       (λ h. omega arith),
-      (λ h. ⊎-elim (λ e. let o : m % 2 ≡ 1 = ap (λ (x : ℕ). x % 2) e in omega arith) (λ l. omega arith) (eq-or-lt-of-le h)),
+      (λ h. ⊎-elim (λ e. omega (arith, odd e)) (λ l. omega arith) (eq-or-lt-of-le h)),
     )
