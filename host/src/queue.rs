@@ -110,9 +110,10 @@ impl fmt::Debug for Queue {
 }
 
 /// The due minute of a count of seconds: the minute nearest to it. Half a minute
-/// goes to the even one of its two minutes, so that 90 and 150 seconds are both
-/// 2. Refused above 59,999,969 seconds ([`Refusal::TooLarge`]): they are nearest
-/// to a minute above 999,999.
+/// goes to the even one of its two minutes: 89 seconds are 1, 90 and 150 are 2.
+///
+/// Refused above 59,999,969 seconds ([`Refusal::TooLarge`]): they are nearest to
+/// a minute above 999,999.
 pub fn due_minute(seconds: u64) -> Result<u32, Refusal> {
     // Safe: the call takes a number and touches no memory of the host's.
     value(unsafe { raw::darthog_due(seconds) })

@@ -52,7 +52,7 @@ within-one s m k v w =
 even-made : (m : ℕ) → (m + m % 2) % 2 ≡ 0
 even-made m = omega arith
 
--- what is left over is less than half a minute, more, or just that
+-- what is left over is less than half a minute, more, or exactly that
 computed-within : (s : ℕ) → Within s (nearestMinute s)
 computed-within s = go (ltb (s % 60) 30) refl (ltb 30 (s % 60)) refl
   where
