@@ -30,8 +30,8 @@ pub const MINUTES: [(u64, u32); 24] = [
     (59_999_969, 999_999),
 ];
 
-/// The first count that is refused, the last that was taken before W8, and
-/// counts past 32 bits whose lower bits would be taken.
+/// The first counts that are refused, the last that was taken before W8 with
+/// the next, and counts past 32 bits: the lower bits of two would be taken.
 pub const TOO_MANY_SECONDS: [u64; 8] = [
     59_999_970,
     59_999_971,
