@@ -41,3 +41,4 @@ pub mod Demand3
 pub mod BookLaws
 pub mod Meaning
 pub mod LockFacts
+pub mod Items

@@ -354,7 +354,8 @@ insert-does q p due item height =
     on-processor q p _ (λ Q c< p<.
     cond-cases (Leaves q) (isIdle (processorAt q p .stage)) _ _
     (λ w. cond-cases (Leaves q) (ltb maxNumber due || ltb maxNumber item) _ _ (λ x. unchanged)
-    (λ x. cond-cases (Leaves q) (outside height (q .levels)) _ _ (λ y. unchanged)
+    (λ x. cond-cases (Leaves q) (eqb item 0) _ _ (λ _. unchanged)
+    (λ _. cond-cases (Leaves q) (outside height (q .levels)) _ _ (λ y. unchanged)
     (λ y. cond-cases (Leaves q) (eqb (chosen q) 0) _ _ (λ z. unchanged)
     (λ z. applies p (insertDecision q (chosen q) due item height) Q c< p<
     (insert-begins-valid q (chosen q) due item height Q
@@ -363,7 +364,7 @@ insert-does q p due item height =
       due = ltb-false _ _ (or-left _ _ x);
       item = ltb-false _ _ (or-right (ltb maxNumber due) (ltb maxNumber item) x);
       height = in-range height (q .levels) y;
-    }))))))
+    })))))))
     (λ w. unchanged))
 
 delete-does : (q : Queue) (p : ℕ) → Does q (after q (deleteMin p))

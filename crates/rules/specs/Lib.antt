@@ -4,6 +4,7 @@ pub mod Effects
 pub mod Choice
 pub mod Calls
 pub mod Runs
+pub mod Items
 pub mod Book
 pub mod Starred
 pub mod Locks

@@ -1,0 +1,70 @@
+-- Items. A record carries the items of its entries, and no rule looks at them: whatever numbers
+-- stand for them, 0 included, check 21 says the same and every call does the same, with the items in
+-- its answer renamed. Only a begin's own item is looked at, by 35 and 39 (document 02, W10).
+use Prim.Native.Nat.{ℕ, _≤_, _<_}
+use mathlib.Core.Path.{_≡_}
+use mathlib.Core.List.{map}
+use Rattle.record.specs.declared.nodes.Node.{Node}
+use Rattle.record.specs.declared.queues.Queue.{Queue}
+use Rattle.record.specs.Limits.{maxNumber}
+use Rattle.checks.specs.Check.{valid}
+use Rattle.rules.specs.declared.answers.Answer.{Answer}
+use Rattle.rules.specs.declared.answers.Answer.the-variants as ans
+use Rattle.rules.specs.declared.answers.Entry.{Entry}
+use Rattle.rules.specs.Runs.{Call, insert, deleteMin, steps, backlog, Reply, answered, counted, after, reply}
+
+-- new numbers for items: those that are in range and no others come to be in range. 0 stays, which
+-- nodes have that no entry used; any other number may become 0.
+pub record Renaming (f : ℕ → ℕ) : Type 0 where
+  pub zero-stays : f 0 ≡ 0
+  pub inside : (n : ℕ) → n ≤ maxNumber → f n ≤ maxNumber
+  pub outside : (n : ℕ) → maxNumber < n → maxNumber < f n
+
+abbrev pub renamedNode : (ℕ → ℕ) → Node → Node
+renamedNode f n = record { forward = n .forward; locks = n .locks; lock = n .lock; mark = n .mark; stamp = n .stamp; due = n .due; ticket = n .ticket; item = f (n .item); height = n .height; state = n .state }
+
+abbrev pub renamed : (ℕ → ℕ) → Queue → Queue
+renamed f q = record { processors = q .processors; entries = q .entries; levels = q .levels; clock = q .clock; nodes = map (renamedNode f) (q .nodes); callers = q .callers }
+
+abbrev pub renamedEntry : (ℕ → ℕ) → Entry → Entry
+renamedEntry f e = record { due = e .due; item = f (e .item); ticket = e .ticket }
+
+abbrev pub renamedAnswer : (ℕ → ℕ) → Answer → Answer
+renamedAnswer f (ans.Refused n) = ans.Refused n
+renamedAnswer f (ans.Began t) = ans.Began t
+renamedAnswer f ans.Moved = ans.Moved
+renamedAnswer f ans.Waits = ans.Waits
+renamedAnswer f ans.Empty = ans.Empty
+renamedAnswer f (ans.Marked e) = ans.Marked (renamedEntry f e)
+renamedAnswer f (ans.Inserted e) = ans.Inserted (renamedEntry f e)
+renamedAnswer f (ans.HandedOut e) = ans.HandedOut (renamedEntry f e)
+
+abbrev pub renamedReply : (ℕ → ℕ) → Reply → Reply
+renamedReply f (answered a) = answered (renamedAnswer f a)
+renamedReply f (counted c) = counted c
+
+abbrev pub renamedCall : (ℕ → ℕ) → Call → Call
+renamedCall f (insert p due item height) = insert p due (f item) height
+renamedCall f (deleteMin p) = deleteMin p
+renamedCall f (steps p) = steps p
+renamedCall f backlog = backlog
+
+-- the item that a call files; 0 if it files none
+abbrev pub itemOf : Call → ℕ
+itemOf (insert p due item height) = item
+itemOf (deleteMin p) = 0
+itemOf (steps p) = 0
+itemOf backlog = 0
+
+-- check 21 takes a record with the new items exactly if it takes the one with the old
+abbrev pub CheckSeesNoItem : Type 0
+CheckSeesNoItem = (f : ℕ → ℕ) → Renaming f → (q : Queue) → valid (renamed f q) ≡ valid q
+
+-- what a call leaves and gives back, on any record
+pub record SameButItems (f : ℕ → ℕ) (q : Queue) (c : Call) : Type 0 where
+  pub left : after (renamed f q) (renamedCall f c) ≡ renamed f (after q c)
+  pub given : reply (renamed f q) (renamedCall f c) ≡ renamedReply f (reply q c)
+
+-- (an Insert's item does not become 0: 39)
+abbrev pub NoRuleSeesAnItem : Type 0
+NoRuleSeesAnItem = (f : ℕ → ℕ) → Renaming f → (q : Queue) (c : Call) → (f (itemOf c) ≡ 0 → itemOf c ≡ 0) → SameButItems f q c
