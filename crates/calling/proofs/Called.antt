@@ -7,7 +7,6 @@ use lib.Dec.{ltb, leb, eqb}
 use borrow.Author.Tests.{lt-ltb, ltb-true, leb-false, eq-eqb}
 use Rattle.laws.proofs.Booleans.{cond-cases, cond-elim}
 use Rattle.checks.specs.Check.{valid}
-use Rattle.checks.specs.Making.{outside}
 use Rattle.record.specs.declared.queues.Queue.{Queue}
 use Rattle.record.specs.Limits.{maxNumber, maxProcessors, nodeSlots}
 use Rattle.record.specs.Queues.{processorAt}
@@ -15,12 +14,13 @@ use Rattle.record.specs.Stages.{isIdle}
 use Rattle.rules.specs.declared.answers.Outcome.{Outcome}
 use Rattle.rules.specs.declared.decisions.Decision.{Decision}
 use Rattle.rules.specs.Answers.{refused}
-use Rattle.rules.specs.Calls.{insertDecision, deleteDecision, stepDecision, beginInsertValid, beginDeleteValid, stepValid}
+use Rattle.rules.specs.Calls.{insertDecision, deleteDecision, stepDecision, onProcessor, onIdle, beginInsertValid, beginDeleteValid, stepValid}
 use Rattle.rules.specs.Choice.{chosen}
 use Rattle.rules.specs.Effects.{nodeOf, accepted}
-use Rattle.choosing.specs.Begins.{insertBegins, deleteBegins, entryRefused}
+use Rattle.choosing.specs.Begins.{insertBegins, deleteBegins, numbersRefusal}
 use Rattle.queue.proofs.Begun.{chosen-low, height-high, insert-kept, delete-kept}
 use Rattle.choosing.proofs.Bounds.{processor-low, changed-low}
+use Rattle.choosing.proofs.Numbers.{numbers-told, height-taken}
 use Rattle.queue.proofs.Steps.{step-kept}
 use Rattle.sheet.specs.declared.lines.Line.{Line}
 use Rattle.sheet.specs.Letters.{letterD, letterI}
@@ -52,9 +52,9 @@ abbrev pub callDecision : Line → Queue → Decision
 callDecision l q =
     byLetter (l .letter) (insertDecision q (chosen q) (l .second) (l .third) (l .fourth)) (deleteDecision q) (stepDecision q (processorAt q (l .first)))
 
--- the refusals, of tests alone: i and d say the letter, a the clock, b the processor, e and h the numbers, ch the node
-abbrev refusalBy : Bool → Bool → Bool → Bool → Bool → Bool → Bool → ℕ
-refusalBy i d a b idle e h = cond a 31 (cond b 32 (cond i (cond idle (cond e 35 (cond h 36 0)) 33) (cond d (cond idle 0 33) (cond idle 34 0))))
+-- the refusals, of tests alone: i and d say the letter, a the clock, b the processor, n the numbers' refusal, ch the node
+abbrev refusalBy : Bool → Bool → Bool → Bool → Bool → ℕ → ℕ
+refusalBy i d a b idle n = cond a 31 (cond b 32 (cond i (cond idle n 33) (cond d (cond idle 0 33) (cond idle 34 0))))
 
 abbrev nodeBy : Bool → ℕ → ℕ → ℕ
 nodeBy i r ch = cond (cond i (eqb r 0) false) ch 0
@@ -63,64 +63,62 @@ abbrev wholeBy : Bool → ℕ → ℕ → ℕ
 wholeBy i r x = cond (ltb 0 r) r (cond i (cond (eqb x 0) 37 0) 0)
 
 module _ {A : Type 0} (R : ℕ → A) (okI okD okS : A) (ch : ℕ) where
-  abbrev outcomeBy : Bool → Bool → Bool → Bool → Bool → Bool → Bool → A
-  outcomeBy i d a b idle e h =
-      cond i (cond a (R 31) (cond b (R 32) (cond idle (cond e (R 35) (cond h (R 36) (cond (eqb ch 0) (R 37) okI))) (R 33))))
+  abbrev outcomeBy : Bool → Bool → Bool → Bool → Bool → ℕ → A
+  outcomeBy i d a b idle n =
+      cond i (cond a (R 31) (cond b (R 32) (cond idle (cond (ltb 0 n) (R n) (cond (eqb ch 0) (R 37) okI)) (R 33))))
       (cond d (cond a (R 31) (cond b (R 32) (cond idle okD (R 33)))) (cond a (R 31) (cond b (R 32) (cond idle (R 34) okS))))
 
-  abbrev wholeAt : Bool → Bool → Bool → Bool → Bool → Bool → Bool → ℕ
-  wholeAt i d a b idle e h = wholeBy i (refusalBy i d a b idle e h) (nodeBy i (refusalBy i d a b idle e h) ch)
+  abbrev wholeAt : Bool → Bool → Bool → Bool → Bool → ℕ → ℕ
+  wholeAt i d a b idle n = wholeBy i (refusalBy i d a b idle n) (nodeBy i (refusalBy i d a b idle n) ch)
 
   node-last : (z : Bool) → cond z (R 37) okI ≡ cond (ltb 0 (cond z 37 0)) (R (cond z 37 0)) okI
   node-last true = refl
   node-last false = refl
 
   by-tests :
-      (i d a b idle e h : Bool) →
-      outcomeBy i d a b idle e h ≡ cond (ltb 0 (wholeAt i d a b idle e h)) (R (wholeAt i d a b idle e h)) (cond i okI (cond d okD okS))
-  by-tests true d true b idle e h = refl
-  by-tests true d false true idle e h = refl
-  by-tests true d false false false e h = refl
-  by-tests true d false false true true h = refl
-  by-tests true d false false true false true = refl
-  by-tests true d false false true false false = node-last (eqb ch 0)
-  by-tests false true true b idle e h = refl
-  by-tests false true false true idle e h = refl
-  by-tests false true false false false e h = refl
-  by-tests false true false false true e h = refl
-  by-tests false false true b idle e h = refl
-  by-tests false false false true idle e h = refl
-  by-tests false false false false false e h = refl
-  by-tests false false false false true e h = refl
+      (i d a b idle : Bool) (n : ℕ) →
+      outcomeBy i d a b idle n ≡ cond (ltb 0 (wholeAt i d a b idle n)) (R (wholeAt i d a b idle n)) (cond i okI (cond d okD okS))
+  by-tests true d true b idle n = refl
+  by-tests true d false true idle n = refl
+  by-tests true d false false false n = refl
+  by-tests true d false false true zero = node-last (eqb ch 0)
+  by-tests true d false false true (suc n) = refl
+  by-tests false true true b idle n = refl
+  by-tests false true false true idle n = refl
+  by-tests false true false false false n = refl
+  by-tests false true false false true n = refl
+  by-tests false false true b idle n = refl
+  by-tests false false false true idle n = refl
+  by-tests false false false false false n = refl
+  by-tests false false false false true n = refl
 
   -- a processor that is not there: whether it is idle does not matter
-  same-idle : (i d a b s t e h : Bool) → (b ≡ false → s ≡ t) → outcomeBy i d a b s e h ≡ outcomeBy i d a b t e h
-  same-idle i d a false s t e h k = ap (λ (x : Bool). outcomeBy i d a false x e h) (k refl)
-  same-idle true d true true s t e h k = refl
-  same-idle true d false true s t e h k = refl
-  same-idle false true true true s t e h k = refl
-  same-idle false true false true s t e h k = refl
-  same-idle false false true true s t e h k = refl
-  same-idle false false false true s t e h k = refl
+  same-idle : (i d a b s t : Bool) (n : ℕ) → (b ≡ false → s ≡ t) → outcomeBy i d a b s n ≡ outcomeBy i d a b t n
+  same-idle i d a false s t n k = ap (λ (x : Bool). outcomeBy i d a false x n) (k refl)
+  same-idle true d true true s t n k = refl
+  same-idle true d false true s t n k = refl
+  same-idle false true true true s t n k = refl
+  same-idle false true false true s t n k = refl
+  same-idle false false true true s t n k = refl
+  same-idle false false false true s t n k = refl
 
 -- what a call that is not refused has passed
-record Passed (i a b h : Bool) (r x ch : ℕ) : Type 0 where
+record Passed (i a b : Bool) (n r x ch : ℕ) : Type 0 where
   clock : a ≡ false
   known : b ≡ false
-  numbers : i ≡ true → (h ≡ false) × (x ≡ ch)
+  numbers : i ≡ true → (n ≡ 0) × (x ≡ ch)
 
 passed :
-    (i d a b idle e h : Bool) (ch x : ℕ) →
-    x ≡ nodeBy i (refusalBy i d a b idle e h) ch →
-    wholeBy i (refusalBy i d a b idle e h) x ≡ 0 →
-    Passed i a b h (refusalBy i d a b idle e h) x ch
-passed i d true b idle e h ch x f k = absurd (omega arith)
-passed i d false true idle e h ch x f k = absurd (omega arith)
-passed true d false false false e h ch x f k = absurd (omega arith)
-passed true d false false true true h ch x f k = absurd (omega arith)
-passed true d false false true false true ch x f k = absurd (omega arith)
-passed true d false false true false false ch x f k = record { clock = refl; known = refl; numbers = λ _. (refl, f) }
-passed false d false false idle e h ch x f k = record { clock = refl; known = refl; numbers = λ t. absurd (false≢true t) }
+    (i d a b idle : Bool) (n ch x : ℕ) →
+    x ≡ nodeBy i (refusalBy i d a b idle n) ch →
+    wholeBy i (refusalBy i d a b idle n) x ≡ 0 →
+    Passed i a b n (refusalBy i d a b idle n) x ch
+passed i d true b idle n ch x f k = absurd (omega arith)
+passed i d false true idle n ch x f k = absurd (omega arith)
+passed true d false false false n ch x f k = absurd (omega arith)
+passed true d false false true (suc n) ch x f k = absurd (omega arith)
+passed true d false false true zero ch x f k = record { clock = refl; known = refl; numbers = λ _. (refl, f) }
+passed false d false false idle n ch x f k = record { clock = refl; known = refl; numbers = λ t. absurd (false≢true t) }
 
 pub slot-known : (q : Queue) (p : ℕ) → leb (q .processors) p ≡ false → slotOf p (q .processors) ≡ p
 slot-known q p h = ap (λ (b : Bool). cond b p 0) (lt-ltb p (q .processors) (leb-false (q .processors) p h))
@@ -147,14 +145,15 @@ module _ (l : Line) (q : Queue) (x : ℕ) (known : x ≡ nodeFor l q) where
       let a = leb maxNumber (q .clock) in
       let b = leb (q .processors) (l .first) in
       let s = isIdle (processorAt q (slotOf (l .first) (q .processors)) .stage) in
-      let e = entryRefused (l .second) (l .third) in
-      let h = outside (l .fourth) (q .levels) in
+      let n = numbersRefusal (l .second) (l .third) (l .fourth) (q .levels) in
       let fill = insertDecision q (chosen q) (l .second) (l .third) (l .fourth) in
       let walk = deleteDecision q in
       let go = stepDecision q (processorAt q (l .first)) in
-      same-idle (refused q) (accepted q (l .first) fill) (accepted q (l .first) walk) (accepted q (l .first) go) (chosen q) i d a b (isIdle (processorAt q (l .first) .stage)) s e h
+      ap (λ (o : Outcome). byLetter (l .letter) (onProcessor q (l .first) (onIdle q (l .first) o)) (beginDeleteValid q (l .first)) (stepValid q (l .first)))
+      (numbers-told q (l .second) (l .third) (l .fourth) (accepted q (l .first) fill))
+      ∙ same-idle (refused q) (accepted q (l .first) fill) (accepted q (l .first) walk) (accepted q (l .first) go) (chosen q) i d a b (isIdle (processorAt q (l .first) .stage)) s n
       (λ k. ap (λ (p : ℕ). isIdle (processorAt q p .stage)) (sym (slot-known q (l .first) k)))
-      ∙ by-tests (refused q) (accepted q (l .first) fill) (accepted q (l .first) walk) (accepted q (l .first) go) (chosen q) i d a b s e h
+      ∙ by-tests (refused q) (accepted q (l .first) fill) (accepted q (l .first) walk) (accepted q (l .first) go) (chosen q) i d a b s n
       ∙ ap (λ (y : ℕ). cond (ltb 0 (refusalOn l q y)) (refused q (refusalOn l q y)) (cond i (accepted q (l .first) fill) (cond d (accepted q (l .first) walk) (accepted q (l .first) go)))) (sym known)
       ∙ ap (λ (o : Outcome). cond (ltb 0 (refusalOn l q x)) (refused q (refusalOn l q x)) o) (decided-by fill walk go i d)
 
@@ -170,10 +169,10 @@ module _ (l : Line) (q : Queue) (x : ℕ) (known : x ≡ nodeFor l q) where
 
   facts :
       refusalOn l q x ≡ 0 →
-      Passed (eqb (l .letter) letterI) (leb maxNumber (q .clock)) (leb (q .processors) (l .first)) (outside (l .fourth) (q .levels)) (early l q) x (chosen q)
+      Passed (eqb (l .letter) letterI) (leb maxNumber (q .clock)) (leb (q .processors) (l .first)) (numbersRefusal (l .second) (l .third) (l .fourth) (q .levels)) (early l q) x (chosen q)
   facts h =
       passed (eqb (l .letter) letterI) (eqb (l .letter) letterD) (leb maxNumber (q .clock)) (leb (q .processors) (l .first))
-      (isIdle (processorAt q (slotOf (l .first) (q .processors)) .stage)) (entryRefused (l .second) (l .third)) (outside (l .fourth) (q .levels)) (chosen q) x known h
+      (isIdle (processorAt q (slotOf (l .first) (q .processors)) .stage)) (numbersRefusal (l .second) (l .third) (l .fourth) (q .levels)) (chosen q) x known h
 
   pub clock-low : refusalOn l q x ≡ 0 → q .clock < maxNumber
   clock-low h = leb-false maxNumber (q .clock) (facts h .clock)
@@ -186,7 +185,8 @@ module _ (l : Line) (q : Queue) (x : ℕ) (known : x ≡ nodeFor l q) where
 
   pub height-low : valid q ≡ true → refusalOn l q x ≡ 0 → l .letter ≡ letterI → l .fourth ≤ 255
   height-low v h i =
-      let k = height-high q (l .fourth) v (facts h .numbers (eq-eqb (l .letter) letterI i) .0) in
+      let t = height-taken (l .second) (l .third) (l .fourth) (q .levels) (facts h .numbers (eq-eqb (l .letter) letterI i) .0) in
+      let k = height-high q (l .fourth) v t in
       omega (arith, k)
 
   -- what is decided

@@ -5,7 +5,6 @@ use Prim.Native.Nat.{ℕ}
 use mathlib.Core.Bool.{Bool, true, false, cond}
 use mathlib.Core.List.{List}
 use lib.Dec.{ltb, leb, eqb}
-use Rattle.checks.specs.Making.{outside}
 use Rattle.record.specs.declared.stages.Stage.{Stage}
 use Rattle.record.specs.Limits.{maxNumber}
 use Rattle.rules.specs.declared.answers.Answer.{Answer}
@@ -13,7 +12,7 @@ use Rattle.rules.specs.declared.answers.Answer.the-variants as ans
 use Rattle.rules.specs.declared.decisions.Decision.{Decision}
 use Rattle.rules.specs.declared.decisions.Sight.{Sight}
 use Rattle.rules.specs.Decide.{decide}
-use Rattle.choosing.specs.Begins.{insertBegins, deleteBegins, entryRefused}
+use Rattle.choosing.specs.Begins.{insertBegins, deleteBegins, numbersRefusal}
 use Rattle.sheet.specs.declared.events.Event.{Event}
 use Rattle.sheet.specs.declared.lines.Line.{Line}
 use Rattle.sheet.specs.Events.{event, entryEvent, beginEvents, stepEvents}
@@ -31,16 +30,12 @@ callsOf l = byLetter (l .letter) 1 1 (l .second)
 abbrev pub slotOf : ℕ → ℕ → ℕ
 slotOf p processors = cond (ltb p processors) p 0
 
--- 35 and 36, or 0
-abbrev pub numbersRefusal : ℕ → ℕ → ℕ → ℕ → ℕ
-numbersRefusal due item height levels = cond (entryRefused due item) 35 (cond (outside height levels) 36 0)
-
--- 33 to 36, or 0: of a processor that is idle or not
+-- 33 to 36 or 39, or 0: of a processor that is idle or not
 abbrev pub lineRefusal : Line → ℕ → Bool → ℕ
 lineRefusal l levels idle =
     byLetter (l .letter) (cond idle (numbersRefusal (l .second) (l .third) (l .fourth) levels) 33) (cond idle 0 33) (cond idle 34 0)
 
--- 31 to 36, or 0
+-- 31 to 36 or 39, or 0
 abbrev pub callRefusal : Line → ℕ → ℕ → ℕ → Bool → ℕ
 callRefusal l clock processors levels idle =
     cond (leb maxNumber clock) 31 (cond (leb processors (l .first)) 32 (lineRefusal l levels idle))

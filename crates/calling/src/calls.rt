@@ -1,9 +1,8 @@
 // How many calls a line makes, and the refusal that one of them meets.
 ghost use mathlib.Core.Path.{_≡_};
-ghost use Rattle.calling.specs.Calls.{callsOf, slotOf, numbersRefusal, lineRefusal, callRefusal, asksNode, withNode};
+ghost use Rattle.calling.specs.Calls.{callsOf, slotOf, lineRefusal, callRefusal, asksNode, withNode};
 use checks::limits::NUMBER;
-use choosing::begins::entry_refused;
-use choosing::begins::height_refused;
+use choosing::begins::numbers_refusal;
 use sheet::Line;
 use sheet::letters::LETTER_D;
 use sheet::letters::LETTER_I;
@@ -29,21 +28,7 @@ pub fn slot_of(processor: u32, processors: u8) -> usize
     }
 }
 
-// 35 and 36, or 0.
-fn numbers_refusal(due: u32, item: u32, height: u32, levels: u8) -> u8
-    ensures { λ r. ⌜ r ≡ numbersRefusal due item height levels ⌝ }
-{
-    if entry_refused(due, item) {
-        return 35;
-    }
-    if height_refused(height, levels) {
-        36
-    } else {
-        0
-    }
-}
-
-// 33 to 36, or 0: of a processor that is idle or not.
+// 33 to 36 or 39, or 0: of a processor that is idle or not.
 fn line_refusal(l: Line, levels: u8, idle: bool) -> u8
     ensures { λ r. ⌜ r ≡ lineRefusal l levels idle ⌝ }
 {
@@ -62,7 +47,7 @@ fn line_refusal(l: Line, levels: u8, idle: bool) -> u8
     if idle { 34 } else { 0 }
 }
 
-// 31 to 36, or 0.
+// 31 to 36 or 39, or 0.
 pub fn call_refusal(l: Line, clock: u32, processors: u8, levels: u8, idle: bool) -> u8
     ensures { λ r. ⌜ r ≡ callRefusal l clock processors levels idle ⌝ }
 {

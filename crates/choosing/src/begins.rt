@@ -1,7 +1,7 @@
 // What a begin decides, and the refusals that an Insert's numbers have.
 ghost use mathlib.Core.Path.{_≡_};
 ghost use Rattle.checks.specs.Making.{outside};
-ghost use Rattle.choosing.specs.Begins.{insertBegins, deleteBegins, entryRefused};
+ghost use Rattle.choosing.specs.Begins.{insertBegins, deleteBegins, entryRefused, numbersRefusal};
 use checks::limits::NUMBER;
 use record::Delete;
 use record::Insert;
@@ -13,20 +13,37 @@ use rules::Decision;
 use rules::Effect;
 
 // 35: due or item above 999,999.
-pub fn entry_refused(due: u32, item: u32) -> bool
+fn entry_refused(due: u32, item: u32) -> bool
     ensures { λ r. ⌜ r ≡ entryRefused due item ⌝ }
 {
     if NUMBER < due { true } else { NUMBER < item }
 }
 
 // 36: height not 1 to L.
-pub fn height_refused(height: u32, levels: u8) -> bool
+fn height_refused(height: u32, levels: u8) -> bool
     ensures { λ r. ⌜ r ≡ outside height levels ⌝ }
 {
     if height < 1 {
         true
     } else {
         (levels as u32) < height
+    }
+}
+
+// 35; 39, item 0; 36: what an Insert's numbers are refused with, or 0.
+pub fn numbers_refusal(due: u32, item: u32, height: u32, levels: u8) -> u8
+    ensures { λ r. ⌜ r ≡ numbersRefusal due item height levels ⌝ }
+{
+    if entry_refused(due, item) {
+        return 35;
+    }
+    if item == 0 {
+        return 39;
+    }
+    if height_refused(height, levels) {
+        36
+    } else {
+        0
     }
 }
 

@@ -6,7 +6,7 @@ use Prim.Native.Nat.{ℕ, zero, suc, _+_, _≤_, _<_}
 use native.Mathlib.Omega.{arith}
 use lib.Dec.{ltb}
 use lib.ListN.{length, getD, set}
-use borrow.Author.Tests.{lt-leb, ne-eqb, ltb-false}
+use borrow.Author.Tests.{lt-leb, lt-ltb, eq-eqb, ne-eqb, ltb-false}
 use Rattle.laws.proofs.Booleans.{or-right}
 use Rattle.record.specs.declared.nodes.Node.{Node}
 use Rattle.record.specs.declared.queues.Processor.{Processor}
@@ -20,15 +20,16 @@ use Rattle.record.specs.Stages.{isIdle}
 use Rattle.rules.specs.declared.answers.Outcome.{Outcome}
 use Rattle.rules.specs.declared.decisions.Decision.{Decision}
 use Rattle.rules.specs.Answers.{refused}
-use Rattle.rules.specs.Calls.{insertDecision, deleteDecision, beginInsertValid, beginDeleteValid, beginInsert, beginDelete}
+use Rattle.rules.specs.Calls.{insertDecision, deleteDecision, onProcessor, onIdle, beginInsertValid, beginDeleteValid, beginInsert, beginDelete}
 use Rattle.rules.specs.Choice.{chosen}
 use Rattle.rules.specs.Effects.{nodeOf, processorAfter, accepted}
 use Rattle.rules.specs.Runs.{Call, insert, deleteMin, after}
 use Rattle.rules.proofs.Valid.{kept-valid}
 use Rattle.rules.proofs.ValidDecisions.{chosen-high}
 use Rattle.rules.proofs.ValidFacts.{valid-facts}
-use Rattle.choosing.specs.Begins.{insertBegins, entryRefused}
+use Rattle.choosing.specs.Begins.{insertBegins, numbersRefusal}
 use Rattle.choosing.proofs.Bounds.{entries-high}
+use Rattle.choosing.proofs.Numbers.{numbers-told}
 
 -- a list written at its first place with what stands there
 first-again : {A : Type 0} (l : List A) (d : A) → 0 < length l → set l 0 (getD l 0 d) ≡ l
@@ -61,15 +62,39 @@ module _ (q : Queue) (p due item height : ℕ) where
       q .clock < maxNumber →
       p < q .processors →
       isIdle (processorAt q p .stage) ≡ true →
-      entryRefused due item ≡ false →
-      outside height (q .levels) ≡ false →
+      numbersRefusal due item height (q .levels) ≡ 0 →
       (x : ℕ) →
       x ≡ chosen q →
       (x ≡ 0 → ⊥) →
       beginInsertValid q p due item height ≡ accepted q p (insertDecision q (chosen q) due item height)
-  insert-accepted c h b e f x g some =
+  insert-accepted c h b e x g some =
       let z : (chosen q ≡ 0 → ⊥) = λ y. some (g ∙ y) in
-      simp (lt-leb _ _ c, lt-leb _ _ h, b, e, f, ne-eqb (chosen q) 0 z)
+      let d = insertDecision q (chosen q) due item height in
+      ap (λ (o : Outcome). onProcessor q p (onIdle q p o)) (numbers-told q due item height (accepted q p d))
+      ∙ simp (lt-leb _ _ c, lt-leb _ _ h, b, e, ne-eqb (chosen q) 0 z)
+
+  -- an Insert whose numbers are refused
+  pub insert-told :
+      q .clock < maxNumber →
+      p < q .processors →
+      isIdle (processorAt q p .stage) ≡ true →
+      0 < numbersRefusal due item height (q .levels) →
+      beginInsertValid q p due item height ≡ refused q (numbersRefusal due item height (q .levels))
+  insert-told c h b e =
+      ap (λ (o : Outcome). onProcessor q p (onIdle q p o)) (numbers-told q due item height _)
+      ∙ simp (lt-leb _ _ c, lt-leb _ _ h, b, lt-ltb _ _ e)
+
+  -- one that has no node
+  pub insert-without :
+      q .clock < maxNumber →
+      p < q .processors →
+      isIdle (processorAt q p .stage) ≡ true →
+      numbersRefusal due item height (q .levels) ≡ 0 →
+      chosen q ≡ 0 →
+      beginInsertValid q p due item height ≡ refused q 37
+  insert-without c h b e n =
+      ap (λ (o : Outcome). onProcessor q p (onIdle q p o)) (numbers-told q due item height _)
+      ∙ simp (lt-leb _ _ c, lt-leb _ _ h, b, e, eq-eqb (chosen q) 0 n)
 
   pub insert-inner : valid q ≡ true → beginInsert q p due item height ≡ beginInsertValid q p due item height
   insert-inner v = ap (λ (b : Bool). cond b (beginInsertValid q p due item height) (refused q 21)) v

@@ -4,9 +4,8 @@ ghost use mathlib.Core.Bool.{true};
 ghost use Rattle.checks.specs.Check.{valid as validOf};
 ghost use Rattle.rules.specs.Calls.{beginInsertValid};
 use checks::limits::NUMBER;
-use choosing::begins::entry_refused;
-use choosing::begins::height_refused;
 use choosing::begins::insert_begins;
+use choosing::begins::numbers_refusal;
 use choosing::choice::choose;
 use parts::effects::changed;
 use parts::effects::processor_after;
@@ -50,16 +49,11 @@ pub fn begin_insert_valid(mut q: Queue, processor: u32, due: u32, item: u32, hei
             answer: Answer::Refused(33),
         };
     }
-    if entry_refused(due, item) {
+    let refusal = numbers_refusal(due, item, height, q.levels);
+    if 0 < refusal {
         return Outcome {
             queue: q,
-            answer: Answer::Refused(35),
-        };
-    }
-    if height_refused(height, q.levels) {
-        return Outcome {
-            queue: q,
-            answer: Answer::Refused(36),
+            answer: Answer::Refused(refusal),
         };
     }
     let x = choose(q);

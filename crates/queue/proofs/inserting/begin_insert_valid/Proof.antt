@@ -1,6 +1,6 @@
-use mathlib.Core.Path.{_≡_, refl, sym, ap, _∙_}
+use mathlib.Core.Path.{_≡_, refl, sym, ap, _∙_, subst}
 use mathlib.Core.Bool.{true, false}
-use Prim.Native.Nat.{ℕ, _+_, _<_}
+use Prim.Native.Nat.{ℕ, _+_, _≤_, _<_}
 use native.Mathlib.Omega.{arith}
 use borrow.Author.Needs.{needs}
 use borrow.Author.Tests.{le-leb, lt-leb, eq-eqb, not-true, not-false}
@@ -8,14 +8,18 @@ use Rattle.record.specs.declared.queues.Processor.{Processor}
 use Rattle.record.specs.Queues.{processorAt}
 use Rattle.record.specs.Stages.{isIdle}
 use Rattle.checks.proofs.Reading.{node-read, processor-read}
-use Rattle.checks.specs.Making.{outside}
+use Rattle.rules.specs.Answers.{refused}
 use Rattle.rules.specs.Choice.{chosen}
-use Rattle.choosing.specs.Begins.{entryRefused}
+use Rattle.choosing.specs.Begins.{numbersRefusal}
 use Rattle.choosing.proofs.Bounds.{nodes-long, callers-long, entries-high, processor-low}
+use Rattle.choosing.proofs.Numbers.{height-taken}
 use Rattle.queue.proofs.Steps.{changes}
-use Rattle.queue.proofs.Begun.{chosen-low, height-high, insert-decided, insert-takes, insert-accepted, insert-kept}
+use Rattle.queue.proofs.Begun.{chosen-low, height-high, insert-decided, insert-takes, insert-told, insert-without, insert-accepted, insert-kept}
 use Rattle.queue.proofs.inserting.begin_insert_valid.Statement.{statement}
 use Rattle.queue.proofs.inserting.begin_insert_valid.Tie as tie
+
+zero-of : (n : ℕ) → n ≤ 0 → n ≡ 0
+zero-of n h = omega arith
 
 returns : tie.Need-returns
 returns c =
@@ -72,59 +76,54 @@ returns-3 c =
     let idle : isIdle (processorAt q p .stage) ≡ false = ap (λ (x : Processor). isIdle (x .stage)) (sym read) ∙ (sym (c .before .is-idle .ensures) ∙ not-true _ (c .if3 .taken)) in
     insert-kept q p (c .before .before .before .before .before .args .due) (c .before .before .before .before .before .args .item) (c .before .before .before .before .before .args .height) _ v (simp (idle, lt-leb _ _ (c .before .before .before .if2 .left), lt-leb _ _ (c .before .before .before .before .if1 .left)))
 
-entry-refused-requires : tie.Need-entry-refused-requires
-entry-refused-requires c κs = search needs
+numbers-refusal-requires : tie.Need-numbers-refusal-requires
+numbers-refusal-requires c κs = search needs
 
 returns-4 : tie.Need-returns-4
 returns-4 c =
     let q = c .before .before .before .before .before .before .before .args .t1 in
     let p = c .before .before .before .before .before .before .before .args .processor in
     let v = c .before .before .before .before .before .before .before .pre in
+    let due = c .before .before .before .before .before .before .before .args .due in
+    let item = c .before .before .before .before .before .before .before .args .item in
+    let height = c .before .before .before .before .before .before .before .args .height in
     let low = processor-low q p v (c .before .before .before .before .before .if2 .left) in
     let read = processor-read q p (callers-long q (c .before .before .before .before .before .before .before .good .0 .1 .1 .1 .1 .1 .1 .1 .0 .1 .0 .1)) low in
     let idle : isIdle (processorAt q p .stage) ≡ true = ap (λ (x : Processor). isIdle (x .stage)) (sym read) ∙ (sym (c .before .before .before .is-idle .ensures) ∙ not-false _ (c .before .before .if3 .left)) in
-    let entry : entryRefused (c .before .before .before .before .before .before .before .args .due) (c .before .before .before .before .before .before .before .args .item) ≡ true = sym (c .before .entry-refused .ensures) ∙ c .if4 .taken in
-    insert-kept q p (c .before .before .before .before .before .before .before .args .due) (c .before .before .before .before .before .before .before .args .item) (c .before .before .before .before .before .before .before .args .height) _ v (simp (entry, idle, lt-leb _ _ (c .before .before .before .before .before .if2 .left), lt-leb _ _ (c .before .before .before .before .before .before .if1 .left)))
+    let n = c .before .numbers-refusal .ensures in
+    insert-kept q p due item height _ v
+    (ap (refused q) n ∙ sym (insert-told q p due item height (c .before .before .before .before .before .before .if1 .left) (c .before .before .before .before .before .if2 .left) idle (subst (λ (k : ℕ). 0 < k) n (c .if4 .taken))))
 
-height-refused-requires : tie.Need-height-refused-requires
-height-refused-requires c κs = search needs
+choose-requires : tie.Need-choose-requires
+choose-requires c κs = c .before .before .before .before .before .before .before .pre
 
 returns-5 : tie.Need-returns-5
 returns-5 c =
     let q = c .before .before .before .before .before .before .before .before .before .args .t1 in
     let p = c .before .before .before .before .before .before .before .before .before .args .processor in
     let v = c .before .before .before .before .before .before .before .before .before .pre in
+    let due = c .before .before .before .before .before .before .before .before .before .args .due in
+    let item = c .before .before .before .before .before .before .before .before .before .args .item in
+    let height = c .before .before .before .before .before .before .before .before .before .args .height in
     let low = processor-low q p v (c .before .before .before .before .before .before .before .if2 .left) in
     let read = processor-read q p (callers-long q (c .before .before .before .before .before .before .before .before .before .good .0 .1 .1 .1 .1 .1 .1 .1 .0 .1 .0 .1)) low in
     let idle : isIdle (processorAt q p .stage) ≡ true = ap (λ (x : Processor). isIdle (x .stage)) (sym read) ∙ (sym (c .before .before .before .before .before .is-idle .ensures) ∙ not-false _ (c .before .before .before .before .if3 .left)) in
-    let entry : entryRefused (c .before .before .before .before .before .before .before .before .before .args .due) (c .before .before .before .before .before .before .before .before .before .args .item) ≡ false = sym (c .before .before .before .entry-refused .ensures) ∙ c .before .before .if4 .left in
-    let tall : outside (c .before .before .before .before .before .before .before .before .before .args .height) (q .levels) ≡ true = sym (c .before .height-refused .ensures) ∙ c .if5 .taken in
-    insert-kept q p (c .before .before .before .before .before .before .before .before .before .args .due) (c .before .before .before .before .before .before .before .before .before .args .item) (c .before .before .before .before .before .before .before .before .before .args .height) _ v (simp (tall, entry, idle, lt-leb _ _ (c .before .before .before .before .before .before .before .if2 .left), lt-leb _ _ (c .before .before .before .before .before .before .before .before .if1 .left)))
-
-choose-requires : tie.Need-choose-requires
-choose-requires c κs = c .before .before .before .before .before .before .before .before .before .pre
-
-returns-6 : tie.Need-returns-6
-returns-6 c =
-    let q = c .before .before .before .before .before .before .before .before .before .before .before .args .t1 in
-    let p = c .before .before .before .before .before .before .before .before .before .before .before .args .processor in
-    let v = c .before .before .before .before .before .before .before .before .before .before .before .pre in
-    let low = processor-low q p v (c .before .before .before .before .before .before .before .before .before .if2 .left) in
-    let read = processor-read q p (callers-long q (c .before .before .before .before .before .before .before .before .before .before .before .good .0 .1 .1 .1 .1 .1 .1 .1 .0 .1 .0 .1)) low in
-    let idle : isIdle (processorAt q p .stage) ≡ true = ap (λ (x : Processor). isIdle (x .stage)) (sym read) ∙ (sym (c .before .before .before .before .before .before .before .is-idle .ensures) ∙ not-false _ (c .before .before .before .before .before .before .if3 .left)) in
-    let entry : entryRefused (c .before .before .before .before .before .before .before .before .before .before .before .args .due) (c .before .before .before .before .before .before .before .before .before .before .before .args .item) ≡ false = sym (c .before .before .before .before .before .entry-refused .ensures) ∙ c .before .before .before .before .if4 .left in
-    let tall : outside (c .before .before .before .before .before .before .before .before .before .before .before .args .height) (q .levels) ≡ false = sym (c .before .before .before .height-refused .ensures) ∙ c .before .before .if5 .left in
-    let none = eq-eqb (chosen q) 0 (sym (c .before .choose .ensures) ∙ c .if6 .taken) in
-    insert-kept q p (c .before .before .before .before .before .before .before .before .before .before .before .args .due) (c .before .before .before .before .before .before .before .before .before .before .before .args .item) (c .before .before .before .before .before .before .before .before .before .before .before .args .height) _ v (simp (none, tall, entry, idle, lt-leb _ _ (c .before .before .before .before .before .before .before .before .before .if2 .left), lt-leb _ _ (c .before .before .before .before .before .before .before .before .before .before .if1 .left)))
+    let numbers : numbersRefusal due item height (q .levels) ≡ 0 = sym (c .before .before .before .numbers-refusal .ensures) ∙ zero-of _ (c .before .before .if4 .left) in
+    let none : chosen q ≡ 0 = sym (c .before .choose .ensures) ∙ c .if5 .taken in
+    insert-kept q p due item height _ v
+    (sym (insert-without q p due item height (c .before .before .before .before .before .before .before .before .if1 .left) (c .before .before .before .before .before .before .before .if2 .left) idle numbers none))
 
 cast-insert-begins : tie.Need-cast-insert-begins
 cast-insert-begins c =
-    let q = c .before .before .before .before .before .before .before .before .before .before .before .args .t1 in
-    let p = c .before .before .before .before .before .before .before .before .before .before .before .args .processor in
-    let v = c .before .before .before .before .before .before .before .before .before .before .before .pre in
-    let low = processor-low q p v (c .before .before .before .before .before .before .before .before .before .if2 .left) in
-    let tall : outside (c .before .before .before .before .before .before .before .before .before .before .before .args .height) (q .levels) ≡ false = sym (c .before .before .before .height-refused .ensures) ∙ c .before .before .if5 .left in
-    let h = height-high q (c .before .before .before .before .before .before .before .before .before .before .before .args .height) v tall in
+    let q = c .before .before .before .before .before .before .before .before .before .args .t1 in
+    let p = c .before .before .before .before .before .before .before .before .before .args .processor in
+    let v = c .before .before .before .before .before .before .before .before .before .pre in
+    let due = c .before .before .before .before .before .before .before .before .before .args .due in
+    let item = c .before .before .before .before .before .before .before .before .before .args .item in
+    let height = c .before .before .before .before .before .before .before .before .before .args .height in
+    let low = processor-low q p v (c .before .before .before .before .before .before .before .if2 .left) in
+    let numbers : numbersRefusal due item height (q .levels) ≡ 0 = sym (c .before .before .before .numbers-refusal .ensures) ∙ zero-of _ (c .before .before .if4 .left) in
+    let h = height-high q height v (height-taken due item height (q .levels) numbers) in
     omega arith
 
 insert-begins-requires : tie.Need-insert-begins-requires
@@ -138,7 +137,7 @@ mul-n c = search needs
 
 element-copy-out-n : tie.Need-element-copy-out-n
 element-copy-out-n c =
-    chosen-low (c .before .before .before .before .before .before .before .before .before .before .before .before .args .t1) _ (c .before .before .before .before .before .before .before .before .before .before .before .before .pre) (c .before .before .choose .ensures)
+    chosen-low (c .before .before .before .before .before .before .before .before .before .before .args .t1) _ (c .before .before .before .before .before .before .before .before .before .before .pre) (c .before .before .choose .ensures)
 
 changed-requires : tie.Need-changed-requires
 changed-requires c κs = search needs
@@ -151,44 +150,43 @@ mul-m c = search needs
 
 element-set-from-m : tie.Need-element-set-from-m
 element-set-from-m c =
-    chosen-low (c .before .before .before .before .before .before .before .before .before .before .before .before .before .before .before .args .t1) _ (c .before .before .before .before .before .before .before .before .before .before .before .before .before .before .before .pre) (c .before .before .before .before .before .choose .ensures)
+    chosen-low (c .before .before .before .before .before .before .before .before .before .before .before .before .before .args .t1) _ (c .before .before .before .before .before .before .before .before .before .before .before .before .before .pre) (c .before .before .before .before .before .choose .ensures)
 
 mul-after : tie.Need-mul-after
 mul-after c =
-    let q = c .before .before .before .before .before .before .before .before .before .before .before .before .before .before .before .args .t1 in
-    let p = c .before .before .before .before .before .before .before .before .before .before .before .before .before .before .before .args .processor in
-    let v = c .before .before .before .before .before .before .before .before .before .before .before .before .before .before .before .pre in
-    let low = processor-low q p v (c .before .before .before .before .before .before .before .before .before .before .before .before .before .if2 .left) in
+    let q = c .before .before .before .before .before .before .before .before .before .before .before .before .before .args .t1 in
+    let p = c .before .before .before .before .before .before .before .before .before .before .before .before .before .args .processor in
+    let v = c .before .before .before .before .before .before .before .before .before .before .before .before .before .pre in
+    let low = processor-low q p v (c .before .before .before .before .before .before .before .before .before .before .before .if2 .left) in
     omega arith
 
 element-set-from-after : tie.Need-element-set-from-after
 element-set-from-after c =
-    let q = c .before .before .before .before .before .before .before .before .before .before .before .before .before .before .before .args .t1 in
-    let p = c .before .before .before .before .before .before .before .before .before .before .before .before .before .before .before .args .processor in
-    let v = c .before .before .before .before .before .before .before .before .before .before .before .before .before .before .before .pre in
-    let low = processor-low q p v (c .before .before .before .before .before .before .before .before .before .before .before .before .before .if2 .left) in
+    let q = c .before .before .before .before .before .before .before .before .before .before .before .before .before .args .t1 in
+    let p = c .before .before .before .before .before .before .before .before .before .before .before .before .before .args .processor in
+    let v = c .before .before .before .before .before .before .before .before .before .before .before .before .before .pre in
+    let low = processor-low q p v (c .before .before .before .before .before .before .before .before .before .before .before .if2 .left) in
     low
 
-returns-7 : tie.Need-returns-7
-returns-7 c =
-    let q = c .before .before .before .before .before .before .before .before .before .before .before .before .before .before .before .args .t1 in
-    let p = c .before .before .before .before .before .before .before .before .before .before .before .before .before .before .before .args .processor in
-    let v = c .before .before .before .before .before .before .before .before .before .before .before .before .before .before .before .pre in
-    let low = processor-low q p v (c .before .before .before .before .before .before .before .before .before .before .before .before .before .if2 .left) in
-    let read = processor-read q p (callers-long q (c .before .before .before .before .before .before .before .before .before .before .before .before .before .before .before .good .0 .1 .1 .1 .1 .1 .1 .1 .0 .1 .0 .1)) low in
-    let ln = nodes-long q (c .before .before .before .before .before .before .before .before .before .before .before .before .before .before .before .good .0 .1 .1 .1 .1 .1 .1 .0 .1 .0 .1) in
-    let idle : isIdle (processorAt q p .stage) ≡ true = ap (λ (x : Processor). isIdle (x .stage)) (sym read) ∙ (sym (c .before .before .before .before .before .before .before .before .before .before .before .is-idle .ensures) ∙ not-false _ (c .before .before .before .before .before .before .before .before .before .before .if3 .left)) in
-    let entry : entryRefused (c .before .before .before .before .before .before .before .before .before .before .before .before .before .before .before .args .due) (c .before .before .before .before .before .before .before .before .before .before .before .before .before .before .before .args .item) ≡ false = sym (c .before .before .before .before .before .before .before .before .before .entry-refused .ensures) ∙ c .before .before .before .before .before .before .before .before .if4 .left in
-    let tall : outside (c .before .before .before .before .before .before .before .before .before .before .before .before .before .before .before .args .height) (q .levels) ≡ false = sym (c .before .before .before .before .before .before .before .height-refused .ensures) ∙ c .before .before .before .before .before .before .if5 .left in
-    let due = c .before .before .before .before .before .before .before .before .before .before .before .before .before .before .before .args .due in
-    let item = c .before .before .before .before .before .before .before .before .before .before .before .before .before .before .before .args .item in
-    let height = c .before .before .before .before .before .before .before .before .before .before .before .before .before .before .before .args .height in
+returns-6 : tie.Need-returns-6
+returns-6 c =
+    let q = c .before .before .before .before .before .before .before .before .before .before .before .before .before .args .t1 in
+    let p = c .before .before .before .before .before .before .before .before .before .before .before .before .before .args .processor in
+    let v = c .before .before .before .before .before .before .before .before .before .before .before .before .before .pre in
+    let low = processor-low q p v (c .before .before .before .before .before .before .before .before .before .before .before .if2 .left) in
+    let read = processor-read q p (callers-long q (c .before .before .before .before .before .before .before .before .before .before .before .before .before .good .0 .1 .1 .1 .1 .1 .1 .1 .0 .1 .0 .1)) low in
+    let ln = nodes-long q (c .before .before .before .before .before .before .before .before .before .before .before .before .before .good .0 .1 .1 .1 .1 .1 .1 .0 .1 .0 .1) in
+    let idle : isIdle (processorAt q p .stage) ≡ true = ap (λ (x : Processor). isIdle (x .stage)) (sym read) ∙ (sym (c .before .before .before .before .before .before .before .before .before .is-idle .ensures) ∙ not-false _ (c .before .before .before .before .before .before .before .before .if3 .left)) in
+    let numbers : numbersRefusal (c .before .before .before .before .before .before .before .before .before .before .before .before .before .args .due) (c .before .before .before .before .before .before .before .before .before .before .before .before .before .args .item) (c .before .before .before .before .before .before .before .before .before .before .before .before .before .args .height) (q .levels) ≡ 0 = sym (c .before .before .before .before .before .before .before .numbers-refusal .ensures) ∙ zero-of _ (c .before .before .before .before .before .before .if4 .left) in
+    let due = c .before .before .before .before .before .before .before .before .before .before .before .before .before .args .due in
+    let item = c .before .before .before .before .before .before .before .before .before .before .before .before .before .args .item in
+    let height = c .before .before .before .before .before .before .before .before .before .before .before .before .before .args .height in
     let x≡ = c .before .before .before .before .before .choose .ensures in
     let d≡ = c .before .before .before .insert-begins .ensures in
     let n = node-read q (c .before .before .before .before .before .choose .result) ln (chosen-low q _ v x≡) in
     insert-kept q p due item height _ v
     (changes q p _ _ _ _ _ _ _ (insert-decided q p due item height _ _ x≡ d≡) read (insert-takes q p due item height _ _ d≡) n (c .before .changed .ensures) (c .processor-after .ensures)
-    ∙ sym (insert-accepted q p due item height (c .before .before .before .before .before .before .before .before .before .before .before .before .before .before .if1 .left) (c .before .before .before .before .before .before .before .before .before .before .before .before .before .if2 .left) idle entry tall _ x≡ (c .before .before .before .before .if6 .left)))
+    ∙ sym (insert-accepted q p due item height (c .before .before .before .before .before .before .before .before .before .before .before .before .if1 .left) (c .before .before .before .before .before .before .before .before .before .before .before .if2 .left) idle numbers _ x≡ (c .before .before .before .before .if5 .left)))
 
 pub begin-insert-valid-spec : {M : Type 1} → statement M
 begin-insert-valid-spec =
@@ -205,12 +203,10 @@ begin-insert-valid-spec =
     element-copy-out-c
     is-idle-requires
     returns-3
-    entry-refused-requires
+    numbers-refusal-requires
     returns-4
-    height-refused-requires
-    returns-5
     choose-requires
-    returns-6
+    returns-5
     cast-insert-begins
     insert-begins-requires
     cast-w
@@ -222,4 +218,4 @@ begin-insert-valid-spec =
     element-set-from-m
     mul-after
     element-set-from-after
-    returns-7)
+    returns-6)
