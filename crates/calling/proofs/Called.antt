@@ -82,7 +82,9 @@ module _ {A : Type 0} (R : ℕ → A) (okI okD okS : A) (ch : ℕ) where
   by-tests true d false true idle n = refl
   by-tests true d false false false n = refl
   by-tests true d false false true zero = node-last (eqb ch 0)
-  by-tests true d false false true (suc n) = refl
+  by-tests true d false false true (suc n) =
+      let told : ltb 0 (suc n) ≡ true = lt-ltb 0 (suc n) (omega arith) in
+      simp told
   by-tests false true true b idle n = refl
   by-tests false true false true idle n = refl
   by-tests false true false false false n = refl
@@ -116,7 +118,10 @@ passed :
 passed i d true b idle n ch x f k = absurd (omega arith)
 passed i d false true idle n ch x f k = absurd (omega arith)
 passed true d false false false n ch x f k = absurd (omega arith)
-passed true d false false true (suc n) ch x f k = absurd (omega arith)
+passed true d false false true (suc n) ch x f k =
+    let told : ltb 0 (suc n) ≡ true = lt-ltb 0 (suc n) (omega arith) in
+    let none : suc n ≡ 0 = sym (ap (λ (b : Bool). cond b (suc n) (cond (eqb x 0) 37 0)) told) ∙ k in
+    absurd (omega arith)
 passed true d false false true zero ch x f k = record { clock = refl; known = refl; numbers = λ _. (refl, f) }
 passed false d false false idle n ch x f k = record { clock = refl; known = refl; numbers = λ t. absurd (false≢true t) }
 

@@ -119,8 +119,9 @@ module _ (q : Queue) (S : Sized q) where
   on-numbers : (due item height : ℕ) (o : Outcome) → Kept q o → Kept q (onNumbers q due item height o)
   on-numbers due item height o k =
       cond-elim (Kept q) (ltb maxNumber due || ltb maxNumber item) (refused q 35) _ (kept-refused 35)
+      (cond-elim (Kept q) (eqb item 0) (refused q 39) _ (kept-refused 39)
       (cond-elim (Kept q) (outside height (q .levels)) (refused q 36) _ (kept-refused 36)
-      (cond-elim (Kept q) (eqb (chosen q) 0) (refused q 37) o (kept-refused 37) k))
+      (cond-elim (Kept q) (eqb (chosen q) 0) (refused q 37) o (kept-refused 37) k)))
 
   pub kept-insert : (p due item height : ℕ) → Kept q (beginInsert q p due item height)
   kept-insert p due item height =
