@@ -58,6 +58,7 @@ enum {
     DARTHOG_BUSY = 33,           /* begin: the processor is busy */
     DARTHOG_IDLE = 34,           /* step: the processor is idle */
     DARTHOG_TOO_LARGE = 35,      /* Insert: due or item above 999,999; due: above 59,999,969 s */
+    DARTHOG_NO_ITEM = 39,        /* Insert: item 0, which is no item */
     DARTHOG_BAD_HEIGHT = 36,     /* Insert: height not 1 to the queue's levels */
     DARTHOG_NO_NODE = 37         /* Insert: no node that may be used now; later there may be one */
 };
@@ -65,7 +66,8 @@ enum {
 /* Makes a queue in these bytes, whatever they held: for processors (1 to 16), entries (1 to 200) and levels (1 to 8). 0, or 11, 12, 13 or 21. */
 uint32_t darthog_make(uint8_t *image, size_t length, uint32_t processors, uint32_t entries, uint32_t levels);
 
-/* Begins an Insert by a processor. */
+/* Begins an Insert by a processor: due at most 999,999, item 1 to 999,999, height 1 to the queue's
+ * levels. */
 struct darthog_reply darthog_begin_insert(uint8_t *image, size_t length, uint32_t processor, uint32_t due, uint32_t item, uint32_t height);
 
 /* Begins a Delete_Min by a processor. */

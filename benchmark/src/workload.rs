@@ -129,7 +129,7 @@ fn height(random: &mut Random, levels: u64) -> u64 {
 
 fn insert(queue: &mut Queue, random: &mut Random, p: u64) -> bool {
     let due = random.below(1_000_000);
-    let item = random.below(1_000_000);
+    let item = random.between(1, 999_999);
     let height = height(random, u64::from(queue.level_count));
     queue.begin_insert_inner(p, due, item, height).is_ok()
 }

@@ -29,6 +29,8 @@ pub enum Refusal {
     /// Insert: due or item above 999,999. A due minute: seconds above
     /// 59,999,969.
     TooLarge = 35,
+    /// Insert: item 0, which is no item.
+    NoItem = 39,
     /// Insert: height not 1 to the queue's levels.
     BadHeight = 36,
     /// Insert: no node that may be used now. Let the workers step on or take
@@ -38,7 +40,7 @@ pub enum Refusal {
 
 impl Refusal {
     /// Every refusal.
-    pub const ALL: [Refusal; 11] = [
+    pub const ALL: [Refusal; 12] = [
         Refusal::BadProcessors,
         Refusal::BadEntries,
         Refusal::BadLevels,
@@ -48,6 +50,7 @@ impl Refusal {
         Refusal::Busy,
         Refusal::Idle,
         Refusal::TooLarge,
+        Refusal::NoItem,
         Refusal::BadHeight,
         Refusal::NoNode,
     ];
@@ -77,6 +80,7 @@ impl fmt::Display for Refusal {
             Refusal::Busy => "the processor is busy",
             Refusal::Idle => "the processor is idle",
             Refusal::TooLarge => "due or item above 999,999, or seconds above 59,999,969",
+            Refusal::NoItem => "item 0",
             Refusal::BadHeight => "height not 1 to the queue's levels",
             Refusal::NoNode => "no node that may be used",
         };

@@ -53,7 +53,7 @@ impl Queue {
     }
 
     /// Begins an Insert by a processor: an entry with this due minute and
-    /// item, linked on `height` levels. Gives the time of the call, which is
+    /// item, which is not 0, linked on `height` levels. Gives the time of the call, which is
     /// the entry's ticket.
     pub fn begin_insert(
         &mut self,

@@ -145,6 +145,8 @@ fn numbers_at_and_past_every_edge() {
             Call::Insert(0, LIMIT, LIMIT + 1, u32::from(record.level_count)),
             Call::Insert(0, LIMIT, LIMIT, u32::from(record.level_count) + 1),
             Call::Insert(0, LIMIT, LIMIT, 0),
+            Call::Insert(0, LIMIT, 0, u32::from(record.level_count)),
+            Call::Insert(0, LIMIT, 0, 0),
             Call::Insert(u32::MAX, u32::MAX, u32::MAX, u32::MAX),
             Call::Insert(u32::from(record.processor_count) - 1, 7, 42, 1),
             Call::DeleteMin(u32::from(record.processor_count) - 1),
@@ -157,7 +159,7 @@ fn numbers_at_and_past_every_edge() {
         }
     }
     counts.must_have(&[
-        ("insert", &[0, 21, 31, 32, 33, 35, 36, 37]),
+        ("insert", &[0, 21, 31, 32, 33, 35, 39, 36, 37]),
         ALL_CODES[2],
         ("step", &[1, 3, 21, 31, 32, 34]),
         ALL_CODES[4],

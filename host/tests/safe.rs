@@ -128,6 +128,7 @@ fn the_queue_does_what_the_reference_does() {
         "33",
         "34",
         "35",
+        "39",
         "36",
         "37",
     ] {
@@ -199,12 +200,13 @@ fn each_refusal_has_its_number() {
         .iter()
         .map(|refusal| refusal.number())
         .collect();
-    assert_eq!(numbers, [11, 12, 13, 21, 31, 32, 33, 34, 35, 36, 37]);
+    assert_eq!(numbers, [11, 12, 13, 21, 31, 32, 33, 34, 35, 39, 36, 37]);
     for number in 0..=u32::from(u16::MAX) {
         let expected = numbers.contains(&number).then_some(number);
         assert_eq!(Refusal::from_number(number).map(Refusal::number), expected);
     }
     assert_eq!(Refusal::Idle.to_string(), "the processor is idle (34)");
+    assert_eq!(Refusal::NoItem.to_string(), "item 0 (39)");
 }
 
 /// include/darthog.h says that a call takes less than 64 KiB of stack. The

@@ -95,7 +95,7 @@ fn every_call_of_a_schedule_leaves_the_image_of_the_references_record() {
     }
     counts.must_have(&[
         ("make", &[0]),
-        ("insert", &[0, 31, 32, 33, 35, 36, 37]),
+        ("insert", &[0, 31, 32, 33, 35, 39, 36, 37]),
         ("delete_min", &[0, 31, 32, 33]),
         ("step", &[1, 2, 3, 4, 5, 6, 31, 32, 34]),
         ("backlog", &[0]),

@@ -59,7 +59,7 @@ pub(crate) struct Filing {
 
 impl Queue {
     /// Begins an Insert; gives the time. Refused with 21, 31, 32, 33, 35,
-    /// 36 or 37, the first that holds.
+    /// 39 (document 02, W10), 36 or 37, the first that holds.
     pub fn begin_insert(
         &mut self,
         processor: u64,
@@ -190,6 +190,9 @@ impl Queue {
         let p = self.idle_caller(processor)?;
         if due > u64::from(LIMIT) || item > u64::from(LIMIT) {
             return Err(35);
+        }
+        if item == 0 {
+            return Err(39);
         }
         if height < 1 || height > u64::from(self.level_count) {
             return Err(36);

@@ -62,6 +62,9 @@ impl Refusals {
         if due > u64::from(LIMIT) || item > u64::from(LIMIT) {
             return Some(35);
         }
+        if item == 0 {
+            return Some(39);
+        }
         if height == 0 || height > self.sizes.levels {
             return Some(36);
         }

@@ -211,8 +211,17 @@ impl Schedule {
         Call::Insert {
             processor,
             due: self.random.below(self.dues),
-            item: self.random.below(100),
+            item: self.item(),
             height: self.random.between(1, self.sizes.levels),
+        }
+    }
+
+    /// An item, seldom 0, which is refused.
+    fn item(&mut self) -> u64 {
+        if self.random.one_in(50) {
+            0
+        } else {
+            self.random.between(1, 99)
         }
     }
 
@@ -224,7 +233,8 @@ impl Schedule {
         let processor = self.random.below(sizes.processors);
         let above = u64::from(LIMIT) + 1;
         let too_much = self.random.among(&[above, above + 1, 1 << 32]);
-        match self.random.below(10) {
+        let item = self.random.among(&[0, 1, 1, 1]);
+        match self.random.below(11) {
             0 => self.insert(stranger),
             1 => Call::DeleteMin {
                 processor: stranger,
@@ -240,7 +250,7 @@ impl Schedule {
             7 => Call::Insert {
                 processor,
                 due: too_much,
-                item: 0,
+                item,
                 height: self.random.between(1, sizes.levels + 1),
             },
             8 => Call::Insert {
@@ -249,10 +259,16 @@ impl Schedule {
                 item: too_much,
                 height: 1,
             },
-            _ => Call::Insert {
+            9 => Call::Insert {
                 processor,
                 due: 0,
                 item: 0,
+                height: 1,
+            },
+            _ => Call::Insert {
+                processor,
+                due: 0,
+                item,
                 height: self.random.among(&[0, sizes.levels + 1, 9, 256, 257]),
             },
         }

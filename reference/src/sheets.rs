@@ -207,13 +207,17 @@ fn begin_line(random: &mut Random, sizes: Sizes) -> Vec<u8> {
     }
     let limit = u64::from(LIMIT);
     let mut due = random.among(&[0, 1, 2, 2, 7, limit - 1, limit]);
-    let mut item = random.below(limit + 1);
+    let mut item = random.between(1, limit);
     let mut height = random.between(1, sizes.levels);
     if random.one_in(12) {
-        match random.below(3) {
+        match random.below(4) {
             0 => due = random.among(&[limit + 1, limit + 2, MOST]),
             1 => item = random.among(&[limit + 1, MOST]),
+            2 => item = 0,
             _ => height = random.among(&[0, sizes.levels + 1, 9, 256, 257, MOST]),
+        }
+        if random.one_in(4) {
+            item = 0;
         }
     }
     line(b'I', [processor, due, item, height])
@@ -416,7 +420,7 @@ fn full_sheet(random: &mut Random, lines: usize) -> Vec<u8> {
             0 => line(b'D', [p, 0, 0, 0]),
             1 => line(
                 b'I',
-                [p, random.below(3), 0, random.between(1, sizes.levels)],
+                [p, random.below(3), 1, random.between(1, sizes.levels)],
             ),
             _ => line(b'S', [p, 1, 0, 0]),
         });

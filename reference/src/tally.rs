@@ -35,8 +35,8 @@ pub struct Tally {
     pub led_back: u64,
     /// Waits for the own lock of a level (L2).
     pub own_waits: u64,
-    /// Refusals 31 to 37, by their last digit.
-    pub refused: [u64; 8],
+    /// Refusals 31 to 37 and 39, by their last digit.
+    pub refused: [u64; 10],
 }
 
 impl Tally {

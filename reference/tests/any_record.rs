@@ -1,6 +1,7 @@
 //! The steps are defined for every record that passes check 21, reached by a
 //! run or not, and keep check 21.
 
+use darthog_reference::answer::{Answer, Entry};
 use darthog_reference::any_record::{any_record, slots_past};
 use darthog_reference::calls::{Call, Outcome};
 use darthog_reference::queue::{Queue, Stage, LIMIT};
@@ -127,4 +128,61 @@ fn the_walk_reads_level_1_whatever_its_place_says() {
         assert!(first == second);
         seen += 1;
     }
+}
+
+/// The same record with another item in place of each.
+fn renamed(queue: &Queue, name: impl Fn(u32) -> u32) -> Queue {
+    let mut other = queue.clone();
+    for node in &mut other.nodes {
+        node.item = name(node.item);
+    }
+    other
+}
+
+/// The same outcome with another item in place of each.
+fn renamed_outcome(outcome: &Outcome, name: impl Fn(u32) -> u32) -> Outcome {
+    let other = |entry: Entry| Entry {
+        item: name(entry.item),
+        ..entry
+    };
+    match *outcome {
+        Outcome::Stepped(Answer::Marked(entry)) => Outcome::Stepped(Answer::Marked(other(entry))),
+        Outcome::Stepped(Answer::Inserted(entry)) => {
+            Outcome::Stepped(Answer::Inserted(other(entry)))
+        }
+        Outcome::Stepped(Answer::HandedOut(entry)) => {
+            Outcome::Stepped(Answer::HandedOut(other(entry)))
+        }
+        outcome => outcome,
+    }
+}
+
+/// Small items all become 0: every call but an Insert leaves and gives what it
+/// did before, with 0 for each of them.
+#[test]
+fn no_rule_looks_at_the_item_of_an_entry() {
+    let mut random = Random::new(6);
+    let name = |item: u32| if item < 1000 { 0 } else { item };
+    let mut told = 0;
+    for _ in 0..RECORDS {
+        let mut queue = any_record(&mut random);
+        for node in &mut queue.nodes {
+            node.item = random.among(&[0, 1, 999, 1000, node.item]);
+        }
+        let mut other = renamed(&queue, name);
+        assert_eq!(queue.sound(), other.sound());
+        for _ in 0..CALLS_EACH {
+            let call = any_call(&mut random, &queue);
+            if matches!(call, Call::Insert { .. }) {
+                continue;
+            }
+            let outcome = queue.call(&call);
+            let expected = renamed_outcome(&outcome, name);
+            assert_eq!(other.call(&call), expected, "{call:?}");
+            assert!(other == renamed(&queue, name), "{call:?} {outcome:?}");
+            told += u64::from(outcome != expected);
+        }
+    }
+    println!("{told} answers had another item");
+    assert!(told > 1000, "only {told} answers had another item");
 }

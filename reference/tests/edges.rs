@@ -148,7 +148,7 @@ fn run_6_processors_that_are_not_there_or_idle() {
     let mut queue = fresh(2, 1, 1).unwrap();
     let before = queue.clone();
     assert_eq!(queue.step(2), Err(32));
-    assert_eq!(queue.begin_insert(2, 0, 0, 1), Err(32));
+    assert_eq!(queue.begin_insert(2, 0, 1, 1), Err(32));
     assert_eq!(queue.begin_delete_min(2), Err(32));
     assert_eq!(queue.step(u64::MAX), Err(32));
     assert_eq!(queue.step(0), Err(34));
@@ -164,10 +164,11 @@ fn refusals_come_in_their_order() {
     assert_eq!(queue.begin_delete_min(0), Err(33));
     assert_eq!(queue.begin_insert(1, 1_000_000, 0, 0), Err(35));
     assert_eq!(queue.begin_insert(1, 0, 1_000_000, 0), Err(35));
-    assert_eq!(queue.begin_insert(1, 0, 0, 0), Err(36));
-    assert_eq!(queue.begin_insert(1, 0, 0, 3), Err(36));
-    assert_eq!(queue.begin_insert(1, 0, 0, 256 + 1), Err(36));
-    assert_eq!(queue.begin_insert(1, 0, 0, 2), Err(37));
+    assert_eq!(queue.begin_insert(1, 0, 0, 0), Err(39));
+    assert_eq!(queue.begin_insert(1, 0, 1, 0), Err(36));
+    assert_eq!(queue.begin_insert(1, 0, 1, 3), Err(36));
+    assert_eq!(queue.begin_insert(1, 0, 1, 256 + 1), Err(36));
+    assert_eq!(queue.begin_insert(1, 0, 1, 2), Err(37));
     assert_eq!(queue, before);
     queue.clock = 999_999;
     assert_eq!(queue.begin_insert(2, 1_000_000, 0, 0), Err(31));
@@ -187,22 +188,22 @@ fn the_longest_retired_node_is_taken_and_the_lowest_on_a_tie() {
         queue.nodes[number].usage = Use::Retired(time);
     }
     let mut waiting = queue.clone();
-    assert_eq!(queue.begin_insert(0, 0, 0, 1), Ok(51));
+    assert_eq!(queue.begin_insert(0, 0, 1, 1), Ok(51));
     assert_eq!(queue.processors[0].own, 2);
-    assert_eq!(queue.begin_insert(1, 0, 0, 1), Ok(52));
+    assert_eq!(queue.begin_insert(1, 0, 1, 1), Ok(52));
     assert_eq!(queue.processors[1].own, 3);
 
     // Who began at the very time of the retirement keeps the node back.
     waiting.begin_delete_min(1).unwrap();
     waiting.processors[1].begin = 20;
-    assert_eq!(waiting.begin_insert(0, 0, 0, 1), Err(37));
+    assert_eq!(waiting.begin_insert(0, 0, 1, 1), Err(37));
     waiting.processors[1].begin = 21;
-    assert_eq!(waiting.begin_insert(0, 0, 0, 1), Ok(52));
+    assert_eq!(waiting.begin_insert(0, 0, 1, 1), Ok(52));
 
     // A never-used node comes first.
     waiting.nodes[4].usage = Use::Never;
     waiting.processors[1] = waiting.processors[2];
-    waiting.begin_insert(1, 0, 0, 1).unwrap();
+    waiting.begin_insert(1, 0, 1, 1).unwrap();
     assert_eq!(waiting.processors[1].own, 4);
 }
 
@@ -211,7 +212,7 @@ fn an_insert_goes_on_to_i4_at_any_level_not_below_the_height() {
     use darthog_reference::queue::{Place, Stage};
     for (height, stage) in [(1, true), (2, true), (3, false)] {
         let mut queue = fresh(1, 1, 3).unwrap();
-        queue.begin_insert(0, 0, 0, height).unwrap();
+        queue.begin_insert(0, 0, 1, height).unwrap();
         queue.processors[0].stage = Stage::I3Unlock(Place { node: 0, level: 2 });
         assert_eq!(queue.step(0), Ok(Answer::Moved));
         let at_i4 = queue.processors[0].stage == Stage::I4UnlockNode;

@@ -58,7 +58,7 @@ fn assert_rich(total: &Tally) {
     ] {
         assert!(count > 300, "{total:?}");
     }
-    for number in 2..=7 {
+    for number in [2, 3, 4, 5, 6, 7, 9] {
         assert!(total.refused[number] > 1000, "{total:?}");
     }
 }

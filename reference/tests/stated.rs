@@ -7,6 +7,7 @@ use darthog_reference::perturb::CALLS;
 use darthog_reference::queue::Queue;
 use darthog_reference::sheet::{run, SheetRefusal};
 use darthog_reference::stated::cases::each_case;
+use darthog_reference::stated::items;
 use darthog_reference::stated::records::record;
 use darthog_reference::stated::rows::{Field, Filling, Row, FIELDS, TABLES};
 use darthog_reference::stated::sheets::{areas, refused};
@@ -116,4 +117,29 @@ fn sheets_are_refused_as_stated() {
     numbers.sort_unstable();
     numbers.dedup();
     assert_eq!(numbers, [11, 12, 13, 41, 42]);
+}
+
+#[test]
+fn an_insert_with_item_0_is_refused_in_its_place() {
+    let before = items::no_node_free();
+    for ([processor, due, item, height], number) in items::REFUSED {
+        let mut queue = before.clone();
+        let refused = queue.begin_insert(processor, due, item, height);
+        assert_eq!(refused, Err(number), "{processor} {due} {item} {height}");
+        assert!(queue == before, "{number} changed the record");
+    }
+    let mut ended = before;
+    ended.clock = 999_999;
+    assert_eq!(ended.begin_insert(1, 7, 0, 1), Err(31));
+    ended.clock = 1_000_000;
+    assert_eq!(ended.begin_insert(1, 7, 0, 1), Err(21));
+}
+
+#[test]
+fn an_entry_with_item_0_goes_on_as_any_other() {
+    let mut queue = items::begun_with_item_0();
+    for (call, outcome) in items::goes_on() {
+        assert_eq!(queue.call(&call), outcome, "{call:?} at {}", queue.clock);
+    }
+    assert_eq!(queue.clock, 29);
 }

@@ -47,7 +47,7 @@ impl Run {
         } else if self.busy[worker as usize] {
             self.step(worker);
         } else if random.one_in(2) {
-            self.insert(worker, random.below(50), random.below(1_000_000), random);
+            self.insert(worker, random.below(50), 1 + random.below(999_999), random);
         } else {
             self.delete_min(worker);
         }
@@ -56,12 +56,13 @@ impl Run {
     /// A call that is mostly refused.
     fn bad_call(&mut self, worker: u32, random: &mut Random) {
         let unknown = self.busy.len() as u32 + random.below(100);
-        match random.below(6) {
+        match random.below(7) {
             0 => self.step(unknown),
             1 => self.step(worker),
             2 => self.delete_min(worker),
             3 => self.insert(worker, 1_000_000 + random.below(2), 5, random),
             4 => self.insert(worker, 5, 9_999_999, random),
+            5 => self.insert(worker, 5, 0, random),
             _ => self.insert_with(worker, 5, 6, self.levels + 1),
         }
     }

@@ -258,7 +258,7 @@ impl Counts {
 /// Every code that an entry on lent bytes can give back.
 pub const ALL_CODES: [(&str, &[u32]); 5] = [
     ("make", &[0, 11, 12, 13, 21]),
-    ("insert", &[0, 21, 31, 32, 33, 35, 36, 37]),
+    ("insert", &[0, 21, 31, 32, 33, 35, 39, 36, 37]),
     ("delete_min", &[0, 21, 31, 32, 33]),
     ("step", &[1, 2, 3, 4, 5, 6, 21, 31, 32, 34]),
     ("backlog", &[0, 21]),

@@ -20,7 +20,7 @@ pub const CALLS: [Call; 6] = [
     Call::Insert {
         processor: 0,
         due: 0,
-        item: 0,
+        item: 1,
         height: 1,
     },
     Call::Step {

@@ -77,14 +77,14 @@ pub fn strangers_history(lines: usize) -> Vec<u8> {
 }
 
 /// A sheet whose processor 1 waits for the head's lock until the clock is
-/// 999,999: 7 calls, 1000 lines of 999 steps, 992 steps. Then come a step and
-/// a begin.
+/// 999,999: 7 calls, 1000 lines of 999 steps, 992 steps. Then come a step, a
+/// begin, and an Insert with item 0.
 pub fn spent_clock() -> Vec<u8> {
     let mut sheet = "\
 Q      2      2      1      0
-I      0      0      0      1
+I      0      0      1      1
 S      0      3      0      0
-I      1      0      0      1
+I      1      0      1      1
 S      1      2      0      0
 "
     .to_string();
@@ -92,15 +92,17 @@ S      1      2      0      0
     sheet += "S      1    992      0      0\n";
     sheet += "S      1      1      0      0\n";
     sheet += "D      9      0      0      0\n";
+    sheet += "I      0      7      0      1\n";
     sheet.into_bytes()
 }
 
 /// The history of that sheet.
 pub const SPENT_CLOCK_HISTORY: &str = "\
-I      1      0      0      0      1
-I      5      1      0      0      1
+I      1      0      0      1      1
+I      5      1      0      1      1
 R 999999      1     31      0      0
 R 999999      9     31      0      0
+R 999999      0     31      0      0
 ";
 
 /// Refused sheets with number and line: the order of 41, 42 and 11 to 13.
@@ -248,9 +250,9 @@ pub fn areas() -> Vec<Areas> {
             "a spent clock",
             spent_clock(),
             SPENT_CLOCK_HISTORY.into(),
-            148,
-            &[148, 149, 65_536, 65_537],
-            &[0, 111, 147],
+            185,
+            &[185, 186, 65_536, 65_537],
+            &[0, 148, 184],
         ),
     ]
 }
