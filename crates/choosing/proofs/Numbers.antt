@@ -29,7 +29,7 @@ pub numbers-told :
     (q : Queue) (due item height : ℕ) (o : Outcome) →
     onNumbers q due item height o
     ≡ cond (ltb 0 (numbersRefusal due item height (q .levels))) (refused q (numbersRefusal due item height (q .levels)))
-      (cond (eqb (chosen q) 0) (refused q 37) o)
+    (cond (eqb (chosen q) 0) (refused q 37) o)
 numbers-told q due item height o =
     by-tests (refused q) (entryRefused due item) (eqb item 0) (outside height (q .levels)) (cond (eqb (chosen q) 0) (refused q 37) o)
 

@@ -34,17 +34,16 @@ fn height_refused(height: u32, levels: u8) -> bool
 pub fn numbers_refusal(due: u32, item: u32, height: u32, levels: u8) -> u8
     ensures { λ r. ⌜ r ≡ numbersRefusal due item height levels ⌝ }
 {
-    if entry_refused(due, item) {
+    let large = entry_refused(due, item);
+    let absent = item == 0;
+    let tall = height_refused(height, levels);
+    if large {
         return 35;
     }
-    if item == 0 {
+    if absent {
         return 39;
     }
-    if height_refused(height, levels) {
-        36
-    } else {
-        0
-    }
+    if tall { 36 } else { 0 }
 }
 
 // An Insert takes node x at the time t: its Search starts from the head at level L.

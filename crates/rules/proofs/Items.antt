@@ -80,9 +80,23 @@ every-same f g n h = ap (λ (t : ℕ → Bool). everyBelow t n) (fun-ext h)
 module _ (f : ℕ → ℕ) where
   abbrev renamedSight : Sight → Sight
   renamedSight s = record {
-    own = s .own; height = s .height; holder = s .holder; next = s .next; before = s .before; tail = s .tail; guard = s .guard;
-    onward = s .onward; latch = s .latch; levels = s .levels; marked = s .marked; stamped = s .stamped; up = s .up; down = s .down;
-    top = s .top; seen = renamedEntry f (s .seen); mine = renamedEntry f (s .mine);
+    own = s .own;
+    height = s .height;
+    holder = s .holder;
+    next = s .next;
+    before = s .before;
+    tail = s .tail;
+    guard = s .guard;
+    onward = s .onward;
+    latch = s .latch;
+    levels = s .levels;
+    marked = s .marked;
+    stamped = s .stamped;
+    up = s .up;
+    down = s .down;
+    top = s .top;
+    seen = renamedEntry f (s .seen);
+    mine = renamedEntry f (s .mine);
   }
 
   abbrev renamedEffect : Effect → Effect
@@ -223,8 +237,8 @@ module _ (f : ℕ → ℕ) where
         ap (λ (l : List Node). record { queue = record { processors = q .processors; entries = q .entries; levels = q .levels; clock = q .clock + 1; nodes = l; callers = applied q p d .callers }; answer = renamedAnswer f (d .answer) })
         (ap (λ (x : ℕ). set (map (renamedNode f) (q .nodes)) x (changed (q .levels) (q .entries + 1) (p + 1) (q .clock + 1) (renamedEffect (d .effect)) (nodeAt (renamed f q) x))) (same-node (d .effect))
         ∙ ap (λ (n : Node). set (map (renamedNode f) (q .nodes)) (nodeOf (d .effect)) n)
-          (ap (changed (q .levels) (q .entries + 1) (p + 1) (q .clock + 1) (renamedEffect (d .effect))) (node-read q (nodeOf (d .effect)))
-          ∙ changes (q .levels) (q .entries + 1) (p + 1) (q .clock + 1) (d .effect) (nodeAt q (nodeOf (d .effect))))
+        (ap (changed (q .levels) (q .entries + 1) (p + 1) (q .clock + 1) (renamedEffect (d .effect))) (node-read q (nodeOf (d .effect)))
+        ∙ changes (q .levels) (q .entries + 1) (p + 1) (q .clock + 1) (d .effect) (nodeAt q (nodeOf (d .effect))))
         ∙ map-set (renamedNode f) (q .nodes) (nodeOf (d .effect)) _)
 
     valid-same : (q : Queue) → valid (renamed f q) ≡ valid q
