@@ -14,7 +14,8 @@ use Rattle.record.specs.Stages.{isIdle}
 use Rattle.rules.specs.declared.answers.Outcome.{Outcome}
 use Rattle.rules.specs.declared.decisions.Decision.{Decision}
 use Rattle.rules.specs.Answers.{refused}
-use Rattle.rules.specs.Calls.{insertDecision, deleteDecision, stepDecision, onProcessor, onIdle, beginInsertValid, beginDeleteValid, stepValid}
+use Rattle.rules.specs.Calls.{insertDecision, deleteDecision, stepDecision, onProcessor, onIdle}
+use Rattle.rules.specs.Calls.{beginInsertValid, beginDeleteValid, stepValid}
 use Rattle.rules.specs.Choice.{chosen}
 use Rattle.rules.specs.Effects.{nodeOf, accepted}
 use Rattle.choosing.specs.Begins.{insertBegins, deleteBegins, numbersRefusal}
@@ -52,9 +53,12 @@ abbrev pub callDecision : Line → Queue → Decision
 callDecision l q =
     byLetter (l .letter) (insertDecision q (chosen q) (l .second) (l .third) (l .fourth)) (deleteDecision q) (stepDecision q (processorAt q (l .first)))
 
--- the refusals, of tests alone: i and d say the letter, a the clock, b the processor, n the numbers' refusal, ch the node
+-- the refusals, of tests alone: i and d say the letter, a the clock, b the processor, n the refusal
+-- of the numbers, ch the node
 abbrev refusalBy : Bool → Bool → Bool → Bool → Bool → ℕ → ℕ
-refusalBy i d a b idle n = cond a 31 (cond b 32 (cond i (cond idle n 33) (cond d (cond idle 0 33) (cond idle 34 0))))
+refusalBy i d a b idle n =
+    cond a 31
+    (cond b 32 (cond i (cond idle n 33) (cond d (cond idle 0 33) (cond idle 34 0))))
 
 abbrev nodeBy : Bool → ℕ → ℕ → ℕ
 nodeBy i r ch = cond (cond i (eqb r 0) false) ch 0
@@ -65,11 +69,14 @@ wholeBy i r x = cond (ltb 0 r) r (cond i (cond (eqb x 0) 37 0) 0)
 module _ {A : Type 0} (R : ℕ → A) (okI okD okS : A) (ch : ℕ) where
   abbrev outcomeBy : Bool → Bool → Bool → Bool → Bool → ℕ → A
   outcomeBy i d a b idle n =
-      cond i (cond a (R 31) (cond b (R 32) (cond idle (cond (ltb 0 n) (R n) (cond (eqb ch 0) (R 37) okI)) (R 33))))
+      cond i
+      (cond a (R 31)
+      (cond b (R 32) (cond idle (cond (ltb 0 n) (R n) (cond (eqb ch 0) (R 37) okI)) (R 33))))
       (cond d (cond a (R 31) (cond b (R 32) (cond idle okD (R 33)))) (cond a (R 31) (cond b (R 32) (cond idle (R 34) okS))))
 
   abbrev wholeAt : Bool → Bool → Bool → Bool → Bool → ℕ → ℕ
-  wholeAt i d a b idle n = wholeBy i (refusalBy i d a b idle n) (nodeBy i (refusalBy i d a b idle n) ch)
+  wholeAt i d a b idle n =
+      wholeBy i (refusalBy i d a b idle n) (nodeBy i (refusalBy i d a b idle n) ch)
 
   node-last : (z : Bool) → cond z (R 37) okI ≡ cond (ltb 0 (cond z 37 0)) (R (cond z 37 0)) okI
   node-last true = refl
@@ -77,7 +84,9 @@ module _ {A : Type 0} (R : ℕ → A) (okI okD okS : A) (ch : ℕ) where
 
   by-tests :
       (i d a b idle : Bool) (n : ℕ) →
-      outcomeBy i d a b idle n ≡ cond (ltb 0 (wholeAt i d a b idle n)) (R (wholeAt i d a b idle n)) (cond i okI (cond d okD okS))
+      outcomeBy i d a b idle n
+      ≡ cond (ltb 0 (wholeAt i d a b idle n)) (R (wholeAt i d a b idle n))
+      (cond i okI (cond d okD okS))
   by-tests true d true b idle n = refl
   by-tests true d false true idle n = refl
   by-tests true d false false false n = refl
@@ -95,7 +104,9 @@ module _ {A : Type 0} (R : ℕ → A) (okI okD okS : A) (ch : ℕ) where
   by-tests false false false false true n = refl
 
   -- a processor that is not there: whether it is idle does not matter
-  same-idle : (i d a b s t : Bool) (n : ℕ) → (b ≡ false → s ≡ t) → outcomeBy i d a b s n ≡ outcomeBy i d a b t n
+  same-idle :
+      (i d a b s t : Bool) (n : ℕ) → (b ≡ false → s ≡ t) →
+      outcomeBy i d a b s n ≡ outcomeBy i d a b t n
   same-idle i d a false s t n k = ap (λ (x : Bool). outcomeBy i d a false x n) (k refl)
   same-idle true d true true s t n k = refl
   same-idle true d false true s t n k = refl
@@ -122,8 +133,10 @@ passed true d false false true (suc n) ch x f k =
     let told : ltb 0 (suc n) ≡ true = lt-ltb 0 (suc n) (omega arith) in
     let none : suc n ≡ 0 = sym (ap (λ (b : Bool). cond b (suc n) (cond (eqb x 0) 37 0)) told) ∙ k in
     absurd (omega arith)
-passed true d false false true zero ch x f k = record { clock = refl; known = refl; numbers = λ _. (refl, f) }
-passed false d false false idle n ch x f k = record { clock = refl; known = refl; numbers = λ t. absurd (false≢true t) }
+passed true d false false true zero ch x f k =
+    record { clock = refl; known = refl; numbers = λ _. (refl, f) }
+passed false d false false idle n ch x f k =
+    record { clock = refl; known = refl; numbers = λ t. absurd (false≢true t) }
 
 pub slot-known : (q : Queue) (p : ℕ) → leb (q .processors) p ≡ false → slotOf p (q .processors) ≡ p
 slot-known q p h = ap (λ (b : Bool). cond b p 0) (lt-ltb p (q .processors) (leb-false (q .processors) p h))
@@ -154,11 +167,19 @@ module _ (l : Line) (q : Queue) (x : ℕ) (known : x ≡ nodeFor l q) where
       let fill = insertDecision q (chosen q) (l .second) (l .third) (l .fourth) in
       let walk = deleteDecision q in
       let go = stepDecision q (processorAt q (l .first)) in
-      ap (λ (o : Outcome). byLetter (l .letter) (onProcessor q (l .first) (onIdle q (l .first) o)) (beginDeleteValid q (l .first)) (stepValid q (l .first)))
-      (numbers-told q (l .second) (l .third) (l .fourth) (accepted q (l .first) fill))
-      ∙ same-idle (refused q) (accepted q (l .first) fill) (accepted q (l .first) walk) (accepted q (l .first) go) (chosen q) i d a b (isIdle (processorAt q (l .first) .stage)) s n
+      let p = l .first in
+      let okI = accepted q p fill in
+      let okD = accepted q p walk in
+      let okS = accepted q p go in
+      let idle = isIdle (processorAt q p .stage) in
+      ap
+      (λ (o : Outcome).
+      byLetter (l .letter) (onProcessor q p (onIdle q p o)) (beginDeleteValid q p)
+      (stepValid q p))
+      (numbers-told q (l .second) (l .third) (l .fourth) okI)
+      ∙ same-idle (refused q) okI okD okS (chosen q) i d a b idle s n
       (λ k. ap (λ (p : ℕ). isIdle (processorAt q p .stage)) (sym (slot-known q (l .first) k)))
-      ∙ by-tests (refused q) (accepted q (l .first) fill) (accepted q (l .first) walk) (accepted q (l .first) go) (chosen q) i d a b s n
+      ∙ by-tests (refused q) okI okD okS (chosen q) i d a b s n
       ∙ ap (λ (y : ℕ). cond (ltb 0 (refusalOn l q y)) (refused q (refusalOn l q y)) (cond i (accepted q (l .first) fill) (cond d (accepted q (l .first) walk) (accepted q (l .first) go)))) (sym known)
       ∙ ap (λ (o : Outcome). cond (ltb 0 (refusalOn l q x)) (refused q (refusalOn l q x)) o) (decided-by fill walk go i d)
 
@@ -174,10 +195,12 @@ module _ (l : Line) (q : Queue) (x : ℕ) (known : x ≡ nodeFor l q) where
 
   facts :
       refusalOn l q x ≡ 0 →
-      Passed (eqb (l .letter) letterI) (leb maxNumber (q .clock)) (leb (q .processors) (l .first)) (numbersRefusal (l .second) (l .third) (l .fourth) (q .levels)) (early l q) x (chosen q)
+      Passed (eqb (l .letter) letterI) (leb maxNumber (q .clock)) (leb (q .processors) (l .first))
+      (numbersRefusal (l .second) (l .third) (l .fourth) (q .levels)) (early l q) x (chosen q)
   facts h =
       passed (eqb (l .letter) letterI) (eqb (l .letter) letterD) (leb maxNumber (q .clock)) (leb (q .processors) (l .first))
-      (isIdle (processorAt q (slotOf (l .first) (q .processors)) .stage)) (numbersRefusal (l .second) (l .third) (l .fourth) (q .levels)) (chosen q) x known h
+      (isIdle (processorAt q (slotOf (l .first) (q .processors)) .stage))
+      (numbersRefusal (l .second) (l .third) (l .fourth) (q .levels)) (chosen q) x known h
 
   pub clock-low : refusalOn l q x ≡ 0 → q .clock < maxNumber
   clock-low h = leb-false maxNumber (q .clock) (facts h .clock)
@@ -190,7 +213,8 @@ module _ (l : Line) (q : Queue) (x : ℕ) (known : x ≡ nodeFor l q) where
 
   pub height-low : valid q ≡ true → refusalOn l q x ≡ 0 → l .letter ≡ letterI → l .fourth ≤ 255
   height-low v h i =
-      let t = height-taken (l .second) (l .third) (l .fourth) (q .levels) (facts h .numbers (eq-eqb (l .letter) letterI i) .0) in
+      let n = facts h .numbers (eq-eqb (l .letter) letterI i) .0 in
+      let t = height-taken (l .second) (l .third) (l .fourth) (q .levels) n in
       let k = height-high q (l .fourth) v t in
       omega (arith, k)
 

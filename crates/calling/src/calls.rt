@@ -1,6 +1,7 @@
 // How many calls a line makes, and the refusal that one of them meets.
 ghost use mathlib.Core.Path.{_≡_};
-ghost use Rattle.calling.specs.Calls.{callsOf, slotOf, lineRefusal, callRefusal, asksNode, withNode};
+ghost use Rattle.calling.specs.Calls.{callsOf, slotOf, lineRefusal, callRefusal};
+ghost use Rattle.calling.specs.Calls.{asksNode, withNode};
 use checks::limits::NUMBER;
 use choosing::begins::numbers_refusal;
 use sheet::Line;

@@ -19,7 +19,8 @@ refusalBy e z h = cond e 35 (cond z 39 (cond h 36 0))
 
 by-tests :
     {A : Type 0} (R : ℕ → A) (e z h : Bool) (x : A) →
-    cond e (R 35) (cond z (R 39) (cond h (R 36) x)) ≡ cond (ltb 0 (refusalBy e z h)) (R (refusalBy e z h)) x
+    cond e (R 35) (cond z (R 39) (cond h (R 36) x))
+    ≡ cond (ltb 0 (refusalBy e z h)) (R (refusalBy e z h)) x
 by-tests {A} R true z h x = refl
 by-tests {A} R false true h x = refl
 by-tests {A} R false false true x = refl
@@ -27,11 +28,13 @@ by-tests {A} R false false false x = refl
 
 pub numbers-told :
     (q : Queue) (due item height : ℕ) (o : Outcome) →
+    let n = numbersRefusal due item height (q .levels) in
     onNumbers q due item height o
-    ≡ cond (ltb 0 (numbersRefusal due item height (q .levels))) (refused q (numbersRefusal due item height (q .levels)))
-    (cond (eqb (chosen q) 0) (refused q 37) o)
+    ≡ cond (ltb 0 n) (refused q n) (cond (eqb (chosen q) 0) (refused q 37) o)
 numbers-told q due item height o =
-    by-tests (refused q) (entryRefused due item) (eqb item 0) (outside height (q .levels)) (cond (eqb (chosen q) 0) (refused q 37) o)
+    let h = outside height (q .levels) in
+    by-tests (refused q) (entryRefused due item) (eqb item 0) h
+    (cond (eqb (chosen q) 0) (refused q 37) o)
 
 low-by-tests : (e z h : Bool) → refusalBy e z h ≡ 0 → h ≡ false
 low-by-tests true z h k = absurd (omega arith)
@@ -40,5 +43,8 @@ low-by-tests false false true k = absurd (omega arith)
 low-by-tests false false false k = refl
 
 -- a height that is not refused
-pub height-taken : (due item height levels : ℕ) → numbersRefusal due item height levels ≡ 0 → outside height levels ≡ false
-height-taken due item height levels = low-by-tests (entryRefused due item) (eqb item 0) (outside height levels)
+pub height-taken :
+    (due item height levels : ℕ) → numbersRefusal due item height levels ≡ 0 →
+    outside height levels ≡ false
+height-taken due item height levels =
+    low-by-tests (entryRefused due item) (eqb item 0) (outside height levels)

@@ -1,7 +1,8 @@
 // What a begin decides, and the refusals that an Insert's numbers have.
 ghost use mathlib.Core.Path.{_≡_};
 ghost use Rattle.checks.specs.Making.{outside};
-ghost use Rattle.choosing.specs.Begins.{insertBegins, deleteBegins, entryRefused, numbersRefusal};
+ghost use Rattle.choosing.specs.Begins.{insertBegins, deleteBegins};
+ghost use Rattle.choosing.specs.Begins.{entryRefused, numbersRefusal};
 use checks::limits::NUMBER;
 use record::Delete;
 use record::Insert;

@@ -20,7 +20,8 @@ use Rattle.record.specs.Stages.{isIdle}
 use Rattle.rules.specs.declared.answers.Outcome.{Outcome}
 use Rattle.rules.specs.declared.decisions.Decision.{Decision}
 use Rattle.rules.specs.Answers.{refused}
-use Rattle.rules.specs.Calls.{insertDecision, deleteDecision, onProcessor, onIdle, beginInsertValid, beginDeleteValid, beginInsert, beginDelete}
+use Rattle.rules.specs.Calls.{insertDecision, deleteDecision, onProcessor, onIdle}
+use Rattle.rules.specs.Calls.{beginInsertValid, beginDeleteValid, beginInsert, beginDelete}
 use Rattle.rules.specs.Choice.{chosen}
 use Rattle.rules.specs.Effects.{nodeOf, processorAfter, accepted}
 use Rattle.rules.specs.Runs.{Call, insert, deleteMin, after}
@@ -69,8 +70,7 @@ module _ (q : Queue) (p due item height : ℕ) where
       beginInsertValid q p due item height ≡ accepted q p (insertDecision q (chosen q) due item height)
   insert-accepted c h b e x g some =
       let z : (chosen q ≡ 0 → ⊥) = λ y. some (g ∙ y) in
-      let d = insertDecision q (chosen q) due item height in
-      ap (λ (o : Outcome). onProcessor q p (onIdle q p o)) (numbers-told q due item height (accepted q p d))
+      ap (λ (o : Outcome). onProcessor q p (onIdle q p o)) (numbers-told q due item height _)
       ∙ simp (lt-leb _ _ c, lt-leb _ _ h, b, e, ne-eqb (chosen q) 0 z)
 
   -- an Insert whose numbers are refused

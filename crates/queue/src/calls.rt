@@ -1,6 +1,7 @@
 // The calls: begin an Insert, begin a Delete_Min, step, on any record and with any numbers. Each is check 21 and then the inner form, which
-// a caller that keeps the record calls itself: it pays for no scan. The refusals stand in the order of document 01's table, with document 02's
-// 39: 21; 31, 32; 33 or 34; 35, 39, 36, 37. A refused call gives its number and the record as it came.
+// a caller that keeps the record calls itself: it pays for no scan. The refusals stand in the order
+// of document 01's table, with document 02's 39: 21; 31, 32; 33 or 34; 35, 39, 36, 37. A refused
+// call gives its number and the record as it came.
 ghost use mathlib.Core.Path.{_≡_};
 ghost use Rattle.rules.specs.Answers.{reported};
 ghost use Rattle.rules.specs.Calls.{beginInsert, beginDelete, step as stepOf};

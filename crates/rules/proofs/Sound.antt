@@ -195,8 +195,11 @@ module _ (q : Queue) (b : Book) (S : Sound q b) where
               insert-begun t≤ p< i (ltb-false 999999 due (or-left (ltb 999999 due) (ltb 999999 item) x)) (ltb-false height 1 (or-left (ltb height 1) (ltb (q .levels) height) y))
               (ltb-false (q .levels) height (or-right (ltb height 1) (ltb (q .levels) height) y)) (chosen q) (chosen-free q x≥)
 
+          told : (n : ℕ) → A (refused q n)
+          told n = refused-agrees (feedInsert b p due item) n refl
+
           numbers : q .clock + 1 ≤ 999999 → p < q .processors → isIdle (processorAt q p .stage) ≡ true → A (onNumbers q due item height (accepted q p (insertDecision q (chosen q) due item height)))
-          numbers t≤ p< i = cond-cases A (ltb 999999 due || ltb 999999 item) _ _ (λ _. refused-agrees (feedInsert b p due item) 35 refl)
-              (λ x. cond-cases A (eqb item 0) _ _ (λ _. refused-agrees (feedInsert b p due item) 39 refl)
-              (λ _. cond-cases A (outside height (q .levels)) _ _ (λ _. refused-agrees (feedInsert b p due item) 36 refl)
-              (λ y. cond-cases A (eqb (chosen q) 0) _ _ (λ _. refused-agrees (feedInsert b p due item) 37 refl) (λ z. begun t≤ p< i x y z))))
+          numbers t≤ p< i = cond-cases A (ltb 999999 due || ltb 999999 item) _ _ (λ _. told 35)
+              (λ x. cond-cases A (eqb item 0) _ _ (λ _. told 39)
+              (λ _. cond-cases A (outside height (q .levels)) _ _ (λ _. told 36)
+              (λ y. cond-cases A (eqb (chosen q) 0) _ _ (λ _. told 37) (λ z. begun t≤ p< i x y z))))

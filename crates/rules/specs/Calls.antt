@@ -115,7 +115,8 @@ onIdle q p r = cond (isIdle (processorAt q p .stage)) r (refused q 33)
 abbrev pub onBusy : Queue → ℕ → Outcome → Outcome
 onBusy q p r = cond (isIdle (processorAt q p .stage)) (refused q 34) r
 
--- "Insert: 35 due or item above 999,999; 36 height not 1 to L; 37 no node", and between 35 and 36 document 02's 39, item 0 (W10)
+-- "Insert: 35 due or item above 999,999; 36 height not 1 to L; 37 no node", and directly after 35
+-- document 02's 39, item 0 (W10)
 abbrev pub onNumbers : Queue → ℕ → ℕ → ℕ → Outcome → Outcome
 onNumbers q due item height r =
     cond (ltb maxNumber due || ltb maxNumber item) (refused q 35)

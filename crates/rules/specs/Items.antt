@@ -1,9 +1,12 @@
 -- Items. A record carries the items of its entries, and no rule looks at them: whatever numbers
--- stand for them, 0 included, check 21 says the same and every call does the same, with the items in
--- its answer renamed. Only a begin's own item is looked at, by 35 and 39 (document 02, W10).
+-- stand for them, 0 included, check 21 says the same and every call does the same, with the new
+-- items in its answer. Only the item that an Insert is given is looked at, by 35 and 39 (document
+-- 02, W10).
 use Prim.Native.Nat.{ℕ, _≤_, _<_}
 use mathlib.Core.Path.{_≡_}
+use mathlib.Core.Bool.{cond}
 use mathlib.Core.List.{map}
+use lib.Dec.{eqb}
 use Rattle.record.specs.declared.nodes.Node.{Node}
 use Rattle.record.specs.declared.queues.Queue.{Queue}
 use Rattle.record.specs.Limits.{maxNumber}
@@ -11,20 +14,39 @@ use Rattle.checks.specs.Check.{valid}
 use Rattle.rules.specs.declared.answers.Answer.{Answer}
 use Rattle.rules.specs.declared.answers.Answer.the-variants as ans
 use Rattle.rules.specs.declared.answers.Entry.{Entry}
-use Rattle.rules.specs.Runs.{Call, insert, deleteMin, steps, backlog, Reply, answered, counted, after, reply}
+use Rattle.rules.specs.Runs.{Call, insert, deleteMin, steps, backlog, after}
+use Rattle.rules.specs.Runs.{Reply, answered, counted, reply}
 
--- new numbers for items: those that are in range and no others come to be in range. 0 stays, which
--- nodes have that no entry used; any other number may become 0.
+-- f gives new numbers to items: what was in its range and nothing else comes to be in it. 0 stays,
+-- which nodes hold that no entry has used; any other number may become 0.
 pub record Renaming (f : ℕ → ℕ) : Type 0 where
   pub zero-stays : f 0 ≡ 0
   pub inside : (n : ℕ) → n ≤ maxNumber → f n ≤ maxNumber
   pub outside : (n : ℕ) → maxNumber < n → maxNumber < f n
 
 abbrev pub renamedNode : (ℕ → ℕ) → Node → Node
-renamedNode f n = record { forward = n .forward; locks = n .locks; lock = n .lock; mark = n .mark; stamp = n .stamp; due = n .due; ticket = n .ticket; item = f (n .item); height = n .height; state = n .state }
+renamedNode f n = record {
+  forward = n .forward;
+  locks = n .locks;
+  lock = n .lock;
+  mark = n .mark;
+  stamp = n .stamp;
+  due = n .due;
+  ticket = n .ticket;
+  item = f (n .item);
+  height = n .height;
+  state = n .state;
+}
 
 abbrev pub renamed : (ℕ → ℕ) → Queue → Queue
-renamed f q = record { processors = q .processors; entries = q .entries; levels = q .levels; clock = q .clock; nodes = map (renamedNode f) (q .nodes); callers = q .callers }
+renamed f q = record {
+  processors = q .processors;
+  entries = q .entries;
+  levels = q .levels;
+  clock = q .clock;
+  nodes = map (renamedNode f) (q .nodes);
+  callers = q .callers;
+}
 
 abbrev pub renamedEntry : (ℕ → ℕ) → Entry → Entry
 renamedEntry f e = record { due = e .due; item = f (e .item); ticket = e .ticket }
@@ -65,6 +87,22 @@ pub record SameButItems (f : ℕ → ℕ) (q : Queue) (c : Call) : Type 0 where
   pub left : after (renamed f q) (renamedCall f c) ≡ renamed f (after q c)
   pub given : reply (renamed f q) (renamedCall f c) ≡ renamedReply f (reply q c)
 
--- (an Insert's item does not become 0: 39)
+-- every call; an Insert's item does not become 0, since 39 is for that
 abbrev pub NoRuleSeesAnItem : Type 0
-NoRuleSeesAnItem = (f : ℕ → ℕ) → Renaming f → (q : Queue) (c : Call) → (f (itemOf c) ≡ 0 → itemOf c ≡ 0) → SameButItems f q c
+NoRuleSeesAnItem =
+    (f : ℕ → ℕ) → Renaming f → (q : Queue) (c : Call) → (f (itemOf c) ≡ 0 → itemOf c ≡ 0) →
+    SameButItems f q c
+
+-- 0 in the place of the item k
+abbrev pub zeroFor : ℕ → ℕ → ℕ
+zeroFor k n = cond (eqb n k) 0 n
+
+-- A record with item 0 where another has k is taken by check 21 where that one is, its Inserts are
+-- answered and its entries marked and handed out at the same steps, with 0 for k.
+pub record GoesOnWithZero (k : ℕ) (q : Queue) : Type 0 where
+  pub taken : valid (renamed (zeroFor k) q) ≡ valid q
+  pub begun : (p : ℕ) → SameButItems (zeroFor k) q (deleteMin p)
+  pub stepped : (p : ℕ) → SameButItems (zeroFor k) q (steps p)
+
+abbrev pub ItemZeroGoesOn : Type 0
+ItemZeroGoesOn = (k : ℕ) → k ≤ maxNumber → (q : Queue) → GoesOnWithZero k q

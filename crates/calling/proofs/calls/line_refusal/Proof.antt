@@ -2,9 +2,6 @@ use Rattle.laws.proofs.Rules.{tests}
 use borrow.Author.Needs.{needs}
 use Rattle.calling.proofs.calls.line_refusal.Statement.{statement}
 use Rattle.calling.proofs.calls.line_refusal.Tie as tie
-use Rattle.calling.proofs.calls.line_refusal.Reads as reads
-use Rattle.calling.proofs.calls.line_refusal.Lts as lts
-use Rattle.choosing.proofs.begins.numbers_refusal.Reads as numbers-refusal-reads
 
 -- src/calls.rt:56:13
 numbers-refusal-requires : tie.Need-numbers-refusal-requires

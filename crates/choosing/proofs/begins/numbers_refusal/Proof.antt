@@ -19,14 +19,16 @@ returns-2 c =
 
 returns-3 : tie.Need-returns-3
 returns-3 c =
-    let large = sym (c .before .before .before .before .entry-refused .ensures) ∙ c .before .before .if1 .left in
-    let tall = sym (c .before .before .before .height-refused .ensures) ∙ c .if3 .taken in
+    let at1 = c .before .before in
+    let large = sym (at1 .before .before .entry-refused .ensures) ∙ at1 .if1 .left in
+    let tall = sym (at1 .before .height-refused .ensures) ∙ c .if3 .taken in
     simp (large, c .before .if2 .left, tall)
 
 returns-4 : tie.Need-returns-4
 returns-4 c =
-    let large = sym (c .before .before .before .before .entry-refused .ensures) ∙ c .before .before .if1 .left in
-    let tall = sym (c .before .before .before .height-refused .ensures) ∙ c .if3 .left in
+    let at1 = c .before .before in
+    let large = sym (at1 .before .before .entry-refused .ensures) ∙ at1 .if1 .left in
+    let tall = sym (at1 .before .height-refused .ensures) ∙ c .if3 .left in
     simp (large, c .before .if2 .left, tall)
 
 pub numbers-refusal-spec : {M : Type 1} → statement M
