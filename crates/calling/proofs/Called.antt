@@ -38,7 +38,7 @@ call-kept l q v =
     (insert-kept q (l .first) (l .second) (l .third) (l .fourth) _ v refl .1)
     (cond-elim (λ (o : Outcome). valid (o .queue) ≡ true) (eqb (l .letter) letterD) _ _ (delete-kept q (l .first) _ v refl .1) (step-kept q (l .first) _ v refl .1))
 
--- 31 to 36 of the line's call
+-- 31 to 36 or 39 of the line's call
 abbrev pub early : Line → Queue → ℕ
 early l q = callRefusal l (q .clock) (q .processors) (q .levels) (isIdle (processorAt q (slotOf (l .first) (q .processors)) .stage))
 
