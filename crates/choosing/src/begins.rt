@@ -37,14 +37,14 @@ pub fn numbers_refusal(due: u32, item: u32, height: u32, levels: u8) -> u8
 {
     let large = entry_refused(due, item);
     let absent = item == 0;
-    let tall = height_refused(height, levels);
+    let outside = height_refused(height, levels);
     if large {
         return 35;
     }
     if absent {
         return 39;
     }
-    if tall { 36 } else { 0 }
+    if outside { 36 } else { 0 }
 }
 
 // An Insert takes node x at the time t: its Search starts from the head at level L.

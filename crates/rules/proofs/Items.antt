@@ -7,7 +7,7 @@ use Prim.Native.Nat.{ℕ, zero, suc, _+_, _≤_, _<_}
 use native.Mathlib.Decide.{decLe, ℕ-discrete}
 use native.Mathlib.Omega.{arith}
 use lib.Dec.{ltb, leb, eqb}
-use lib.ListN.{getD, set}
+use lib.ListN.{getD, set, List·getD-map}
 use borrow.Author.Tests.{le-leb, lt-leb, lt-ltb, le-ltb, eq-eqb, ne-eqb}
 use Rattle.laws.proofs.Booleans.{cond-elim}
 use Rattle.laws.specs.Every.{everyBelow}
@@ -65,13 +65,6 @@ cond-pair {A} {B} g false false x y u v e h k = k
 
 cond-image : {A B : Type 0} (g : A → B) (t : Bool) (x y : A) → cond t (g x) (g y) ≡ g (cond t x y)
 cond-image {A} {B} g t x y = cond-pair g t t x y (g x) (g y) refl refl refl
-
-map-read :
-    {A : Type 0} (g : A → A) (l : List A) (k : ℕ) (d : A) → g d ≡ d →
-    getD (map g l) k d ≡ g (getD l k d)
-map-read {A} g [] k d h = sym h
-map-read {A} g (x ∷ xs) zero d h = refl
-map-read {A} g (x ∷ xs) (suc k) d h = map-read g xs k d h
 
 map-set :
     {A : Type 0} (g : A → A) (l : List A) (k : ℕ) (v : A) →
@@ -236,7 +229,10 @@ module _ (f : ℕ → ℕ) where
 
   module _ (R : Renaming f) where
     node-read : (q : Queue) (x : ℕ) → nodeAt (renamed f q) x ≡ renamedNode f (nodeAt q x)
-    node-read q x = map-read (renamedNode f) (q .nodes) x (freshNode 0) (rw (R .zero-stays) refl)
+    node-read q x =
+        let fresh : renamedNode f (freshNode 0) ≡ freshNode 0 = rw (R .zero-stays) refl in
+        ap (getD (map (renamedNode f) (q .nodes)) x) (sym fresh)
+        ∙ List·getD-map (renamedNode f) (q .nodes) x (freshNode 0)
 
     -- the tests of a number: 35 and check 21's
     in-range : (n : ℕ) → leb (f n) maxNumber ≡ leb n maxNumber

@@ -21,15 +21,15 @@ returns-3 : tie.Need-returns-3
 returns-3 c =
     let at1 = c .before .before in
     let large = sym (at1 .before .before .entry-refused .ensures) ∙ at1 .if1 .left in
-    let tall = sym (at1 .before .height-refused .ensures) ∙ c .if3 .taken in
-    simp (large, c .before .if2 .left, tall)
+    let out = sym (at1 .before .height-refused .ensures) ∙ c .if3 .taken in
+    simp (large, c .before .if2 .left, out)
 
 returns-4 : tie.Need-returns-4
 returns-4 c =
     let at1 = c .before .before in
     let large = sym (at1 .before .before .entry-refused .ensures) ∙ at1 .if1 .left in
-    let tall = sym (at1 .before .height-refused .ensures) ∙ c .if3 .left in
-    simp (large, c .before .if2 .left, tall)
+    let out = sym (at1 .before .height-refused .ensures) ∙ c .if3 .left in
+    simp (large, c .before .if2 .left, out)
 
 pub numbers-refusal-spec : {M : Type 1} → statement M
 numbers-refusal-spec =

@@ -1,7 +1,8 @@
 use mathlib.Core.Path.{_≡_, sym, ap, _∙_, subst}
 use mathlib.Core.Bool.{true, false}
-use Prim.Native.Nat.{ℕ, _≤_, _<_}
+use Prim.Native.Nat.{ℕ, _<_}
 use native.Mathlib.Omega.{arith}
+use lib.Arith.{le-zero}
 use borrow.Author.Needs.{needs}
 use borrow.Author.Tests.{le-leb, lt-leb, not-true, not-false}
 use Rattle.record.specs.declared.queues.Processor.{Processor}
@@ -18,9 +19,6 @@ use Rattle.queue.proofs.Begun.{chosen-low, height-high, insert-decided,
 use Rattle.queue.proofs.Begun.{insert-told, insert-without, insert-accepted, insert-kept}
 use Rattle.queue.proofs.inserting.begin_insert_valid.Statement.{statement}
 use Rattle.queue.proofs.inserting.begin_insert_valid.Tie as tie
-
-zero-of : (n : ℕ) → n ≤ 0 → n ≡ 0
-zero-of n h = omega arith
 
 returns : tie.Need-returns
 returns c =
@@ -125,7 +123,7 @@ returns-5 c =
     ap (λ (x : Processor). isIdle (x .stage)) (sym read) ∙ told in
     let at4 = c .before .before in
     let numbers : numbersRefusal due item height (q .levels) ≡ 0 =
-    sym (at4 .before .numbers-refusal .ensures) ∙ zero-of _ (at4 .if4 .left) in
+    sym (at4 .before .numbers-refusal .ensures) ∙ le-zero (at4 .if4 .left) in
     let none : chosen q ≡ 0 = sym (c .before .choose .ensures) ∙ c .if5 .taken in
     insert-kept q p due item height _ v
     (sym
@@ -145,7 +143,7 @@ cast-insert-begins c =
     let height = top .args .height in
     let at4 = c .before .before in
     let numbers : numbersRefusal due item height (q .levels) ≡ 0 =
-    sym (at4 .before .numbers-refusal .ensures) ∙ zero-of _ (at4 .if4 .left) in
+    sym (at4 .before .numbers-refusal .ensures) ∙ le-zero (at4 .if4 .left) in
     let h = height-high q height v (height-taken due item height (q .levels) numbers) in
     omega arith
 
@@ -223,7 +221,7 @@ returns-6 c =
     ap (λ (x : Processor). isIdle (x .stage)) (sym read) ∙ told in
     let at4 = c .before .before .before .before .before .before in
     let numbers : numbersRefusal due item height (q .levels) ≡ 0 =
-    sym (at4 .before .numbers-refusal .ensures) ∙ zero-of _ (at4 .if4 .left) in
+    sym (at4 .before .numbers-refusal .ensures) ∙ le-zero (at4 .if4 .left) in
     let ln = nodes-long q (top .good .0 .1 .1 .1 .1 .1 .1 .0 .1 .0 .1) in
     let x≡ = c .before .before .before .before .before .choose .ensures in
     let d≡ = c .before .before .before .insert-begins .ensures in
