@@ -138,7 +138,7 @@ fn large_record(seed: u64) -> Queue {
     let mut random = Random::new(seed);
     let mut queue = fresh(16, 200, 8).expect("the sizes are in range");
     // a filled queue, then some hundred operations, so that nodes are used again
-    while queue.backlog_inner() < 180 {
+    while queue.in_use() < 180 {
         advance(&mut queue, &mut random, 200);
     }
     for _ in 0..20_000 {
@@ -158,7 +158,7 @@ fn advance(queue: &mut Queue, random: &mut Random, most: u32) {
         queue.step_inner(p).expect("a busy processor's step");
         return;
     }
-    if queue.backlog_inner() < most && insert(queue, random, p) {
+    if queue.in_use() < most && insert(queue, random, p) {
         return;
     }
     queue

@@ -68,7 +68,8 @@ impl Book {
     pub fn enter(&mut self, call: &Call, outcome: &Outcome) -> Result<(), Fault> {
         match (*call, *outcome) {
             (_, Outcome::Refused(_)) => Ok(()),
-            (Call::Backlog, Outcome::Count(_)) => Ok(()),
+            (Call::Backlog, Outcome::Count(count)) if count == self.pending() => Ok(()),
+            (Call::Backlog, Outcome::Count(_)) => Err("a backlog of another number of entries"),
             (
                 Call::Insert {
                     processor,
@@ -116,6 +117,15 @@ impl Book {
             .filter(|written| !written.marked && written.answered.is_some_and(|t| t < begin))
             .map(|written| written.entry)
             .min_by_key(|entry| (entry.due, entry.ticket))
+    }
+
+    /// How many entries are answered and not marked: what Backlog must give
+    /// (document 02, W2). Entries that were handed out are marked.
+    pub fn pending(&self) -> u32 {
+        self.entries
+            .iter()
+            .filter(|written| written.answered.is_some() && !written.marked)
+            .count() as u32
     }
 
     /// Where the entry with this ticket stands.

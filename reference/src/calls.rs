@@ -83,7 +83,8 @@ impl Queue {
         self.step_inner(processor)
     }
 
-    /// How many nodes are in use. Refused with 21 alone.
+    /// How many nodes are in use, stamped and unmarked (document 02, W2).
+    /// Refused with 21 alone.
     pub fn backlog(&self) -> Result<u32, Refusal> {
         self.check()?;
         Ok(self.backlog_inner())

@@ -258,11 +258,22 @@ impl Queue {
             .filter(|processor| processor.stage != Stage::Idle)
     }
 
-    /// How many nodes are in use, without check 21.
+    /// The nodes for entries.
+    fn entry_nodes(&self) -> impl Iterator<Item = &Node> {
+        self.nodes[1..=self.node_count as usize].iter()
+    }
+
+    /// How many nodes are in use. No call gives this; the benchmarks fill
+    /// queues by it.
+    pub fn in_use(&self) -> u32 {
+        let used = |node: &&Node| node.usage == Use::InUse;
+        self.entry_nodes().filter(used).count() as u32
+    }
+
+    /// How many entries are answered and not marked, told by the nodes
+    /// (document 02, W2), without check 21.
     pub fn backlog_inner(&self) -> u32 {
-        self.nodes[1..=self.node_count as usize]
-            .iter()
-            .filter(|node| node.usage == Use::InUse)
-            .count() as u32
+        let counts = |node: &&Node| node.usage == Use::InUse && node.stamp.is_some() && !node.mark;
+        self.entry_nodes().filter(counts).count() as u32
     }
 }

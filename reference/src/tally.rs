@@ -25,6 +25,8 @@ pub struct Tally {
     pub empty: u64,
     /// Backlog calls.
     pub backlogs: u64,
+    /// Calls after which fewer entries are counted than nodes are in use.
+    pub fewer_than_in_use: u64,
     /// Nodes taken again.
     pub reused: u64,
     /// Lock-seeks that gave a lock up again (G4).
@@ -51,6 +53,7 @@ impl Tally {
         self.handed += other.handed;
         self.empty += other.empty;
         self.backlogs += other.backlogs;
+        self.fewer_than_in_use += other.fewer_than_in_use;
         self.reused += other.reused;
         self.moved_on += other.moved_on;
         self.marks_lost += other.marks_lost;

@@ -89,14 +89,15 @@ impl<M: Machine> Trial<M> {
     }
 
     /// Makes so many calls of the schedule; each answer goes through the book
-    /// and the table of refusals, and after every `every`-th call the
-    /// invariant is looked at.
+    /// and the table of refusals, and so does the backlog after each call;
+    /// after every `every`-th one the invariant is looked at.
     pub fn play(&mut self, calls: u64, every: u64) -> Result<(), Failure> {
         for _ in 0..calls {
             let call = self.schedule.next_call();
             let outcome = self.make(&call);
             self.check_refusals(&call, &outcome)?;
             self.enter(&call, &outcome)?;
+            self.check_backlog()?;
             self.refusals.note(&self.book, &call, &outcome);
             self.tally.reused = self.refusals.reused;
             if self.tally.calls.is_multiple_of(every) {
@@ -163,8 +164,7 @@ impl<M: Machine> Trial<M> {
         }
     }
 
-    /// The refusal is the one that the calls before ask for, and the backlog
-    /// is the number of entries not handed out.
+    /// The refusal is the one that the calls before ask for.
     fn check_refusals(&self, call: &Call, outcome: &Outcome) -> Result<(), Failure> {
         let refused = match *outcome {
             Outcome::Refused(number) => Some(number),
@@ -175,12 +175,19 @@ impl<M: Machine> Trial<M> {
             let text = format!("{call:?} gave {outcome:?}, but refusal {expected:?} was due");
             return Err(self.failure(text));
         }
-        match *outcome {
-            Outcome::Count(count) if count as usize != self.book.entries.len() => {
-                Err(self.failure(format!("backlog {count} is wrong")))
-            }
-            _ => Ok(()),
+        Ok(())
+    }
+
+    /// Backlog would give what the book asks for, whether it is called here or
+    /// not.
+    fn check_backlog(&mut self) -> Result<(), Failure> {
+        let queue = self.machine.queue();
+        let count = queue.backlog_inner();
+        self.tally.fewer_than_in_use += u64::from(count < queue.in_use());
+        if count == self.book.pending() {
+            return Ok(());
         }
+        Err(self.failure(format!("the backlog would be {count}")))
     }
 
     fn check_invariant(&mut self) -> Result<(), Failure> {

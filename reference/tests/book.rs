@@ -96,6 +96,55 @@ fn wrong_begins_and_steps_are_noticed() {
     assert!(mixed.unwrap_err().contains("cannot give this back"));
 }
 
+/// Backlog counts what is answered and not marked, handed out or not.
+#[test]
+fn wrong_backlogs_are_noticed() {
+    let counts = |list: &[(Call, Outcome)], right: u32| {
+        for count in 0..4 {
+            let mut list = list.to_vec();
+            list.push((Call::Backlog, Outcome::Count(count)));
+            let wrong = enter(&list).err();
+            let expected = (count != right).then_some("a backlog of another number of entries");
+            assert_eq!(wrong, expected, "{count} after {list:?}");
+        }
+    };
+    counts(&[], 0);
+    let mut list = Vec::new();
+    let calls = [
+        (insert(0, FIRST), 0),
+        (
+            insert(
+                1,
+                Entry {
+                    ticket: 2,
+                    ..SECOND
+                },
+            ),
+            0,
+        ),
+        (step(0, Answer::Inserted(FIRST)), 1),
+        (
+            step(
+                1,
+                Answer::Inserted(Entry {
+                    ticket: 2,
+                    ..SECOND
+                }),
+            ),
+            2,
+        ),
+        (delete(0, 5), 2),
+        (step(0, Answer::Marked(FIRST)), 1),
+        (step(0, Answer::Waits), 1),
+        (step(0, Answer::HandedOut(FIRST)), 1),
+        ((Call::Step { processor: 0 }, Outcome::Refused(34)), 1),
+    ];
+    for (call, right) in calls {
+        list.push(call);
+        counts(&list, right);
+    }
+}
+
 #[test]
 fn wrong_answers_are_noticed() {
     let fault = |answers: &[Answer]| {

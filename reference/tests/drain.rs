@@ -31,8 +31,9 @@ fn every_operation_ends_when_nothing_more_is_begun() {
         let idle = trial.machine.busy().next().is_none();
         assert!(idle, "{sizes:?}");
         // What is left are the entries that nobody marked, all answered.
-        let left = trial.machine.backlog_inner() as usize;
-        assert_eq!(left, trial.book.entries.len());
+        let left = trial.book.entries.len() as u32;
+        assert_eq!(trial.machine.in_use(), left);
+        assert_eq!(trial.machine.backlog_inner(), left);
         assert!(trial
             .book
             .entries

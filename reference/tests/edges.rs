@@ -114,7 +114,7 @@ fn run_3_the_node_is_given_out_again_after_its_retirement() {
     assert_eq!(queue.clock, 28);
     assert_eq!(queue.begin_insert(0, 8, 43, 1), Ok(29));
     assert_eq!(queue.processors[0].own, 1);
-    assert_eq!((queue.nodes[1].usage, queue.backlog()), (Use::InUse, Ok(1)));
+    assert_eq!((queue.nodes[1].usage, queue.backlog()), (Use::InUse, Ok(0)));
 }
 
 #[test]
@@ -174,7 +174,7 @@ fn refusals_come_in_their_order() {
     assert_eq!(queue.begin_insert(2, 1_000_000, 0, 0), Err(31));
     assert_eq!(queue.begin_delete_min(2), Err(31));
     assert_eq!(queue.step(2), Err(31));
-    assert_eq!(queue.backlog(), Ok(1));
+    assert_eq!(queue.backlog(), Ok(0));
     queue.clock = 1_000_000;
     assert_eq!(queue.begin_insert(2, 1_000_000, 0, 0), Err(21));
     assert_eq!(queue.backlog(), Err(21));

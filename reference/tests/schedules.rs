@@ -1,6 +1,6 @@
 //! Random schedules: every answer goes through the book and the table of
-//! refusals, and the whole invariant is looked at after every single call, on
-//! the large sizes too. The two tests together make 5,000,000 calls and more.
+//! refusals, and the backlog and the whole invariant are looked at after every
+//! single call, on the large sizes too. The two tests together make 5,000,000 calls and more.
 
 use darthog_reference::queue::LIMIT;
 use darthog_reference::random::Random;
@@ -46,6 +46,7 @@ fn assert_rich(total: &Tally) {
         total.handed,
         total.empty,
         total.backlogs,
+        total.fewer_than_in_use,
         total.reused,
     ] {
         assert!(count > 10_000, "{total:?}");

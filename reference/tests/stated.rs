@@ -4,8 +4,9 @@
 use darthog_reference::any_record::slots_past;
 use darthog_reference::calls::{Call, Outcome};
 use darthog_reference::perturb::CALLS;
-use darthog_reference::queue::Queue;
+use darthog_reference::queue::{fresh, Queue};
 use darthog_reference::sheet::{run, SheetRefusal};
+use darthog_reference::stated::backlogs;
 use darthog_reference::stated::cases::each_case;
 use darthog_reference::stated::items;
 use darthog_reference::stated::records::record;
@@ -142,4 +143,28 @@ fn an_entry_with_item_0_goes_on_as_any_other() {
         assert_eq!(queue.call(&call), outcome, "{call:?} at {}", queue.clock);
     }
     assert_eq!(queue.clock, 29);
+}
+
+#[test]
+fn backlog_counts_the_stated_nodes() {
+    let mut cases = 0;
+    for backlogs::Counted { what, queue, count } in backlogs::records() {
+        assert_eq!(queue.backlog(), Ok(count), "{what}");
+        cases += 1;
+    }
+    println!("{cases} records");
+    assert!(cases > 400, "only {cases} records");
+}
+
+#[test]
+fn backlog_is_as_stated_along_the_printed_run() {
+    let mut queue = fresh(1, 1, 1).expect("the sizes are in range");
+    let mut calls = backlogs::printed().into_iter();
+    for (from, to, count) in backlogs::PRINTED {
+        for time in from..=to {
+            assert_eq!((queue.clock, queue.backlog()), (time, Ok(count)));
+            calls.next().map(|call| queue.call(&call));
+        }
+    }
+    assert_eq!(calls.next(), None, "the run is longer");
 }

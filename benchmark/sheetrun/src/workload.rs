@@ -281,7 +281,7 @@ fn day_line(queue: &mut Queue, random: &mut Random) -> Vec<u8> {
         }
         return line(b'S', [p, steps, 0, 0]);
     }
-    if queue.backlog_inner() < 150 && random.below(3) < 2 {
+    if queue.in_use() < 150 && random.below(3) < 2 {
         let (due, item) = (random.below(1_000_000), random.between(1, 999_999));
         let height = height(random, 8);
         // A refused Insert is in the sheet too.
