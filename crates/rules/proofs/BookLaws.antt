@@ -7,6 +7,9 @@ use native.Mathlib.Omega.{arith}
 use native.Mathlib.Decide.{ℕ-discrete}
 use lib.Dec.{ltb, eqb}
 use borrow.Author.Tests.{eqb-true}
+use Rattle.checks.specs.declared.counting.Count.{Count}
+use Rattle.checks.specs.declared.counting.Count.the-variants as count
+use Rattle.laws.specs.HowMany.{howMany}
 use Rattle.laws.specs.Update.{upd}
 use Rattle.laws.proofs.Booleans.{cond-cases}
 use Rattle.laws.proofs.Counting.{and-left, and-right}
@@ -15,7 +18,7 @@ use Rattle.record.specs.declared.queues.Queue.{Queue}
 use Rattle.rules.specs.declared.answers.Answer.{Answer}
 use Rattle.rules.specs.declared.answers.Answer.the-variants as ans
 use Rattle.rules.specs.declared.answers.Entry.{Entry}
-use Rattle.rules.specs.Book.{Line, Open, nothing, inserting, deleting, delivering, Book, Verdict, agrees, differs, provided, now, turned, pick, gives, withAnswer, withMark, withHandOut, insertBegins, deleteBegins, inserted, marks, empties, handsOut, moves, feedInsert, feedDelete, feedStep, feed, thenFeed, judged}
+use Rattle.rules.specs.Book.{Line, Open, nothing, inserting, deleting, delivering, Book, Verdict, agrees, differs, provided, now, turned, pick, gives, withAnswer, withMark, withHandOut, insertBegins, deleteBegins, inserted, marks, empties, handsOut, moves, feedInsert, feedDelete, feedStep, pendingIn, feedBacklog, feed, thenFeed, judged}
 use Rattle.rules.specs.Runs.{Call, insert, deleteMin, steps, backlog, Reply, answered, counted, after, reply}
 
 -- what holds of the book of an answer that agrees
@@ -147,6 +150,10 @@ module _ (flag : Line → Bool) (t : ℕ) (answer-keeps : (l : Line) (n : ℕ) �
     fed-step p (ans.Inserted e) = insert-answers p e (b .opened p)
     fed-step p (ans.HandedOut e) = delete-hands-out p e (b .opened p)
 
+    fed-backlog : (k : Count) → K (feedBacklog b k)
+    fed-backlog (count.Refused n) = S
+    fed-backlog (count.Pending k) = right-provided (Stays flag t) (eqb k (howMany (pendingIn b) (b .count))) b (λ _. S)
+
     fed : (c : Call) (r : Reply) → K (feed b c r)
     fed (insert p due item height) (answered a) = fed-insert p due item a
     fed (insert p due item height) (counted k) = tt
@@ -155,7 +162,7 @@ module _ (flag : Line → Bool) (t : ℕ) (answer-keeps : (l : Line) (n : ℕ) �
     fed (steps p) (answered a) = fed-step p a
     fed (steps p) (counted k) = tt
     fed backlog (answered a) = tt
-    fed backlog (counted k) = S
+    fed backlog (counted k) = fed-backlog k
 
   then-fed : (v : Verdict) (f : Book → Verdict) → Right (Stays flag t) v → ((b : Book) → Stays flag t b → Right (Stays flag t) (f b)) → Right (Stays flag t) (thenFeed v f)
   then-fed (agrees b) f S h = h b S

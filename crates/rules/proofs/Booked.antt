@@ -41,7 +41,7 @@ use Rattle.rules.proofs.WalkSteps.{empty-right, mark-pick}
 use Rattle.rules.proofs.Begin.{rank-entry}
 use Rattle.rules.specs.Book.{Line, Open, nothing, delivering, Book, turned, pick, gives, withAnswer, withMark, withHandOut}
 use Rattle.rules.proofs.Picks.{order, Candidate, Picked, none, one, picked}
-use Rattle.rules.proofs.Rel.{opens, lineOf, Found, Filed, Rel, Booked, quiet, Quiet, quiet-booked}
+use Rattle.rules.proofs.Rel.{opens, lineOf, Found, Filed, Rel, Booked, quiet, Quiet, quiet-booked, still-past}
 
 -- a decision of a seek is quiet where its effect is
 abbrev sought-quiet : Sought → Type 0
@@ -140,7 +140,7 @@ module _ (v : View) (u : ℕ → ℕ → ℕ) (I : Inv v u) (b : Book) (R : Rel 
       C = candidate-of a L
 
       t≥ : 1 ≤ v .tick a
-      t≥ = R .late (v .tick a) (C .written)
+      t≥ = R .late (v .tick a) (C .written) .0
 
       t< : v .tick a ≤ b .count
       t< = omega (arith, R .count, I .core .entered a (L .low) (omega (arith, L .high)) .ticket)
@@ -205,14 +205,14 @@ module _ (v : View) (u : ℕ → ℕ → ℕ) (I : Inv v u) (b : Book) (R : Rel 
             item = same-line (λ (x : Line). x .item ≡ v .item (v .pr q .own)) _ t (λ y. l-item ∙ y) (G .item);
           }
 
-      late : (t : ℕ) → Dec (t ≡ v .tick o) → upd (b .entry) (v .tick o) l t .written ≡ true → 1 ≤ t
-      late t (yes e) = rw e λ w. R .late (v .tick o) (F .written)
-      late t (no d) = rw (upd-other (b .entry) (v .tick o) l t d) λ w. R .late t w
+      late : (t : ℕ) → Dec (t ≡ v .tick o) → upd (b .entry) (v .tick o) l t .written ≡ true → (1 ≤ t) × (t ≤ b .count + 1)
+      late t (yes e) = rw e λ w. still-past (R .late (v .tick o) (F .written))
+      late t (no d) = rw (upd-other (b .entry) (v .tick o) l t d) λ w. still-past (R .late t w)
 
 -- what one processor has open changes, and no entry
 pub rel-open : (v : View) (b : Book) (R : Rel v b) (p : ℕ) (c : Pr) (op : Open) → op ≡ opens (info (v .ht (c .own)) (c .stage) .kind) (c .begin) (v .tick (c .own)) →
     (info (v .ht (c .own)) (c .stage) .kind ≡ 1 → ⊥) → Rel (ticked v p c) (turned b (b .entry) p op)
-rel-open v b R p c op e not-insert = record { count = omega (arith, R .count); opened = λ q. opened q (ℕ-discrete q p); kept = R .kept; found = R .found; filed = λ q. filed q (ℕ-discrete q p); late = R .late }
+rel-open v b R p c op e not-insert = record { count = omega (arith, R .count); opened = λ q. opened q (ℕ-discrete q p); kept = R .kept; found = R .found; filed = λ q. filed q (ℕ-discrete q p); late = λ t w. still-past (R .late t w) }
   where
     filed : (q : ℕ) → Dec (q ≡ p) → claim (ticked v p c) q .kind ≡ 1 → Filed (b .entry) (v .tick) (v .due) (v .item) (upd (v .pr) p c q .own)
     filed q (yes f) = rw (f, upd-same (v .pr) p c) λ k. absurd (not-insert k)
@@ -295,7 +295,7 @@ module _ (v : View) (u : ℕ → ℕ → ℕ) (I : Inv v u) (H : NodeHeld v) (ro
           let l = R .kept n (L .low) (L .high) (L .used) in
           let is = pick-is v u I b R (v .pr p .begin) n L (M .1) in
           let same = gives-true b (entryAt v n) (v .tick n) (sym (ap (λ (x : Line). x .due) l)) (sym (ap (λ (x : Line). x .item) l)) refl in
-          let pos = lt-ltb 0 (v .tick n) (R .late (v .tick n) (ap (λ (x : Line). x .written) l)) in
+          let pos = lt-ltb 0 (v .tick n) (R .late (v .tick n) (ap (λ (x : Line). x .written) l) .0) in
           rw x (record {
             after = turned b (upd (b .entry) (v .tick n) (withMark (b .entry (v .tick n)))) p (delivering (v .tick n));
             fed = rw (open-at s e, is, pos, same);

@@ -8,6 +8,7 @@ use Rattle.record.specs.Queues.{freshQueue}
 use Rattle.rules.specs.Book.{Book, emptyBook, agrees, feed, judged}
 use Rattle.rules.specs.Demand3.{InRange, Demand3, ReachedIsValid, OutsideIsUntouched}
 use Rattle.rules.specs.Runs.{Call, insert, deleteMin, steps, backlog, after, reply, afterAll}
+use Rattle.rules.proofs.Backlog.{backlog-agrees}
 use Rattle.rules.proofs.Sound.{Sound, insert-agrees, delete-agrees, step-agrees}
 use Rattle.rules.proofs.Fresh.{fresh-sound}
 use Rattle.rules.proofs.Untouched.{untouched-all}
@@ -23,7 +24,7 @@ pub turned-by : (q : Queue) (b : Book) → Sound q b → (c : Call) → Turned q
 turned-by q b S (insert p due item height) = let A = insert-agrees q b S p due item height in record { book = A .book; fed = A .fed; sound = A .sound }
 turned-by q b S (deleteMin p) = let A = delete-agrees q b S p in record { book = A .book; fed = A .fed; sound = A .sound }
 turned-by q b S (steps p) = let A = step-agrees q b S p in record { book = A .book; fed = A .fed; sound = A .sound }
-turned-by q b S backlog = record { book = b; fed = refl; sound = S }
+turned-by q b S backlog = record { book = b; fed = backlog-agrees q b S; sound = S }
 
 -- a list of calls from any record and book for which all of it holds
 pub record Judged (q : Queue) (b : Book) (cs : List Call) : Type 0 where

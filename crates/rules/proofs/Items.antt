@@ -10,8 +10,10 @@ use lib.Dec.{ltb, leb, eqb}
 use lib.ListN.{getD, set, List·getD-map}
 use borrow.Author.Tests.{le-leb, lt-leb, lt-ltb, le-ltb, eq-eqb, ne-eqb}
 use Rattle.laws.proofs.Booleans.{cond-elim}
+use Rattle.laws.proofs.Pairing.{many-same}
 use Rattle.laws.specs.Every.{everyBelow}
-use Rattle.checks.specs.Backlog.{usedTo, backlogOf}
+use Rattle.laws.specs.HowMany.{howMany}
+use Rattle.checks.specs.Backlog.{isPending, pendingAt, backlogOf}
 use Rattle.checks.specs.Check.{valid, sizesOf, nodeValid}
 use Rattle.checks.specs.Making.{outside}
 use Rattle.record.specs.declared.nodes.Node.{Node}
@@ -295,9 +297,11 @@ module _ (f : ℕ → ℕ) where
     chosen-same : (q : Queue) → chosen (renamed f q) ≡ chosen q
     chosen-same q = rw (fun-ext (λ (x : ℕ). ap (λ (n : Node). n .state) (node-read q x))) refl
 
-    used-same : (q : Queue) (k : ℕ) → usedTo (renamed f q) k ≡ usedTo q k
-    used-same q zero = refl
-    used-same q (suc k) = rw (used-same q k, node-read q (suc k)) refl
+    pending-same :
+        (q : Queue) (k : ℕ) → howMany (pendingAt (renamed f q)) k ≡ howMany (pendingAt q) k
+    pending-same q k =
+        many-same (pendingAt (renamed f q)) (pendingAt q) k
+        (λ x _ _. ap (λ (n : Node). isPending (n .state) (n .stamp) (n .mark)) (node-read q x))
 
     no-item : (item : ℕ) → (f item ≡ 0 → item ≡ 0) → eqb (f item) 0 ≡ eqb item 0
     no-item item h = go (ℕ-discrete item 0)
@@ -365,7 +369,7 @@ module _ (f : ℕ → ℕ) where
         (on-idle q p _ _ (on-numbers q due item height _ _ h (accepts q p d _ same)))
 
     backlog-same : (q : Queue) → backlogOf (renamed f q) ≡ backlogOf q
-    backlog-same q = rw (valid-same q, used-same q (q .entries)) refl
+    backlog-same q = rw (valid-same q, pending-same q (q .entries)) refl
 
 pub check-sees-no-item : CheckSeesNoItem
 check-sees-no-item f R q = valid-same f R q

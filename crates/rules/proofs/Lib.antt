@@ -31,6 +31,7 @@ pub mod Applied
 pub mod Refine
 pub mod Choose
 pub mod Sound
+pub mod Backlog
 pub mod Fresh
 pub mod Slots
 pub mod ValidFacts

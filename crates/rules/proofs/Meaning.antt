@@ -1,4 +1,5 @@
--- What demand 3 means: a marked entry is the earliest one left, EMPTY is true, what is handed out was marked, and both happen once. Assumes nothing.
+-- What demand 3 means: a marked entry is the earliest one left, EMPTY is true, what is handed out was marked, both happen once, and Backlog
+-- counts what is answered and not marked. Assumes nothing.
 use mathlib.Core.Path.{_≡_, refl, sym, ap, subst, _∙_}
 use mathlib.Core.Bool.{Bool, true, _&&_, not, true≢false}
 use mathlib.Core.List.{List, [], _∷_, _++_}
@@ -6,19 +7,22 @@ use Prim.Native.Nat.{ℕ, zero, suc, _≤_, _<_}
 use native.Mathlib.Omega.{arith}
 use lib.Dec.{ltb, eqb}
 use borrow.Author.Tests.{ltb-true, eqb-true, le-ltb, not-true}
+use Rattle.laws.specs.HowMany.{howMany}
 use Rattle.laws.proofs.Counting.{and-left, and-right}
 use Rattle.laws.proofs.Updating.{upd-same}
+use Rattle.checks.specs.Backlog.{pendingAt}
 use Rattle.record.specs.declared.queues.Queue.{Queue}
 use Rattle.record.specs.Queues.{freshQueue}
 use Rattle.rules.specs.declared.answers.Answer.{Answer}
 use Rattle.rules.specs.declared.answers.Answer.the-variants as ans
 use Rattle.rules.specs.declared.answers.Entry.{Entry}
 use Rattle.rules.specs.Book.{Line, Open, nothing, inserting, deleting, delivering, Book, agrees, pick, gives, withAnswer, withMark, withHandOut, marks, empties, handsOut, feed, feedStep, judged}
-use Rattle.rules.specs.Demand3.{InRange, BookAfter, Left, Entered, Earliest, MarkedIsEarliest, NoneLeft, EmptyIsTrue, Delivered, HandedOutIsMarked, MarkedOnce, HandedOutOnce}
+use Rattle.rules.specs.Demand3.{InRange, BookAfter, Left, Entered, Earliest, MarkedIsEarliest, NoneLeft, EmptyIsTrue, Delivered, HandedOutIsMarked, BacklogIsPending, MarkedOnce, HandedOutOnce}
 use Rattle.rules.specs.Runs.{Call, steps, Reply, answered, after, reply, afterAll}
 use Rattle.rules.proofs.BookLaws.{Right, right-book, right-provided, Given, given, Stays, stays}
 use Rattle.rules.proofs.Concrete.{viewOf}
-use Rattle.rules.proofs.Demand3.{turned-by, all-judged, reached}
+use Rattle.rules.proofs.Demand3.{turned-by, all-judged, reached, reached-is-valid}
+use Rattle.rules.proofs.Backlog.{backlog-pending}
 use Rattle.rules.proofs.Lead.{sure}
 use Rattle.rules.proofs.Picks.{Candidate, order, Picked, none, one, picked}
 use Rattle.rules.proofs.Put.{ever}
@@ -41,7 +45,7 @@ module _ (q : Queue) (b : Book) (S : Sound q b) where
   abbrev v : View
   v = viewOf q
 
-  -- the tickets are times, and those of entries that no step marked have passed
+  -- the tickets are times, and have passed
   count-high : b .count < ever
   count-high = omega (arith, S .rel .count, S .inv .core .clock)
 
@@ -49,7 +53,7 @@ module _ (q : Queue) (b : Book) (S : Sound q b) where
   node-ticket n n≥ n≤ = omega (arith, S .rel .count, S .inv .core .entered n n≥ (omega arith) .ticket)
 
   left-by : (T t : ℕ) → Left b T t → t ≤ b .count
-  left-by T t E = let F = S .rel .found t (E .written) (E .unmarked) in omega (arith, node-ticket (F .node) (F .low) (F .high))
+  left-by T t E = S .rel .late t (E .written) .1
 
   candidate : (T t : ℕ) → Left b T t → Candidate b T t
   candidate T t E = record { written = E .written; answered = E .answered-before; unmarked = E .unmarked }
@@ -71,7 +75,7 @@ module _ (q : Queue) (b : Book) (S : Sound q b) where
     }
       where
         ahead : (t : ℕ) → Left b T t → order b (pick b T) ≤ order b t
-        ahead t E = least t (S .rel .late t (E .written)) (left-by T t E) (candidate T t E)
+        ahead t E = least t (S .rel .late t (E .written) .0) (left-by T t E) (candidate T t E)
 
     marks-right : (e : Entry) (o : Open) → b .opened p ≡ o → Right (λ b′. Earliest b p e × Stays (λ l. l .marked) (e .ticket) b′) (marks b p e o)
     marks-right e nothing i = tt
@@ -88,7 +92,7 @@ module _ (q : Queue) (b : Book) (S : Sound q b) where
     empties-right (deleting T) i = right-provided _ (eqb (pick b T) 0) _ (λ h. go (eqb-true (pick b T) 0 h) (picked b T count-high))
       where
         go : pick b T ≡ 0 → Picked b T (b .count) (pick b T) → NoneLeft b p
-        go z (none _ h) = record { begin = T; opened = i; none = λ t E. h t (S .rel .late t (E .written)) (left-by T t E) (candidate T t E) }
+        go z (none _ h) = record { begin = T; opened = i; none = λ t E. h t (S .rel .late t (E .written) .0) (left-by T t E) (candidate T t E) }
         go z (one r≥ r≤ C least) = absurd (omega arith)
     empties-right (delivering x) i = tt
 
@@ -131,6 +135,12 @@ empty-is-true P N L R cs b h p r = emptying (afterAll (freshQueue P N L) cs) b (
 
 pub handed-out-is-marked : HandedOutIsMarked
 handed-out-is-marked P N L R cs b h p e r = handing-out (afterAll (freshQueue P N L) cs) b (sound-after P N L R cs b h) p e r .0
+
+pub backlog-is-pending : BacklogIsPending
+backlog-is-pending P N L R cs b h =
+    let q = afterAll (freshQueue P N L) cs in
+    let ok = reached-is-valid P N L R cs in
+    (howMany (pendingAt q) (q .entries), rw ok refl, backlog-pending q b (sound-after P N L R cs b h) ok)
 
 after-append : (q : Queue) (cs ds : List Call) → afterAll q (cs ++ ds) ≡ afterAll (afterAll q cs) ds
 unfolding afterAll

@@ -54,8 +54,8 @@ pub record Rel (v : View) (b : Book) : Type 0 where
   pub found : (t : ℕ) → b .entry t .written ≡ true → b .entry t .marked ≡ false → Found (v .us) (v .tick) (v .nodes) t
   -- the entry of an open Insert, whose node may be retired already
   pub filed : (q : ℕ) → claim v q .kind ≡ 1 → Filed (b .entry) (v .tick) (v .due) (v .item) (v .pr q .own)
-  -- tickets are times
-  pub late : (t : ℕ) → b .entry t .written ≡ true → 1 ≤ t
+  -- tickets are times, and have passed
+  pub late : (t : ℕ) → b .entry t .written ≡ true → (1 ≤ t) × (t ≤ b .count)
 
 pub record Booked (v : View) (p : ℕ) (b : Book) (d : Decision) : Type 0 where
   pub after : Book
@@ -128,10 +128,14 @@ procs-same v p (eff.Stamp x) = refl
 procs-same v p (eff.Retire x) = refl
 procs-same v p (eff.Fill x d i h) = refl
 
+-- a time that has passed has passed one call later
+pub still-past : {t n : ℕ} → (1 ≤ t) × (t ≤ n) → (1 ≤ t) × (t ≤ n + 1)
+still-past {t} {n} h = (h .0, omega (arith, h .1))
+
 rel-ticked : (w : View) (b : Book) (p : ℕ) (c : Pr) → Rel w b → c .begin ≡ w .pr p .begin → c .own ≡ w .pr p .own →
     info (w .ht (c .own)) (c .stage) .kind ≡ claim w p .kind → Rel (ticked w p c) (counted b)
 rel-ticked w b p c R began own kind =
-    record { count = omega (arith, R .count); opened = λ q. opened q (ℕ-discrete q p); kept = R .kept; found = R .found; filed = λ q. filed q (ℕ-discrete q p); late = R .late }
+    record { count = omega (arith, R .count); opened = λ q. opened q (ℕ-discrete q p); kept = R .kept; found = R .found; filed = λ q. filed q (ℕ-discrete q p); late = λ t w. still-past (R .late t w) }
   where
     filed : (q : ℕ) → Dec (q ≡ p) → claim (ticked w p c) q .kind ≡ 1 → Filed (b .entry) (w .tick) (w .due) (w .item) (upd (w .pr) p c q .own)
     filed q (yes e) = rw (e, upd-same (w .pr) p c) λ k. subst (λ (n : ℕ). Filed (b .entry) (w .tick) (w .due) (w .item) n) (sym own) (R .filed p (sym kind ∙ k))

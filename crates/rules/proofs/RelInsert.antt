@@ -14,7 +14,7 @@ use Rattle.rules.proofs.Facts.{kind-any}
 use Rattle.rules.proofs.Assemble.{ticked}
 use Rattle.rules.proofs.Machine.{filled}
 use Rattle.rules.proofs.Begin.{inserter}
-use Rattle.rules.proofs.Rel.{opens, lineOf, Found, Filed, Rel}
+use Rattle.rules.proofs.Rel.{opens, lineOf, Found, Filed, Rel, still-past}
 
 module _ (v : View) (u : ℕ → ℕ → ℕ) (I : Inv v u) (b : Book) (R : Rel v b) (p x d i h : ℕ) (fwd lk : ℕ → ℕ → ℕ)
     (x≥ : 1 ≤ x) (x≤ : x ≤ v .nodes) (free : v .us x ≡ 1 → ⊥) (own-ne : (q : ℕ) → 1 ≤ claim v q .kind → v .pr q .own ≡ x → ⊥) where
@@ -54,9 +54,9 @@ module _ (v : View) (u : ℕ → ℕ → ℕ) (I : Inv v u) (b : Book) (R : Rel 
           let nx : (F .node ≡ x → ⊥) = λ e. free (rw e at (F .used)) in
           record { node = F .node; low = F .low; high = F .high; used = rw (upd-other (v .us) x 1 (F .node) nx) (F .used); ticket = rw (upd-other (v .tick) x t (F .node) nx) (F .ticket) }
 
-      late : (s : ℕ) → Dec (s ≡ t) → upd (b .entry) t new-line s .written ≡ true → 1 ≤ s
-      late s (yes e) = λ y. omega arith
-      late s (no ne) = rw (upd-other (b .entry) t new-line s ne) λ y. R .late s y
+      late : (s : ℕ) → Dec (s ≡ t) → upd (b .entry) t new-line s .written ≡ true → (1 ≤ s) × (s ≤ b .count + 1)
+      late s (yes e) = λ y. (omega arith, omega (arith, R .count))
+      late s (no ne) = rw (upd-other (b .entry) t new-line s ne) λ y. still-past (R .late s y)
 
       filed : (q : ℕ) → Dec (q ≡ p) → info (w .ht (upd (v .pr) p (inserter v p x) q .own)) (upd (v .pr) p (inserter v p x) q .stage) .kind ≡ 1 →
           Filed (upd (b .entry) t new-line) (w .tick) (w .due) (w .item) (upd (v .pr) p (inserter v p x) q .own)

@@ -3,6 +3,9 @@ use Prim.Native.Nat.{ℕ, zero, suc, _+_}
 use mathlib.Core.Bool.{Bool, true, false, cond, _&&_, _||_, not}
 use mathlib.Core.List.{List, [], _∷_}
 use lib.Dec.{ltb, eqb}
+use Rattle.checks.specs.declared.counting.Count.{Count}
+use Rattle.checks.specs.declared.counting.Count.the-variants as count
+use Rattle.laws.specs.HowMany.{howMany}
 use Rattle.laws.specs.Update.{upd}
 use Rattle.record.specs.declared.queues.Queue.{Queue}
 use Rattle.record.specs.Keys.{entryKey, keyBefore}
@@ -79,6 +82,13 @@ pickTo b begin (suc n) = better b begin (suc n) (pickTo b begin n)
 
 abbrev pub pick : Book → ℕ → ℕ
 pick b begin = pickTo b begin (b .count)
+
+-- the Insert of the entry t has answered; and no step has marked that entry
+abbrev pub answeredIn : Book → ℕ → Bool
+answeredIn b t = b .entry t .written && ltb (b .entry t .answeredAt) never
+
+abbrev pub pendingIn : Book → ℕ → Bool
+pendingIn b t = answeredIn b t && not (b .entry t .marked)
 
 -- the answer gives the due, item and ticket of the entry t
 abbrev pub gives : Book → Entry → ℕ → Bool
@@ -181,6 +191,11 @@ feedStep b p (ans.Marked e) = marks b p e (b .opened p)
 feedStep b p (ans.Inserted e) = inserted b p e (b .opened p)
 feedStep b p (ans.HandedOut e) = handsOut b p e (b .opened p)
 
+-- 02, W2: Backlog counts the entries that are answered and not marked
+abbrev pub feedBacklog : Book → Count → Verdict
+feedBacklog b (count.Refused n) = agrees b
+feedBacklog b (count.Pending k) = provided (eqb k (howMany (pendingIn b) (b .count))) b
+
 -- a call and what it gave back
 abbrev pub feed : Book → Call → Reply → Verdict
 feed b (insert p due item height) (answered a) = feedInsert b p due item a
@@ -190,7 +205,7 @@ feed b (deleteMin p) (counted k) = differs
 feed b (steps p) (answered a) = feedStep b p a
 feed b (steps p) (counted k) = differs
 feed b backlog (answered a) = differs
-feed b backlog (counted k) = agrees b
+feed b backlog (counted k) = feedBacklog b k
 
 -- what follows an answer that agrees
 abbrev pub thenFeed : Verdict → (Book → Verdict) → Verdict

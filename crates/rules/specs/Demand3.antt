@@ -1,17 +1,19 @@
 -- Demand 3, and what it means. Everything here is a statement; proofs/Demand3.antt and the files that it names prove each of them.
 use Prim.Native.Nat.{ℕ, suc, _+_, _≤_, _<_}
 use mathlib.Core.Path.{_≡_}
-use mathlib.Core.Bool.{true, false}
+use mathlib.Core.Bool.{true, false, _&&_}
 use mathlib.Core.List.{List, _∷_, _++_}
 use lib.ListN.{getD}
+use Rattle.laws.specs.HowMany.{howMany}
+use Rattle.checks.specs.declared.counting.Count.the-variants as count
 use Rattle.record.specs.declared.queues.Queue.{Queue}
 use Rattle.checks.specs.Check.{valid}
 use Rattle.record.specs.Queues.{freshQueue, nodeAt, processorAt}
 use Rattle.rules.specs.declared.answers.Answer.the-variants as ans
 use Rattle.rules.specs.declared.answers.Entry.{Entry}
-use Rattle.rules.specs.Book.{Book, deleting, delivering, emptyBook, agrees, judged, earlier}
+use Rattle.rules.specs.Book.{Book, deleting, delivering, emptyBook, agrees, judged, earlier, answeredIn, pendingIn}
 use Rattle.rules.specs.Locks.{Lock, level, node, holderOf, Claims}
-use Rattle.rules.specs.Runs.{Call, steps, Reply, answered, reply, afterAll}
+use Rattle.rules.specs.Runs.{Call, steps, backlog, Reply, answered, counted, reply, afterAll}
 
 -- "The queue is just made, with any P, N and L in range."
 pub record InRange (P N L : ℕ) : Type 0 where
@@ -89,6 +91,23 @@ abbrev pub HandedOutOnce : Type 0
 HandedOutOnce =
     (P N L : ℕ) → InRange P N L → (cs ds : List Call) (p r : ℕ) (e f : Entry) → stepReply P N L cs p ≡ answered (ans.HandedOut e) →
     stepReply P N L (cs ++ (steps p ∷ ds)) r ≡ answered (ans.HandedOut f) → e .ticket ≡ f .ticket → ⊥
+
+-- Backlog (02, W2). k is the number of the book's entries that are answered and not marked. It is
+-- that of the Inserts answered, less those of their entries that are marked; and every entry stands
+-- under a ticket from 1 to the book's count, so that these numbers leave none out.
+pub record Pending (b : Book) (k : ℕ) : Type 0 where
+  pub entries : k ≡ howMany (pendingIn b) (b .count)
+  pub less :
+      k + howMany (λ t. answeredIn b t && b .entry t .marked) (b .count)
+      ≡ howMany (answeredIn b) (b .count)
+  pub all : (t : ℕ) → b .entry t .written ≡ true → (1 ≤ t) × (t ≤ b .count)
+
+-- What Backlog gives after any list of calls, and so at any place of a list. Demand 3 says it too:
+-- the book agrees with no other count.
+abbrev pub BacklogIsPending : Type 0
+BacklogIsPending =
+    (P N L : ℕ) → InRange P N L → (cs : List Call) (b : Book) → BookAfter P N L cs b →
+    (k : ℕ) × (reply (afterAll (freshQueue P N L) cs) backlog ≡ counted (count.Pending k)) × Pending b k
 
 -- Every record reached passes check 21, so that 21 is never the answer in a run.
 abbrev pub ReachedIsValid : Type 0

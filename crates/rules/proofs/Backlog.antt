@@ -1,0 +1,140 @@
+-- Backlog's count is the book's: the nodes that it counts and the book's entries that are answered and
+-- not marked are paired off by their tickets. Assumes nothing.
+use mathlib.Core.Path.{_≡_, refl, sym, ap, _∙_}
+use mathlib.Core.Bool.{Bool, true, false, _&&_, not, true≢false}
+use Prim.Native.Nat.{ℕ, _+_, _≤_, _<_}
+use native.Mathlib.Omega.{arith}
+use lib.Dec.{ltb, eqb}
+use borrow.Author.Tests.{ltb-true, lt-ltb, eq-eqb, not-true}
+use Rattle.laws.specs.HowMany.{howMany}
+use Rattle.laws.proofs.Booleans.{cond-cases}
+use Rattle.laws.proofs.Counting.{and-left, and-right, and-both}
+use Rattle.laws.proofs.Pairing.{Pair, Paired, many-split, many-paired}
+use Rattle.record.specs.declared.nodes.Stamp.{Stamp}
+use Rattle.record.specs.declared.nodes.Stamp.the-variants as stamp
+use Rattle.record.specs.declared.nodes.Use.{Use}
+use Rattle.record.specs.declared.nodes.Use.the-variants as use′
+use Rattle.record.specs.declared.queues.Queue.{Queue}
+use Rattle.record.specs.Nodes.{isInUse, isStamped}
+use Rattle.record.specs.Queues.{nodeAt}
+use Rattle.checks.specs.declared.counting.Count.{Count}
+use Rattle.checks.specs.declared.counting.Count.the-variants as count
+use Rattle.checks.specs.Backlog.{isPending, pendingAt, backlogOf}
+use Rattle.checks.specs.Check.{valid}
+use Rattle.rules.specs.Book.{Line, Book, agrees, answeredIn, pendingIn, feedBacklog}
+use Rattle.rules.specs.Demand3.{Pending}
+use Rattle.rules.proofs.Booked.{ticket-apart, eligible-of, candidate-of}
+use Rattle.rules.proofs.Choose.{used-number}
+use Rattle.rules.proofs.Concrete.{stampNumber, useNumber, markNumber, viewOf}
+use Rattle.rules.proofs.Inv.{Eligible}
+use Rattle.rules.proofs.Picks.{Candidate}
+use Rattle.rules.proofs.Put.{ever}
+use Rattle.rules.proofs.Sound.{Sound}
+use Rattle.rules.proofs.ValidFacts.{valid-facts}
+use Rattle.rules.proofs.View.{View}
+
+-- a node's use, stamp and mark as the view's numbers
+use-number : (u : Use) → isInUse u ≡ true → useNumber u ≡ 1
+use-number use′.Never h = absurd (true≢false (sym h))
+use-number use′.InUse h = refl
+use-number (use′.Retired t) h = absurd (true≢false (sym h))
+
+number-use : (u : Use) → useNumber u ≡ 1 → isInUse u ≡ true
+number-use use′.Never h = absurd (omega arith)
+number-use use′.InUse h = refl
+number-use (use′.Retired t) h = absurd (omega arith)
+
+stamp-number : (s : Stamp) (clock : ℕ) → clock < ever → ((t : ℕ) → s ≡ stamp.At t → t ≤ clock) → isStamped s ≡ true → stampNumber s < ever
+stamp-number stamp.Unset clock low past h = absurd (true≢false (sym h))
+stamp-number (stamp.At t) clock low past h = omega (arith, past t refl)
+
+number-stamp : (s : Stamp) → stampNumber s < ever → isStamped s ≡ true
+number-stamp stamp.Unset h = absurd (omega arith)
+number-stamp (stamp.At t) h = refl
+
+mark-number : (m : Bool) → not m ≡ true → markNumber m ≡ 0
+mark-number true h = absurd (true≢false (sym h))
+mark-number false h = refl
+
+number-mark : (m : Bool) → markNumber m ≡ 0 → not m ≡ true
+number-mark true h = absurd (omega arith)
+number-mark false h = refl
+
+-- the book's test, and a candidate of a Delete_Min that begins after every answer
+pending-candidate : (b : Book) (t : ℕ) → pendingIn b t ≡ true → Candidate b ever t
+pending-candidate b t h =
+    let w = b .entry t .written in
+    let a = ltb (b .entry t .answeredAt) ever in
+    let m = not (b .entry t .marked) in
+    let l = and-left (w && a) m h in
+    record { written = and-left w a l; answered = ltb-true _ _ (and-right w a l); unmarked = not-true (b .entry t .marked) (and-right (w && a) m h) }
+
+candidate-pending : (b : Book) (t : ℕ) → Candidate b ever t → pendingIn b t ≡ true
+candidate-pending b t C = rw (C .written, lt-ltb (b .entry t .answeredAt) ever (C .answered), C .unmarked)
+
+module _ (q : Queue) (b : Book) (S : Sound q b) where
+  abbrev v : View
+  v = viewOf q
+
+  abbrev Counts : ℕ → Type 0
+  Counts x = Eligible (v .us) (v .st) (v .mk) (v .nodes) ever x
+
+  node-counts : valid q ≡ true → (x : ℕ) → 1 ≤ x → x ≤ q .entries → pendingAt q x ≡ true → Counts x
+  node-counts ok x x≥ x≤ h =
+      let n = nodeAt q x in
+      let i = isInUse (n .state) in
+      let s = isStamped (n .stamp) in
+      let m = not (n .mark) in
+      let r = and-right i (s && m) h in
+      let past = valid-facts q ok .nodes x (omega arith) .stamp-time in
+      record {
+        low = x≥;
+        high = x≤;
+        used = used-number q x x≥ x≤ ∙ use-number (n .state) (and-left i (s && m) h);
+        stamped = stamp-number (n .stamp) (q .clock) (S .inv .core .clock) past (and-left s m r);
+        unmarked = mark-number (n .mark) (and-right s m r);
+      }
+
+  counts-node : (x : ℕ) → Counts x → pendingAt q x ≡ true
+  counts-node x C =
+      let n = nodeAt q x in
+      rw (number-use (n .state) (sym (used-number q x (C .low) (C .high)) ∙ C .used), number-stamp (n .stamp) (C .stamped), number-mark (n .mark) (C .unmarked))
+
+  paired : valid q ≡ true → Paired (pendingAt q) (pendingIn b) (q .entries) (b .count) (v .tick)
+  paired ok = record {
+    low = λ x x≥ x≤ h. late x x≥ x≤ h .0;
+    high = λ x x≥ x≤ h. late x x≥ x≤ h .1;
+    passes = λ x x≥ x≤ h. candidate-pending b (v .tick x) (candidate x x≥ x≤ h);
+    found = λ t t≥ t≤ h.
+        let E = eligible-of v (S .until) (S .inv) b (S .rel) ever t (pending-candidate b t h) in
+        record { number = E .0; low = E .2 .low; high = E .2 .high; passes = counts-node (E .0) (E .2); is = E .1 };
+    once = λ x z x≥ x≤ z≥ z≤ h k e.
+        let X = node-counts ok x x≥ x≤ h in
+        let Z = node-counts ok z z≥ z≤ k in
+        let line = S .rel .kept z z≥ z≤ (Z .used) in
+        ticket-apart v (S .until) (S .inv) b (S .rel) x z x≥ x≤ z≥ z≤ (X .used) (omega (arith, Z .used)) (ap (λ (l : Line). l .due) line) e;
+  }
+    where
+      candidate : (x : ℕ) → 1 ≤ x → x ≤ q .entries → pendingAt q x ≡ true → Candidate b ever (v .tick x)
+      candidate x x≥ x≤ h = candidate-of v (S .until) (S .inv) b (S .rel) ever x (node-counts ok x x≥ x≤ h)
+
+      late : (x : ℕ) → 1 ≤ x → x ≤ q .entries → pendingAt q x ≡ true → (1 ≤ v .tick x) × (v .tick x ≤ b .count)
+      late x x≥ x≤ h = S .rel .late (v .tick x) (candidate x x≥ x≤ h .written)
+
+  -- the count by the nodes is the count by the book
+  count-same : valid q ≡ true → howMany (pendingAt q) (q .entries) ≡ howMany (pendingIn b) (b .count)
+  count-same ok = many-paired (pendingAt q) (pendingIn b) (q .entries) (b .count) (v .tick) (paired ok)
+
+  -- so the book agrees with Backlog, and changes nothing
+  pub backlog-agrees : feedBacklog b (backlogOf q) ≡ agrees b
+  backlog-agrees =
+      cond-cases (λ (k : Count). feedBacklog b k ≡ agrees b) (valid q) _ _
+      (λ ok. rw (eq-eqb (howMany (pendingAt q) (q .entries)) (howMany (pendingIn b) (b .count)) (count-same ok)))
+      (λ _. refl)
+
+  pub backlog-pending : valid q ≡ true → Pending b (howMany (pendingAt q) (q .entries))
+  backlog-pending ok = record {
+    entries = count-same ok;
+    less = rw (count-same ok) (many-split (answeredIn b) (λ t. b .entry t .marked) (b .count));
+    all = S .rel .late;
+  }
