@@ -76,7 +76,10 @@ struct darthog_reply darthog_begin_delete_min(uint8_t *image, size_t length, uin
 /* The next step of a processor's operation. */
 struct darthog_reply darthog_step(uint8_t *image, size_t length, uint32_t processor);
 
-/* How many nodes are in use. */
+/* Backlog: how many entries are filed and not yet taken. An entry counts from the answer to its
+ * Insert (DARTHOG_INSERTED) until a Delete_Min marks it (DARTHOG_MARKED). It keeps its node longer,
+ * from the begin of its Insert until it is handed out, so that a small count does not say that an
+ * Insert finds a node: 37 says whether it does. */
 struct darthog_reply darthog_backlog(const uint8_t *image, size_t length);
 
 /* The due minute of a count of seconds: the minute nearest to it, and for half a minute the even

@@ -15,10 +15,11 @@
 //! // file withdrawal 42, which is due after 425 seconds: minute 7
 //! let ticket = queue.begin_insert(0, due_minute(425)?, 42, 1)?;
 //! let filed = Entry { due: 7, item: 42, ticket };
+//! assert_eq!(queue.backlog(), Ok(0));
 //! while queue.step(0)? != Step::Inserted(filed) {}
 //! assert_eq!(queue.backlog(), Ok(1));
 //!
-//! // take it
+//! // take it; it is no longer counted once it is marked
 //! queue.begin_delete_min(0)?;
 //! let taken = loop {
 //!     match queue.step(0)? {
@@ -27,7 +28,7 @@
 //!         Step::Moved | Step::Waits | Step::Marked(_) | Step::Inserted(_) => {}
 //!     }
 //! };
-//! assert_eq!(taken, Some(filed));
+//! assert_eq!((taken, queue.backlog()), (Some(filed), Ok(0)));
 //!
 //! // the operation has ended
 //! assert_eq!(queue.step(0), Err(Refusal::Idle));

@@ -89,8 +89,12 @@ impl Queue {
         step(unsafe { raw::darthog_step(self.image.as_mut_ptr(), self.image.len(), processor) })
     }
 
-    /// How many nodes are in use: an entry has one from the begin of its
-    /// Insert until it is handed out.
+    /// How many entries are filed and not yet taken: an entry counts from the
+    /// answer to its Insert ([`Step::Inserted`]) until a Delete_Min marks it
+    /// ([`Step::Marked`]).
+    ///
+    /// It keeps its node longer, from the begin of its Insert until it is
+    /// handed out: a small count does not say that an Insert finds a node.
     pub fn backlog(&self) -> Result<u32, Refusal> {
         // Safe: the bytes are lent for the call, with their length.
         value(unsafe { raw::darthog_backlog(self.image.as_ptr(), self.image.len()) })

@@ -11,7 +11,7 @@ use checks::backlog;
 use checks::due_from_seconds;
 use image::decode;
 
-// Backlog: 0 and the number of nodes in use, or 21.
+// Backlog: 0 and how many entries are answered and not marked, or 21.
 #[no_mangle]
 pub extern "C" fn darthog_backlog(image: &[u8]) -> Reply
     ensures { λ r. ⌜ r ≡ replyOf (reportedCount (countOn (now (image .entry)))) ⌝ }

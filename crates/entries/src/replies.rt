@@ -61,7 +61,7 @@ pub(crate) fn count_reply(c: Count) -> Reply
 {
     match c {
         Count::Refused(n) => refusal(n as u32),
-        Count::Nodes(k) => accepted(k as u32),
+        Count::Pending(k) => accepted(k as u32),
     }
 }
 
