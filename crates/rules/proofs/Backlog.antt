@@ -1,5 +1,5 @@
--- Backlog's count is the book's: the nodes that it counts and the book's entries that are answered and
--- not marked are paired off by their tickets. Assumes nothing.
+-- Backlog's count is the book's: the nodes that it counts, and the book's entries that are answered
+-- and not marked, are paired off by their tickets. Assumes nothing.
 use mathlib.Core.Path.{_≡_, refl, sym, ap, _∙_}
 use mathlib.Core.Bool.{Bool, true, false, _&&_, not, true≢false}
 use Prim.Native.Nat.{ℕ, _+_, _≤_, _<_}
@@ -8,8 +8,8 @@ use lib.Dec.{ltb, eqb}
 use borrow.Author.Tests.{ltb-true, lt-ltb, eq-eqb, not-true}
 use Rattle.laws.specs.HowMany.{howMany}
 use Rattle.laws.proofs.Booleans.{cond-cases}
-use Rattle.laws.proofs.Counting.{and-left, and-right, and-both}
-use Rattle.laws.proofs.Pairing.{Pair, Paired, many-split, many-paired}
+use Rattle.laws.proofs.Counting.{and-left, and-right}
+use Rattle.laws.proofs.Pairing.{Passed, Paired, many-split, many-paired}
 use Rattle.record.specs.declared.nodes.Stamp.{Stamp}
 use Rattle.record.specs.declared.nodes.Stamp.the-variants as stamp
 use Rattle.record.specs.declared.nodes.Use.{Use}
@@ -18,8 +18,7 @@ use Rattle.record.specs.declared.queues.Queue.{Queue}
 use Rattle.record.specs.Nodes.{isInUse, isStamped}
 use Rattle.record.specs.Queues.{nodeAt}
 use Rattle.checks.specs.declared.counting.Count.{Count}
-use Rattle.checks.specs.declared.counting.Count.the-variants as count
-use Rattle.checks.specs.Backlog.{isPending, pendingAt, backlogOf}
+use Rattle.checks.specs.Backlog.{pendingAt, backlogOf}
 use Rattle.checks.specs.Check.{valid}
 use Rattle.rules.specs.Book.{Line, Book, agrees, answeredIn, pendingIn, feedBacklog}
 use Rattle.rules.specs.Demand3.{Pending}
@@ -33,7 +32,7 @@ use Rattle.rules.proofs.Sound.{Sound}
 use Rattle.rules.proofs.ValidFacts.{valid-facts}
 use Rattle.rules.proofs.View.{View}
 
--- a node's use, stamp and mark as the view's numbers
+-- a node's use, stamp and mark, and the view's numbers for them
 use-number : (u : Use) → isInUse u ≡ true → useNumber u ≡ 1
 use-number use′.Never h = absurd (true≢false (sym h))
 use-number use′.InUse h = refl
@@ -44,7 +43,9 @@ number-use use′.Never h = absurd (omega arith)
 number-use use′.InUse h = refl
 number-use (use′.Retired t) h = absurd (omega arith)
 
-stamp-number : (s : Stamp) (clock : ℕ) → clock < ever → ((t : ℕ) → s ≡ stamp.At t → t ≤ clock) → isStamped s ≡ true → stampNumber s < ever
+stamp-number :
+    (s : Stamp) (clock : ℕ) → clock < ever → ((t : ℕ) → s ≡ stamp.At t → t ≤ clock) →
+    isStamped s ≡ true → stampNumber s < ever
 stamp-number stamp.Unset clock low past h = absurd (true≢false (sym h))
 stamp-number (stamp.At t) clock low past h = omega (arith, past t refl)
 
@@ -60,77 +61,88 @@ number-mark : (m : Bool) → markNumber m ≡ 0 → not m ≡ true
 number-mark true h = absurd (omega arith)
 number-mark false h = refl
 
--- the book's test, and a candidate of a Delete_Min that begins after every answer
+-- an entry that is answered and not marked is a candidate of a Delete_Min that begins after every
+-- clock
 pending-candidate : (b : Book) (t : ℕ) → pendingIn b t ≡ true → Candidate b ever t
 pending-candidate b t h =
     let w = b .entry t .written in
     let a = ltb (b .entry t .answeredAt) ever in
     let m = not (b .entry t .marked) in
     let l = and-left (w && a) m h in
-    record { written = and-left w a l; answered = ltb-true _ _ (and-right w a l); unmarked = not-true (b .entry t .marked) (and-right (w && a) m h) }
+    record {
+      written = and-left w a l;
+      answered = ltb-true _ _ (and-right w a l);
+      unmarked = not-true (b .entry t .marked) (and-right (w && a) m h);
+    }
 
 candidate-pending : (b : Book) (t : ℕ) → Candidate b ever t → pendingIn b t ≡ true
-candidate-pending b t C = rw (C .written, lt-ltb (b .entry t .answeredAt) ever (C .answered), C .unmarked)
+candidate-pending b t C =
+    rw (C .written, lt-ltb (b .entry t .answeredAt) ever (C .answered), C .unmarked)
 
 module _ (q : Queue) (b : Book) (S : Sound q b) where
   abbrev v : View
   v = viewOf q
 
-  abbrev Counts : ℕ → Type 0
-  Counts x = Eligible (v .us) (v .st) (v .mk) (v .nodes) ever x
+  -- the node x has such an entry
+  abbrev Holds : ℕ → Type 0
+  Holds x = Eligible (v .us) (v .st) (v .mk) (v .nodes) ever x
 
-  node-counts : valid q ≡ true → (x : ℕ) → 1 ≤ x → x ≤ q .entries → pendingAt q x ≡ true → Counts x
-  node-counts ok x x≥ x≤ h =
+  node-holds : valid q ≡ true → (x : ℕ) → Passed (pendingAt q) (q .entries) x → Holds x
+  node-holds ok x P =
       let n = nodeAt q x in
       let i = isInUse (n .state) in
       let s = isStamped (n .stamp) in
       let m = not (n .mark) in
-      let r = and-right i (s && m) h in
-      let past = valid-facts q ok .nodes x (omega arith) .stamp-time in
+      let r = and-right i (s && m) (P .passes) in
+      let past = valid-facts q ok .nodes x (omega (arith, P .high)) .stamp-time in
       record {
-        low = x≥;
-        high = x≤;
-        used = used-number q x x≥ x≤ ∙ use-number (n .state) (and-left i (s && m) h);
+        low = P .low;
+        high = P .high;
+        used = used-number q x (P .low) (P .high)
+            ∙ use-number (n .state) (and-left i (s && m) (P .passes));
         stamped = stamp-number (n .stamp) (q .clock) (S .inv .core .clock) past (and-left s m r);
         unmarked = mark-number (n .mark) (and-right s m r);
       }
 
-  counts-node : (x : ℕ) → Counts x → pendingAt q x ≡ true
-  counts-node x C =
+  holds-node : (x : ℕ) → Holds x → Passed (pendingAt q) (q .entries) x
+  holds-node x H =
       let n = nodeAt q x in
-      rw (number-use (n .state) (sym (used-number q x (C .low) (C .high)) ∙ C .used), number-stamp (n .stamp) (C .stamped), number-mark (n .mark) (C .unmarked))
+      let used = number-use (n .state) (sym (used-number q x (H .low) (H .high)) ∙ H .used) in
+      let unmarked = number-mark (n .mark) (H .unmarked) in
+      record {
+        low = H .low;
+        high = H .high;
+        passes = rw (used, number-stamp (n .stamp) (H .stamped), unmarked);
+      }
 
   paired : valid q ≡ true → Paired (pendingAt q) (pendingIn b) (q .entries) (b .count) (v .tick)
   paired ok = record {
-    low = λ x x≥ x≤ h. late x x≥ x≤ h .0;
-    high = λ x x≥ x≤ h. late x x≥ x≤ h .1;
-    passes = λ x x≥ x≤ h. candidate-pending b (v .tick x) (candidate x x≥ x≤ h);
-    found = λ t t≥ t≤ h.
-        let E = eligible-of v (S .until) (S .inv) b (S .rel) ever t (pending-candidate b t h) in
-        record { number = E .0; low = E .2 .low; high = E .2 .high; passes = counts-node (E .0) (E .2); is = E .1 };
-    once = λ x z x≥ x≤ z≥ z≤ h k e.
-        let X = node-counts ok x x≥ x≤ h in
-        let Z = node-counts ok z z≥ z≤ k in
-        let line = S .rel .kept z z≥ z≤ (Z .used) in
-        ticket-apart v (S .until) (S .inv) b (S .rel) x z x≥ x≤ z≥ z≤ (X .used) (omega (arith, Z .used)) (ap (λ (l : Line). l .due) line) e;
+    passes = λ x X.
+        let C = candidate-of v (S .until) (S .inv) b (S .rel) ever x (node-holds ok x X) in
+        let late = S .rel .late (v .tick x) (C .written) in
+        record { low = late .0; high = late .1; passes = candidate-pending b (v .tick x) C };
+    found = λ t T.
+        let C = pending-candidate b t (T .passes) in
+        let E = eligible-of v (S .until) (S .inv) b (S .rel) ever t C in
+        record { number = E .0; passed = holds-node (E .0) (E .2); is = E .1 };
+    once = λ x z X Z e.
+        let used = node-holds ok z Z .used in
+        let due = ap (λ (l : Line). l .due) (S .rel .kept z (Z .low) (Z .high) used) in
+        ticket-apart v (S .until) (S .inv) b (S .rel) x z (X .low) (X .high) (Z .low) (Z .high)
+        (node-holds ok x X .used) (omega (arith, used)) due e;
   }
-    where
-      candidate : (x : ℕ) → 1 ≤ x → x ≤ q .entries → pendingAt q x ≡ true → Candidate b ever (v .tick x)
-      candidate x x≥ x≤ h = candidate-of v (S .until) (S .inv) b (S .rel) ever x (node-counts ok x x≥ x≤ h)
-
-      late : (x : ℕ) → 1 ≤ x → x ≤ q .entries → pendingAt q x ≡ true → (1 ≤ v .tick x) × (v .tick x ≤ b .count)
-      late x x≥ x≤ h = S .rel .late (v .tick x) (candidate x x≥ x≤ h .written)
 
   -- the count by the nodes is the count by the book
-  count-same : valid q ≡ true → howMany (pendingAt q) (q .entries) ≡ howMany (pendingIn b) (b .count)
-  count-same ok = many-paired (pendingAt q) (pendingIn b) (q .entries) (b .count) (v .tick) (paired ok)
+  count-same :
+      valid q ≡ true → howMany (pendingAt q) (q .entries) ≡ howMany (pendingIn b) (b .count)
+  count-same ok =
+      many-paired (pendingAt q) (pendingIn b) (q .entries) (b .count) (v .tick) (paired ok)
 
-  -- so the book agrees with Backlog, and changes nothing
+  -- so the book agrees with Backlog, and stays as it is
   pub backlog-agrees : feedBacklog b (backlogOf q) ≡ agrees b
   backlog-agrees =
       cond-cases (λ (k : Count). feedBacklog b k ≡ agrees b) (valid q) _ _
-      (λ ok. rw (eq-eqb (howMany (pendingAt q) (q .entries)) (howMany (pendingIn b) (b .count)) (count-same ok)))
-      (λ _. refl)
+      (λ ok. rw (eq-eqb _ (howMany (pendingIn b) (b .count)) (count-same ok))) (λ _. refl)
 
   pub backlog-pending : valid q ≡ true → Pending b (howMany (pendingAt q) (q .entries))
   backlog-pending ok = record {

@@ -18,7 +18,8 @@ use Rattle.record.specs.declared.queues.Queue.{Queue}
 use Rattle.rules.specs.declared.answers.Answer.{Answer}
 use Rattle.rules.specs.declared.answers.Answer.the-variants as ans
 use Rattle.rules.specs.declared.answers.Entry.{Entry}
-use Rattle.rules.specs.Book.{Line, Open, nothing, inserting, deleting, delivering, Book, Verdict, agrees, differs, provided, now, turned, pick, gives, withAnswer, withMark, withHandOut, insertBegins, deleteBegins, inserted, marks, empties, handsOut, moves, feedInsert, feedDelete, feedStep, pendingIn, feedBacklog, feed, thenFeed, judged}
+use Rattle.rules.specs.Book.{Line, Open, nothing, inserting, deleting, delivering, Book, Verdict, agrees, differs, provided, now, turned, pick, gives, withAnswer, withMark, withHandOut, insertBegins, deleteBegins, inserted, marks, empties, handsOut, moves, feedInsert, feedDelete, feedStep, feed, thenFeed, judged}
+use Rattle.rules.specs.Book.{pendingIn, feedBacklog}
 use Rattle.rules.specs.Runs.{Call, insert, deleteMin, steps, backlog, Reply, answered, counted, after, reply}
 
 -- what holds of the book of an answer that agrees
@@ -152,7 +153,8 @@ module _ (flag : Line → Bool) (t : ℕ) (answer-keeps : (l : Line) (n : ℕ) �
 
     fed-backlog : (k : Count) → K (feedBacklog b k)
     fed-backlog (count.Refused n) = S
-    fed-backlog (count.Pending k) = right-provided (Stays flag t) (eqb k (howMany (pendingIn b) (b .count))) b (λ _. S)
+    fed-backlog (count.Pending k) =
+        right-provided (Stays flag t) (eqb k (howMany (pendingIn b) (b .count))) b (λ _. S)
 
     fed : (c : Call) (r : Reply) → K (feed b c r)
     fed (insert p due item height) (answered a) = fed-insert p due item a

@@ -205,7 +205,9 @@ module _ (v : View) (u : ℕ → ℕ → ℕ) (I : Inv v u) (b : Book) (R : Rel 
             item = same-line (λ (x : Line). x .item ≡ v .item (v .pr q .own)) _ t (λ y. l-item ∙ y) (G .item);
           }
 
-      late : (t : ℕ) → Dec (t ≡ v .tick o) → upd (b .entry) (v .tick o) l t .written ≡ true → (1 ≤ t) × (t ≤ b .count + 1)
+      late :
+          (t : ℕ) → Dec (t ≡ v .tick o) → upd (b .entry) (v .tick o) l t .written ≡ true →
+          (1 ≤ t) × (t ≤ b .count + 1)
       late t (yes e) = rw e λ w. still-past (R .late (v .tick o) (F .written))
       late t (no d) = rw (upd-other (b .entry) (v .tick o) l t d) λ w. still-past (R .late t w)
 

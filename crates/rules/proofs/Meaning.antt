@@ -1,5 +1,5 @@
--- What demand 3 means: a marked entry is the earliest one left, EMPTY is true, what is handed out was marked, both happen once, and Backlog
--- counts what is answered and not marked. Assumes nothing.
+-- What demand 3 means: a marked entry is the earliest one left, EMPTY is true, what is handed out was
+-- marked, both happen once, and Backlog counts what is answered and not marked. Assumes nothing.
 use mathlib.Core.Path.{_≡_, refl, sym, ap, subst, _∙_}
 use mathlib.Core.Bool.{Bool, true, _&&_, not, true≢false}
 use mathlib.Core.List.{List, [], _∷_, _++_}
@@ -17,7 +17,8 @@ use Rattle.rules.specs.declared.answers.Answer.{Answer}
 use Rattle.rules.specs.declared.answers.Answer.the-variants as ans
 use Rattle.rules.specs.declared.answers.Entry.{Entry}
 use Rattle.rules.specs.Book.{Line, Open, nothing, inserting, deleting, delivering, Book, agrees, pick, gives, withAnswer, withMark, withHandOut, marks, empties, handsOut, feed, feedStep, judged}
-use Rattle.rules.specs.Demand3.{InRange, BookAfter, Left, Entered, Earliest, MarkedIsEarliest, NoneLeft, EmptyIsTrue, Delivered, HandedOutIsMarked, BacklogIsPending, MarkedOnce, HandedOutOnce}
+use Rattle.rules.specs.Demand3.{InRange, BookAfter, Left, Entered, Earliest, MarkedIsEarliest, NoneLeft, EmptyIsTrue, Delivered, HandedOutIsMarked, MarkedOnce, HandedOutOnce}
+use Rattle.rules.specs.Demand3.{BacklogIsPending}
 use Rattle.rules.specs.Runs.{Call, steps, Reply, answered, after, reply, afterAll}
 use Rattle.rules.proofs.BookLaws.{Right, right-book, right-provided, Given, given, Stays, stays}
 use Rattle.rules.proofs.Concrete.{viewOf}
@@ -140,7 +141,8 @@ pub backlog-is-pending : BacklogIsPending
 backlog-is-pending P N L R cs b h =
     let q = afterAll (freshQueue P N L) cs in
     let ok = reached-is-valid P N L R cs in
-    (howMany (pendingAt q) (q .entries), rw ok refl, backlog-pending q b (sound-after P N L R cs b h) ok)
+    let S = sound-after P N L R cs b h in
+    (howMany (pendingAt q) (q .entries), rw ok refl, backlog-pending q b S ok)
 
 after-append : (q : Queue) (cs ds : List Call) → afterAll q (cs ++ ds) ≡ afterAll (afterAll q cs) ds
 unfolding afterAll

@@ -54,7 +54,9 @@ module _ (v : View) (u : ℕ → ℕ → ℕ) (I : Inv v u) (b : Book) (R : Rel 
           let nx : (F .node ≡ x → ⊥) = λ e. free (rw e at (F .used)) in
           record { node = F .node; low = F .low; high = F .high; used = rw (upd-other (v .us) x 1 (F .node) nx) (F .used); ticket = rw (upd-other (v .tick) x t (F .node) nx) (F .ticket) }
 
-      late : (s : ℕ) → Dec (s ≡ t) → upd (b .entry) t new-line s .written ≡ true → (1 ≤ s) × (s ≤ b .count + 1)
+      late :
+          (s : ℕ) → Dec (s ≡ t) → upd (b .entry) t new-line s .written ≡ true →
+          (1 ≤ s) × (s ≤ b .count + 1)
       late s (yes e) = λ y. (omega arith, omega (arith, R .count))
       late s (no ne) = rw (upd-other (b .entry) t new-line s ne) λ y. still-past (R .late s y)
 

@@ -11,7 +11,8 @@ use Rattle.checks.specs.Check.{valid}
 use Rattle.record.specs.Queues.{freshQueue, nodeAt, processorAt}
 use Rattle.rules.specs.declared.answers.Answer.the-variants as ans
 use Rattle.rules.specs.declared.answers.Entry.{Entry}
-use Rattle.rules.specs.Book.{Book, deleting, delivering, emptyBook, agrees, judged, earlier, answeredIn, pendingIn}
+use Rattle.rules.specs.Book.{Book, deleting, delivering, emptyBook, agrees, judged, earlier}
+use Rattle.rules.specs.Book.{answeredIn, pendingIn}
 use Rattle.rules.specs.Locks.{Lock, level, node, holderOf, Claims}
 use Rattle.rules.specs.Runs.{Call, steps, backlog, Reply, answered, counted, reply, afterAll}
 
@@ -92,9 +93,10 @@ HandedOutOnce =
     (P N L : ℕ) → InRange P N L → (cs ds : List Call) (p r : ℕ) (e f : Entry) → stepReply P N L cs p ≡ answered (ans.HandedOut e) →
     stepReply P N L (cs ++ (steps p ∷ ds)) r ≡ answered (ans.HandedOut f) → e .ticket ≡ f .ticket → ⊥
 
--- Backlog (02, W2). k is the number of the book's entries that are answered and not marked. It is
--- that of the Inserts answered, less those of their entries that are marked; and every entry stands
--- under a ticket from 1 to the book's count, so that these numbers leave none out.
+-- Backlog (02, W2). k is the number of the book's entries that are answered and not marked. With the
+-- marked ones among the answered it makes up all that are answered, one for each Insert that has
+-- answered; and every entry stands under a ticket from 1 to the book's count, so that no number here
+-- leaves one out.
 pub record Pending (b : Book) (k : ℕ) : Type 0 where
   pub entries : k ≡ howMany (pendingIn b) (b .count)
   pub less :
@@ -107,7 +109,9 @@ pub record Pending (b : Book) (k : ℕ) : Type 0 where
 abbrev pub BacklogIsPending : Type 0
 BacklogIsPending =
     (P N L : ℕ) → InRange P N L → (cs : List Call) (b : Book) → BookAfter P N L cs b →
-    (k : ℕ) × (reply (afterAll (freshQueue P N L) cs) backlog ≡ counted (count.Pending k)) × Pending b k
+    (k : ℕ)
+    × (reply (afterAll (freshQueue P N L) cs) backlog ≡ counted (count.Pending k))
+    × Pending b k
 
 -- Every record reached passes check 21, so that 21 is never the answer in a run.
 abbrev pub ReachedIsValid : Type 0
