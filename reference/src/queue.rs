@@ -263,8 +263,8 @@ impl Queue {
         self.nodes[1..=self.node_count as usize].iter()
     }
 
-    /// How many nodes are in use. No call gives this; the benchmarks fill
-    /// queues by it.
+    /// How many nodes are in use. No call gives this: the watchers look at it,
+    /// and the benchmarks fill queues by it.
     pub fn in_use(&self) -> u32 {
         let used = |node: &&Node| node.usage == Use::InUse;
         self.entry_nodes().filter(used).count() as u32

@@ -179,15 +179,18 @@ impl<M: Machine> Trial<M> {
     }
 
     /// Backlog would give what the book asks for, whether it is called here or
-    /// not.
+    /// not; and the nodes in use are as many as the entries not handed out.
     fn check_backlog(&mut self) -> Result<(), Failure> {
         let queue = self.machine.queue();
-        let count = queue.backlog_inner();
-        self.tally.fewer_than_in_use += u64::from(count < queue.in_use());
-        if count == self.book.pending() {
-            return Ok(());
+        let (count, used) = (queue.backlog_inner(), queue.in_use());
+        if count != self.book.pending() {
+            return Err(self.failure(format!("the backlog would be {count}")));
         }
-        Err(self.failure(format!("the backlog would be {count}")))
+        if used as usize != self.book.entries.len() {
+            return Err(self.failure(format!("{used} nodes are in use")));
+        }
+        self.tally.fewer_than_in_use += u64::from(count < used);
+        Ok(())
     }
 
     fn check_invariant(&mut self) -> Result<(), Failure> {

@@ -83,10 +83,11 @@ pickTo b begin (suc n) = better b begin (suc n) (pickTo b begin n)
 abbrev pub pick : Book → ℕ → ℕ
 pick b begin = pickTo b begin (b .count)
 
--- the Insert of the entry t has answered; and no step has marked that entry
+-- the Insert of the entry t has answered
 abbrev pub answeredIn : Book → ℕ → Bool
 answeredIn b t = b .entry t .written && ltb (b .entry t .answeredAt) never
 
+-- and no step has marked that entry
 abbrev pub pendingIn : Book → ℕ → Bool
 pendingIn b t = answeredIn b t && not (b .entry t .marked)
 
@@ -191,7 +192,8 @@ feedStep b p (ans.Marked e) = marks b p e (b .opened p)
 feedStep b p (ans.Inserted e) = inserted b p e (b .opened p)
 feedStep b p (ans.HandedOut e) = handsOut b p e (b .opened p)
 
--- 02, W2: Backlog counts the entries that are answered and not marked
+-- Backlog gives the number of the entries that are answered and not marked (02, W2), and changes
+-- nothing
 abbrev pub feedBacklog : Book → Count → Verdict
 feedBacklog b (count.Refused n) = agrees b
 feedBacklog b (count.Pending k) = provided (eqb k (howMany (pendingIn b) (b .count))) b

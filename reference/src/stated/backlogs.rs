@@ -6,9 +6,10 @@ use super::rows::TABLES;
 use crate::calls::Call;
 use crate::queue::{Queue, Use};
 
-/// Each kind of node: its use, its stamp, its mark, and how many of it Backlog
-/// counts.
-pub const KINDS: [(Use, Option<u32>, bool, u32); 12] = [
+/// A kind of node: its use, its stamp, its mark, and 1 if Backlog counts it.
+type Kind = (Use, Option<u32>, bool, u32);
+
+const KINDS: [Kind; 12] = [
     (Use::Never, None, false, 0),
     (Use::Never, None, true, 0),
     (Use::Never, Some(0), false, 0),
@@ -23,6 +24,12 @@ pub const KINDS: [(Use, Option<u32>, bool, u32); 12] = [
     (Use::Retired(0), Some(0), true, 0),
 ];
 
+/// The entry of this node is answered and not marked.
+const PENDING: Kind = (Use::InUse, Some(0), false, 1);
+
+/// The Insert of this node's entry has not answered.
+const UNANSWERED: Kind = (Use::InUse, None, false, 0);
+
 /// A record with what Backlog gives for it.
 pub struct Counted {
     /// What was put where.
@@ -33,22 +40,22 @@ pub struct Counted {
     pub count: u32,
 }
 
-fn put(queue: &mut Queue, number: usize, (usage, stamp, mark, _): (Use, Option<u32>, bool, u32)) {
+fn put(queue: &mut Queue, number: usize, (usage, stamp, mark, _): Kind) {
     let node = &mut queue.nodes[number];
     (node.usage, node.stamp, node.mark) = (usage, stamp, mark);
 }
 
 /// On the record of each table, in which no node is in use: each kind at the
-/// first node, at one in the middle and at the last; the counted kind at all
-/// nodes but one, and each kind at that one; and what is never counted, the
-/// head, the tail and the slots past it.
+/// first node, at one in the middle and at the last, alone and where all the
+/// others count; and what never counts, the head, the tail and the slots past
+/// it.
 pub fn records() -> Vec<Counted> {
     let mut all = Vec::new();
     for table in &TABLES {
         let base = record(table);
         let last = usize::from(base.node_count);
         let mut full = base.clone();
-        (1..=last).for_each(|number| put(&mut full, number, KINDS[6]));
+        (1..=last).for_each(|number| put(&mut full, number, PENDING));
         let mut add = |queue: Queue, count: u32, words: String| {
             let what = format!("{:?} {:?}, {words}", table.sizes, table.filling);
             all.push(Counted { what, queue, count });
@@ -60,21 +67,17 @@ pub fn records() -> Vec<Counted> {
                 add(queue, kind.3, format!("node {number} alone {kind:?}"));
                 let mut queue = full.clone();
                 put(&mut queue, number, kind);
-                let count = last as u32 - 1 + kind.3;
-                add(
-                    queue,
-                    count,
-                    format!("all counted but node {number} {kind:?}"),
-                );
+                let words = format!("all counted but node {number} {kind:?}");
+                add(queue, last as u32 - 1 + kind.3, words);
             }
         }
         for number in [0, last + 1] {
             let mut queue = base.clone();
-            put(&mut queue, number, KINDS[4]);
+            put(&mut queue, number, UNANSWERED);
             add(queue, 0, format!("node {number} in use"));
         }
         let mut queue = base.clone();
-        (last + 2..queue.nodes.len()).for_each(|number| put(&mut queue, number, KINDS[6]));
+        (last + 2..queue.nodes.len()).for_each(|number| put(&mut queue, number, PENDING));
         add(queue, 0, "the slots past the tail".to_string());
     }
     all
