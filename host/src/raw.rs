@@ -64,7 +64,7 @@ extern "C" {
     /// The next step of a processor's operation.
     pub fn darthog_step(image: *mut u8, length: usize, processor: u32) -> Reply;
 
-    /// How many nodes are in use.
+    /// How many entries are answered and not marked.
     pub fn darthog_backlog(image: *const u8, length: usize) -> Reply;
 
     /// The due minute of a count of seconds: the nearest, half a minute to the

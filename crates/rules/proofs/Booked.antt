@@ -41,7 +41,8 @@ use Rattle.rules.proofs.WalkSteps.{empty-right, mark-pick}
 use Rattle.rules.proofs.Begin.{rank-entry}
 use Rattle.rules.specs.Book.{Line, Open, nothing, delivering, Book, turned, pick, gives, withAnswer, withMark, withHandOut}
 use Rattle.rules.proofs.Picks.{order, Candidate, Picked, none, one, picked}
-use Rattle.rules.proofs.Rel.{opens, lineOf, Found, Filed, Rel, Booked, quiet, Quiet, quiet-booked, still-past}
+use Rattle.rules.proofs.Rel.{opens, lineOf, Found, Filed, Rel, Booked, quiet, Quiet, quiet-booked}
+use Rattle.rules.proofs.Rel.{still-past}
 
 -- a decision of a seek is quiet where its effect is
 abbrev sought-quiet : Sought → Type 0
@@ -297,7 +298,8 @@ module _ (v : View) (u : ℕ → ℕ → ℕ) (I : Inv v u) (H : NodeHeld v) (ro
           let l = R .kept n (L .low) (L .high) (L .used) in
           let is = pick-is v u I b R (v .pr p .begin) n L (M .1) in
           let same = gives-true b (entryAt v n) (v .tick n) (sym (ap (λ (x : Line). x .due) l)) (sym (ap (λ (x : Line). x .item) l)) refl in
-          let pos = lt-ltb 0 (v .tick n) (R .late (v .tick n) (ap (λ (x : Line). x .written) l) .0) in
+          let late = R .late (v .tick n) (ap (λ (x : Line). x .written) l) in
+          let pos = lt-ltb 0 (v .tick n) (late .0) in
           rw x (record {
             after = turned b (upd (b .entry) (v .tick n) (withMark (b .entry (v .tick n)))) p (delivering (v .tick n));
             fed = rw (open-at s e, is, pos, same);

@@ -1,5 +1,5 @@
--- What demand 3 means: a marked entry is the earliest one left, EMPTY is true, what is handed out was
--- marked, both happen once, and Backlog counts what is answered and not marked. Assumes nothing.
+-- What demand 3 means: a marked entry is the earliest one left, EMPTY is true, what is handed out
+-- was marked, both happen once, and Backlog counts what is answered and not marked. Assumes nothing.
 use mathlib.Core.Path.{_≡_, refl, sym, ap, subst, _∙_}
 use mathlib.Core.Bool.{Bool, true, _&&_, not, true≢false}
 use mathlib.Core.List.{List, [], _∷_, _++_}

@@ -93,10 +93,10 @@ HandedOutOnce =
     (P N L : ℕ) → InRange P N L → (cs ds : List Call) (p r : ℕ) (e f : Entry) → stepReply P N L cs p ≡ answered (ans.HandedOut e) →
     stepReply P N L (cs ++ (steps p ∷ ds)) r ≡ answered (ans.HandedOut f) → e .ticket ≡ f .ticket → ⊥
 
--- Backlog (02, W2). k is the number of the book's entries that are answered and not marked. With the
--- marked ones among the answered it makes up all that are answered, one for each Insert that has
--- answered; and every entry stands under a ticket from 1 to the book's count, so that no number here
--- leaves one out.
+-- Backlog (02, W2). k is the number of the book's entries that are answered and not marked. With
+-- the marked ones among the answered it makes up all that are answered, one for each Insert that has
+-- answered; and every entry stands under a ticket from 1 to the book's count, so that no number
+-- here leaves one out.
 pub record Pending (b : Book) (k : ℕ) : Type 0 where
   pub entries : k ≡ howMany (pendingIn b) (b .count)
   pub less :
