@@ -1,7 +1,7 @@
 -- Laws of `howMany`: one more number, tests that say the same, a test split by another, and two
 -- tests whose numbers are paired off. Assumes nothing.
 use mathlib.Core.Path.{_≡_, refl, sym, ap, _∙_}
-use mathlib.Core.Bool.{Bool, true, false, cond, _&&_, not, true≢false}
+use mathlib.Core.Bool.{Bool, true, false, cond, _&&_, not, true≢false, and-true, and-false}
 use Prim.Native.Nat.{ℕ, zero, suc, _+_, _≤_}
 use native.Mathlib.Decide.{ℕ-discrete}
 use native.Mathlib.Numerals.{add-one}
@@ -55,18 +55,10 @@ abbrev without : (ℕ → Bool) → ℕ → ℕ → Bool
 without f y x = f x && not (eqb x y)
 
 without-other : (f : ℕ → Bool) (y x : ℕ) → (x ≡ y → ⊥) → without f y x ≡ f x
-without-other f y x ne = rw (ne-eqb x y ne) (same (f x))
-  where
-    same : (a : Bool) → (a && true) ≡ a
-    same true = refl
-    same false = refl
+without-other f y x ne = rw (ne-eqb x y ne) (and-true (f x))
 
 without-self : (f : ℕ → Bool) (y : ℕ) → without f y y ≡ false
-without-self f y = rw (eq-eqb y y refl) (none (f y))
-  where
-    none : (a : Bool) → (a && false) ≡ false
-    none true = refl
-    none false = refl
+without-self f y = rw (eq-eqb y y refl) (and-false (f y))
 
 -- one fewer
 many-without :
