@@ -96,7 +96,8 @@ fn wrong_begins_and_steps_are_noticed() {
     assert!(mixed.unwrap_err().contains("cannot give this back"));
 }
 
-/// Backlog counts what is answered and not marked, handed out or not.
+/// Of the counts 0 to 3 the book takes the one of the entries that are answered
+/// and not marked.
 #[test]
 fn wrong_backlogs_are_noticed() {
     let counts = |list: &[(Call, Outcome)], right: u32| {
@@ -109,30 +110,16 @@ fn wrong_backlogs_are_noticed() {
         }
     };
     counts(&[], 0);
+    let other = Entry {
+        ticket: 2,
+        ..SECOND
+    };
     let mut list = Vec::new();
     let calls = [
         (insert(0, FIRST), 0),
-        (
-            insert(
-                1,
-                Entry {
-                    ticket: 2,
-                    ..SECOND
-                },
-            ),
-            0,
-        ),
+        (insert(1, other), 0),
         (step(0, Answer::Inserted(FIRST)), 1),
-        (
-            step(
-                1,
-                Answer::Inserted(Entry {
-                    ticket: 2,
-                    ..SECOND
-                }),
-            ),
-            2,
-        ),
+        (step(1, Answer::Inserted(other)), 2),
         (delete(0, 5), 2),
         (step(0, Answer::Marked(FIRST)), 1),
         (step(0, Answer::Waits), 1),

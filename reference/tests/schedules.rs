@@ -1,6 +1,7 @@
 //! Random schedules: every answer goes through the book and the table of
 //! refusals, and the backlog and the whole invariant are looked at after every
-//! single call, on the large sizes too. The two tests together make 5,000,000 calls and more.
+//! single call, on the large sizes too. The two tests together make 5,000,000
+//! calls and more.
 
 use darthog_reference::queue::LIMIT;
 use darthog_reference::random::Random;

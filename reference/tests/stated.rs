@@ -163,7 +163,9 @@ fn backlog_is_as_stated_along_the_printed_run() {
     for (from, to, count) in backlogs::PRINTED {
         for time in from..=to {
             assert_eq!((queue.clock, queue.backlog()), (time, Ok(count)));
-            calls.next().map(|call| queue.call(&call));
+            if let Some(call) = calls.next() {
+                queue.call(&call);
+            }
         }
     }
     assert_eq!(calls.next(), None, "the run is longer");

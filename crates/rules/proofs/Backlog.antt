@@ -4,12 +4,12 @@ use mathlib.Core.Path.{_≡_, refl, sym, ap, _∙_}
 use mathlib.Core.Bool.{Bool, true, false, _&&_, not, true≢false}
 use Prim.Native.Nat.{ℕ, _+_, _≤_, _<_}
 use native.Mathlib.Omega.{arith}
-use lib.Dec.{ltb, eqb}
-use borrow.Author.Tests.{ltb-true, lt-ltb, eq-eqb, not-true}
+use lib.Dec.{eqb}
+use borrow.Author.Tests.{eq-eqb}
 use Rattle.laws.specs.HowMany.{howMany}
 use Rattle.laws.proofs.Booleans.{cond-cases}
 use Rattle.laws.proofs.Counting.{and-left, and-right}
-use Rattle.laws.proofs.Pairing.{Passed, Paired, many-split, many-paired}
+use Rattle.laws.proofs.HowMany.{Passed, Paired, many-split, many-paired}
 use Rattle.record.specs.declared.nodes.Stamp.{Stamp}
 use Rattle.record.specs.declared.nodes.Stamp.the-variants as stamp
 use Rattle.record.specs.declared.nodes.Use.{Use}
@@ -26,7 +26,7 @@ use Rattle.rules.proofs.Booked.{ticket-apart, eligible-of, candidate-of
 use Rattle.rules.proofs.Choose.{used-number}
 use Rattle.rules.proofs.Concrete.{stampNumber, useNumber, markNumber, viewOf}
 use Rattle.rules.proofs.Inv.{Eligible}
-use Rattle.rules.proofs.Picks.{Candidate}
+use Rattle.rules.proofs.Picks.{candidate-true, candidate-is}
 use Rattle.rules.proofs.Put.{ever}
 use Rattle.rules.proofs.Sound.{Sound}
 use Rattle.rules.proofs.ValidFacts.{valid-facts}
@@ -61,29 +61,12 @@ number-mark : (m : Bool) → markNumber m ≡ 0 → not m ≡ true
 number-mark true h = absurd (omega arith)
 number-mark false h = refl
 
--- an entry that is answered and not marked is a candidate of a Delete_Min that begins after every
--- clock
-pending-candidate : (b : Book) (t : ℕ) → pendingIn b t ≡ true → Candidate b ever t
-pending-candidate b t h =
-    let w = b .entry t .written in
-    let a = ltb (b .entry t .answeredAt) ever in
-    let m = not (b .entry t .marked) in
-    let l = and-left (w && a) m h in
-    record {
-      written = and-left w a l;
-      answered = ltb-true _ _ (and-right w a l);
-      unmarked = not-true (b .entry t .marked) (and-right (w && a) m h);
-    }
-
-candidate-pending : (b : Book) (t : ℕ) → Candidate b ever t → pendingIn b t ≡ true
-candidate-pending b t C =
-    rw (C .written, lt-ltb (b .entry t .answeredAt) ever (C .answered), C .unmarked)
-
 module _ (q : Queue) (b : Book) (S : Sound q b) where
   abbrev v : View
   v = viewOf q
 
-  -- the node x has such an entry
+  -- the entry of the node x is answered and not marked: it may be taken by a Delete_Min that begins
+  -- after every clock
   abbrev Holds : ℕ → Type 0
   Holds x = Eligible (v .us) (v .st) (v .mk) (v .nodes) ever x
 
@@ -120,9 +103,9 @@ module _ (q : Queue) (b : Book) (S : Sound q b) where
     passes = λ x X.
         let C = candidate-of v (S .until) (S .inv) b (S .rel) ever x (node-holds ok x X) in
         let late = S .rel .late (v .tick x) (C .written) in
-        record { low = late .0; high = late .1; passes = candidate-pending b (v .tick x) C };
+        record { low = late .0; high = late .1; passes = candidate-is b ever (v .tick x) C };
     found = λ t T.
-        let C = pending-candidate b t (T .passes) in
+        let C = candidate-true b ever t (T .passes) in
         let E = eligible-of v (S .until) (S .inv) b (S .rel) ever t C in
         record { number = E .0; passed = holds-node (E .0) (E .2); is = E .1 };
     once = λ x z X Z e.

@@ -144,7 +144,7 @@ module _ (v : View) (u : ℕ → ℕ → ℕ) (I : Inv v u) (b : Book) (R : Rel 
       t≥ = R .late (v .tick a) (C .written) .0
 
       t< : v .tick a ≤ b .count
-      t< = omega (arith, R .count, I .core .entered a (L .low) (omega (arith, L .high)) .ticket)
+      t< = R .late (v .tick a) (C .written) .1
 
       go : Picked b T (b .count) (pick b T) → pick b T ≡ v .tick a
       go (none e k) = absurd (k (v .tick a) t≥ t< C)

@@ -10,10 +10,10 @@ use lib.Dec.{ltb, leb, eqb}
 use lib.ListN.{getD, set, List·getD-map}
 use borrow.Author.Tests.{le-leb, lt-leb, lt-ltb, le-ltb, eq-eqb, ne-eqb}
 use Rattle.laws.proofs.Booleans.{cond-elim}
-use Rattle.laws.proofs.Pairing.{many-same}
+use Rattle.laws.proofs.HowMany.{many-same}
 use Rattle.laws.specs.Every.{everyBelow}
 use Rattle.laws.specs.HowMany.{howMany}
-use Rattle.checks.specs.Backlog.{isPending, pendingAt, backlogOf}
+use Rattle.checks.specs.Backlog.{holdsPending, pendingAt, backlogOf}
 use Rattle.checks.specs.Check.{valid, sizesOf, nodeValid}
 use Rattle.checks.specs.Making.{outside}
 use Rattle.record.specs.declared.nodes.Node.{Node}
@@ -301,7 +301,7 @@ module _ (f : ℕ → ℕ) where
         (q : Queue) (k : ℕ) → howMany (pendingAt (renamed f q)) k ≡ howMany (pendingAt q) k
     pending-same q k =
         many-same (pendingAt (renamed f q)) (pendingAt q) k
-        (λ x _ _. ap (λ (n : Node). isPending (n .state) (n .stamp) (n .mark)) (node-read q x))
+        (λ x _ _. ap holdsPending (node-read q x))
 
     no-item : (item : ℕ) → (f item ≡ 0 → item ≡ 0) → eqb (f item) 0 ≡ eqb item 0
     no-item item h = go (ℕ-discrete item 0)

@@ -26,15 +26,19 @@ pub data Picked (b : Book) (T n r : ℕ) : Type 0 where
   none : r ≡ 0 → ((t : ℕ) → 1 ≤ t → t ≤ n → Candidate b T t → ⊥) → Picked b T n r
   one : 1 ≤ r → r ≤ n → Candidate b T r → ((t : ℕ) → 1 ≤ t → t ≤ n → Candidate b T t → order b r ≤ order b t) → Picked b T n r
 
-candidate-true : (b : Book) (T t : ℕ) → candidate b T t ≡ true → Candidate b T t
+pub candidate-true : (b : Book) (T t : ℕ) → candidate b T t ≡ true → Candidate b T t
 candidate-true b T t h =
     let w = b .entry t .written in
     let a = ltb (b .entry t .answeredAt) T in
     let m = not (b .entry t .marked) in
-    let r = and-right w (a && m) h in
-    record { written = and-left w (a && m) h; answered = ltb-true _ _ (and-left a m r); unmarked = not-true (b .entry t .marked) (and-right a m r) }
+    let l = and-left (w && a) m h in
+    record {
+      written = and-left w a l;
+      answered = ltb-true _ _ (and-right w a l);
+      unmarked = not-true (b .entry t .marked) (and-right (w && a) m h);
+    }
 
-candidate-is : (b : Book) (T t : ℕ) → Candidate b T t → candidate b T t ≡ true
+pub candidate-is : (b : Book) (T t : ℕ) → Candidate b T t → candidate b T t ≡ true
 candidate-is b T t C = rw (C .written, lt-ltb (b .entry t .answeredAt) T (C .answered), C .unmarked)
 
 -- what holds of 1 to n and of n + 1

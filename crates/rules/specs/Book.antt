@@ -64,9 +64,13 @@ now b = b .count + 1
 abbrev pub turned : Book → (ℕ → Line) → ℕ → Open → Book
 turned b entry p o = record { count = now b; entry = entry; opened = upd (b .opened) p o }
 
+-- the entry t was answered before this time
+abbrev pub answeredBefore : Book → ℕ → ℕ → Bool
+answeredBefore b time t = b .entry t .written && ltb (b .entry t .answeredAt) time
+
 -- "The pick of an open Delete_Min: of the entries answered at a time before its begin and not marked, the earliest by due, then ticket."
 abbrev pub candidate : Book → ℕ → ℕ → Bool
-candidate b begin t = b .entry t .written && (ltb (b .entry t .answeredAt) begin && not (b .entry t .marked))
+candidate b begin t = answeredBefore b begin t && not (b .entry t .marked)
 
 abbrev pub earlier : Book → ℕ → ℕ → Bool
 earlier b t u = keyBefore (entryKey (b .entry t .due) t) (entryKey (b .entry u .due) u)
@@ -83,13 +87,12 @@ pickTo b begin (suc n) = better b begin (suc n) (pickTo b begin n)
 abbrev pub pick : Book → ℕ → ℕ
 pick b begin = pickTo b begin (b .count)
 
--- the Insert of the entry t has answered
+-- the entry t is answered, at whatever time; and it is answered and not marked
 abbrev pub answeredIn : Book → ℕ → Bool
-answeredIn b t = b .entry t .written && ltb (b .entry t .answeredAt) never
+answeredIn b t = answeredBefore b never t
 
--- and no step has marked that entry
 abbrev pub pendingIn : Book → ℕ → Bool
-pendingIn b t = answeredIn b t && not (b .entry t .marked)
+pendingIn b t = candidate b never t
 
 -- the answer gives the due, item and ticket of the entry t
 abbrev pub gives : Book → Entry → ℕ → Bool
