@@ -6,6 +6,7 @@
 //! the library that is linked here.
 
 use darthog_reference::sheet::{run, SheetRefusal};
+use darthog_reference::stated::columns::fields;
 use darthog_reference::stated::sheets::{areas, refused};
 
 /// What a run gives back: 0 and the length of the history, or the number of the
@@ -107,7 +108,7 @@ fn a_history_fits_into_the_stated_areas() {
         "areas to 65,536 bytes and longer, with room {:?}, without {:?}",
         made[0], made[1]
     );
-    assert_eq!(made, [[16, 19], [26, 15]]);
+    assert_eq!(made, [[18, 25], [28, 17]]);
 }
 
 #[test]
@@ -128,4 +129,30 @@ fn a_refused_sheet_leaves_every_area_as_it_was() {
     }
     println!("refused sheets by number, {known:?}: {numbers:?}");
     assert!(numbers.iter().all(|&count| count > 0), "{numbers:?}");
+}
+
+#[test]
+fn columns_are_read_as_stated() {
+    let out_of_form = SheetReply {
+        number: 41,
+        value: 2,
+    };
+    let printed = SheetReply {
+        number: 0,
+        value: 37,
+    };
+    let mut made = [0, 0];
+    for field in fields() {
+        let words = String::from_utf8_lossy(&field.sheet).into_owned();
+        let (reply, history) = match field.history {
+            None => (out_of_form, Vec::new()),
+            Some(history) => (printed, history),
+        };
+        for length in [37, 65_537] {
+            judge(&field.sheet, length, reply, &history, &words);
+        }
+        made[usize::from(reply == printed)] += 1;
+    }
+    println!("columns in a field of a line, out of form and in form: {made:?}");
+    assert!(made.iter().all(|&count| count > 0), "{made:?}");
 }

@@ -8,6 +8,7 @@ use darthog_reference::queue::{fresh, Queue};
 use darthog_reference::sheet::{run, SheetRefusal};
 use darthog_reference::stated::backlogs;
 use darthog_reference::stated::cases::each_case;
+use darthog_reference::stated::columns;
 use darthog_reference::stated::items;
 use darthog_reference::stated::records::record;
 use darthog_reference::stated::rows::{Field, Filling, Row, FIELDS, TABLES};
@@ -98,7 +99,7 @@ fn a_history_fits_into_the_stated_areas() {
         }
     }
     println!("{fitted} areas with room, {short} without");
-    assert_eq!((fitted, short), (35, 41));
+    assert_eq!((fitted, short), (43, 45));
 }
 
 #[test]
@@ -169,4 +170,27 @@ fn backlog_is_as_stated_along_the_printed_run() {
         }
     }
     assert_eq!(calls.next(), None, "the run is longer");
+}
+
+#[test]
+fn columns_are_read_as_stated() {
+    let out_of_form = Err(SheetRefusal {
+        number: 41,
+        line: 2,
+    });
+    for field in columns::fields() {
+        let words = String::from_utf8_lossy(&field.sheet).into_owned();
+        let mut area = [0xa5; 37];
+        let ran = run(&field.sheet, &mut area);
+        match field.history {
+            None => {
+                assert_eq!(ran, out_of_form, "{words}");
+                assert_eq!(area, [0xa5; 37], "{words}");
+            }
+            Some(history) => {
+                assert_eq!(ran, Ok(37), "{words}");
+                assert_eq!(area[..], history[..], "{words}");
+            }
+        }
+    }
 }

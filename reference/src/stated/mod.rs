@@ -1,11 +1,13 @@
 //! What the documents say, in numbers written by hand: which values of each
-//! stored field check 21 takes, what some sheets print, which minute some
-//! counts of seconds give, what refuses an Insert, and what Backlog counts.
+//! stored field check 21 takes, which columns hold a number, what some sheets
+//! print, which minute some counts of seconds give, what refuses an Insert, and
+//! what Backlog counts.
 //! Nothing here asks the queue, so that the queue and the code that is compared
 //! with it can not both be wrong in one way without a test that sees it.
 
 pub mod backlogs;
 pub mod cases;
+pub mod columns;
 pub mod items;
 pub mod minutes;
 pub mod records;

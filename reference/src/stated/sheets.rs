@@ -76,6 +76,21 @@ pub fn strangers_history(lines: usize) -> Vec<u8> {
     line.repeat(lines).into_bytes()
 }
 
+/// A sheet with so many lines after Q, each of which calls a processor by its
+/// own number, from 1.
+pub fn numbered(lines: usize) -> Vec<u8> {
+    let line = |number| format!("S{number:7}      1      0      0\n");
+    let lines: String = (1..=lines).map(line).collect();
+    format!("{Q}{lines}").into_bytes()
+}
+
+/// The history of that sheet: a refusal with 32 for each line.
+pub fn numbered_history(lines: usize) -> Vec<u8> {
+    let line = |number| format!("R      0{number:7}     32      0      0\n");
+    let lines: String = (1..=lines).map(line).collect();
+    lines.into_bytes()
+}
+
 /// A sheet whose processor 1 waits for the head's lock until the clock is
 /// 999,999: 7 calls, 1000 lines of 999 steps, 992 steps. Then come a step, a
 /// begin, and an Insert with item 0.
@@ -245,6 +260,38 @@ pub fn areas() -> Vec<Areas> {
             65_564,
             &[65_564, 65_565, 131_072],
             &[65_527, 65_536, 65_537, 65_562, 65_563],
+        ),
+        of(
+            "64 lines, each with its number",
+            numbered(63),
+            numbered_history(63),
+            2_331,
+            &[2_331, 65_537],
+            &[2_330],
+        ),
+        of(
+            "65 lines, each with its number",
+            numbered(64),
+            numbered_history(64),
+            2_368,
+            &[2_368, 65_537],
+            &[2_367],
+        ),
+        of(
+            "2184 lines, each with its number",
+            numbered(2_183),
+            numbered_history(2_183),
+            80_771,
+            &[80_771, 131_072],
+            &[80_770],
+        ),
+        of(
+            "2190 lines, each with its number",
+            numbered(2_189),
+            numbered_history(2_189),
+            80_993,
+            &[80_993, 131_072],
+            &[80_992],
         ),
         of(
             "a spent clock",
