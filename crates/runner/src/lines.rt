@@ -5,6 +5,7 @@ ghost use mathlib.Core.Bool.{true};
 ghost use Prim.Native.Nat.{_+_, _≤_};
 ghost use lib.ListN.{length};
 ghost use Rattle.checks.specs.Check.{valid as validOf};
+ghost use Rattle.sheet.specs.Kept.{IsKept};
 ghost use Rattle.sheet.specs.Letters.{letterI};
 ghost use Rattle.sheet.specs.Sheets.{history as historyOf, fitted};
 ghost use Rattle.calling.specs.Calls.{decisionOf};
@@ -42,11 +43,11 @@ use sheet::Line;
 use sheet::Ran;
 use sheet::events::append_event;
 use sheet::forms::line_count;
+use sheet::kept::kept_line;
 use sheet::letters::EVENT;
 use sheet::letters::LETTER_D;
 use sheet::letters::LETTER_I;
 use sheet::letters::LINE;
-use sheet::lines::line_at;
 
 // What an accepted call decides: x is the node that an Insert takes, t the time, s what a step reads.
 fn decision(l: Line, x: u8, levels: u8, t: u32, s: Sight, g: Stage) -> Decision
@@ -92,9 +93,10 @@ fn waits_left(a: Answer, left: u32, t: u32) -> u32
 
 // The lines 2 and on of a sheet, run on the queue that its first line made: the length of the
 // history, or 43 as soon as it is longer than the area. The history is written, or only counted.
-// Where 43 ends a run that writes, the lines that had room stay in the area.
-pub fn run_lines(sheet: &[u8], mut q: Queue, area: &mut [u8], writing: bool) -> Ran
-    requires { ⌜ validOf q ≡ true ⌝ }
+// Where 43 ends a run that writes, the lines that had room stay in the area. `kept` has the numbers
+// of the lines, as the check of their form kept them.
+pub fn run_lines(sheet: &[u8], mut q: Queue, area: &mut [u8], writing: bool, kept: &[u32]) -> Ran
+    requires { ⌜ (validOf q ≡ true) × IsKept (now sheet) (now kept) ⌝ }
     ensures { λ r. ⌜ r ≡ fitted (historyOf (now (sheet .entry)) q) (length (now (area .entry))) ⌝ }
     ensures { λ _. ⌜ now (area .exit) ≡ areaWith (historyOf (now (sheet .entry)) q) (now (area .entry)) writing ⌝ }
 {
@@ -104,7 +106,7 @@ pub fn run_lines(sheet: &[u8], mut q: Queue, area: &mut [u8], writing: bool) -> 
     while k < count {
         let from = LINE * k;
         let part = &sheet[from..];
-        let l = line_at(part);
+        let l = kept_line(part, kept, k);
         k = k + 1;
         // the node that an Insert takes
         let o = slot_of(l.first, q.processors);

@@ -1,9 +1,11 @@
 pub mod Digits
+pub mod Found
 pub mod Stores
 pub mod Padding
 pub mod Table
 pub mod Parts
 pub mod Readings
+pub mod Keeping
 pub mod Written
 pub mod ReadBack
 pub mod Reports

@@ -1,31 +1,36 @@
 -- Laws of a line's form, in the order in which a reader finds it, and of the first line that fails a test. Assumes nothing.
 use mathlib.Core.Path.{_≡_, refl, sym, ap, _∙_}
 use mathlib.Core.Bool.{Bool, true, false, cond, _&&_}
-use mathlib.Core.List.{List, [], _∷_}
+use mathlib.Core.List.{List}
 use Prim.Native.Nat.{ℕ, zero, suc, _+_, _≤_, _<_}
 use native.Mathlib.Decide.{ℕ-discrete}
 use native.Mathlib.Numerals.{add-one}
 use native.Mathlib.Omega.{arith}
 use lib.Dec.{leb, eqb}
-use lib.ListN.{length, getD, drop}
-use borrow.Author.Tests.{le-leb, lt-leb, eq-eqb, ne-eqb}
+use lib.ListN.{length, getD}
+use borrow.Author.Tests.{le-leb, lt-leb, eq-eqb, ne-eqb, leb-true}
+use Rattle.laws.proofs.Counting.{and-left}
 use Rattle.sheet.specs.declared.lines.Line.{Line}
 use Rattle.sheet.specs.declared.lines.Reading.{Reading}
 use Rattle.sheet.specs.declared.lines.Reading.the-variants as reading
-use Rattle.sheet.specs.declared.lines.Scan.{Scan}
-use Rattle.sheet.specs.declared.lines.Scan.the-variants as scan
-use Rattle.sheet.specs.Columns.{field, inForm, valueOf}
+use Rattle.sheet.specs.declared.lines.Rule.{Rule}
 use Rattle.sheet.specs.Letters.{letterRules}
-use Rattle.sheet.specs.Lines.{noRule, ruleIndex, keepsForm, fieldsKeep, lineInForm, lineOf, readLine, firstFailing, lineCount, rightLetter, firstMisplaced, partAt, firstOutOfForm}
-use Rattle.sheet.specs.Scans.{scansKeep, scannedLine}
-use Rattle.sheet.specs.Scans.{formReport, lineNumbers, reportedScan, reportedReading}
+use Rattle.sheet.specs.Lines.{noRule, ruleIndex, letterOf, fieldAt, fieldsKeep, keepsForm}
+use Rattle.sheet.specs.Lines.{lineInForm, line, lineOf, readLine, firstFailing, lineCount}
+use Rattle.sheet.specs.Lines.{rightLetter, firstMisplaced, partAt, firstOutOfForm}
+use Rattle.sheet.specs.Scans.{allInBounds, formReport, lineNumbers, reportedReading}
+use Rattle.sheet.proofs.Table.{field-kept}
 
 -- what the tests of a line say of its reading
-reads-bad : (s : List ℕ) (i : ℕ) → i ≡ ruleIndex letterRules (getD s 0 0) → keepsForm s i ≡ false → reading.Bad ≡ readLine s
+reads-bad :
+    (s : List ℕ) (i : ℕ) → i ≡ ruleIndex letterRules (letterOf s) → keepsForm s i ≡ false
+    → reading.Bad ≡ readLine s
 reads-bad s i e h =
     ap (λ (t : Bool). cond t (reading.Form (lineOf s)) reading.Bad) (sym h ∙ ap (keepsForm s) e)
 
-reads-form : (s : List ℕ) (i : ℕ) → i ≡ ruleIndex letterRules (getD s 0 0) → keepsForm s i ≡ true → reading.Form (lineOf s) ≡ readLine s
+reads-form :
+    (s : List ℕ) (i : ℕ) → i ≡ ruleIndex letterRules (letterOf s) → keepsForm s i ≡ true
+    → reading.Form (lineOf s) ≡ readLine s
 reads-form s i e h =
     ap (λ (t : Bool). cond t (reading.Form (lineOf s)) reading.Bad) (sym h ∙ ap (keepsForm s) e)
 
@@ -37,39 +42,64 @@ no-right : (a b : Bool) → b ≡ false → (a && b) ≡ false
 no-right true b h = h
 no-right false b h = refl
 
-first-fails : (a b c d : Bool) → a ≡ false → tests a b c d ≡ false
+pub first-fails : (a b c d : Bool) → a ≡ false → tests a b c d ≡ false
 first-fails a b c d h = rw h
 
-second-fails : (a b c d : Bool) → b ≡ false → tests a b c d ≡ false
+pub second-fails : (a b c d : Bool) → b ≡ false → tests a b c d ≡ false
 second-fails a b c d h = ap (λ (x : Bool). x && c && d) (no-right a b h)
 
-third-fails : (a b c d : Bool) → c ≡ false → tests a b c d ≡ false
+pub third-fails : (a b c d : Bool) → c ≡ false → tests a b c d ≡ false
 third-fails a b c d h = ap (λ (x : Bool). x && d) (no-right (a && b) c h)
 
 all-hold : (a b c d : Bool) → a ≡ true → b ≡ true → c ≡ true → d ≡ true → tests a b c d ≡ true
 all-hold a b c d h k l m = rw (h, k, l, m)
+
+pub last-decides : (a b c d : Bool) → a ≡ true → b ≡ true → c ≡ true → d ≡ tests a b c d
+last-decides a b c d h k l = rw (h, k, l) refl
 
 fourth-fails : (a b c d : Bool) → d ≡ false → tests a b c d ≡ false
 fourth-fails a b c d h = no-right (a && b && c) d h
 
 pub read-short : (s : List ℕ) → length s < 30 → reading.Bad ≡ readLine s
 read-short s h =
-    let i = ruleIndex letterRules (getD s 0 0) in
+    let i = ruleIndex letterRules (letterOf s) in
     reads-bad s i refl (first-fails (leb 30 (length s)) (leb (suc i) 4) (fieldsKeep (getD letterRules i noRule) s) (eqb (getD s 29 0) 10) (lt-leb 30 (length s) h))
 
--- a line is what its letter and fields, as read, make
-pub line-scanned :
-    (s : List ℕ) (x : ℕ) (a b c d : Scan) → x ≡ getD s 0 0
-    → a ≡ field (drop 1 s) → b ≡ field (drop 8 s) → c ≡ field (drop 15 s) → d ≡ field (drop 22 s)
-    → scannedLine x a b c d ≡ lineOf s
-line-scanned s x a b c d px pa pb pc pd =
-    ap (λ (y : ℕ). scannedLine y a b c d) px
-    ∙ ap (λ (y : Scan). scannedLine (getD s 0 0) y b c d) pa
-    ∙ ap (λ (y : Scan). scannedLine (getD s 0 0) (field (drop 1 s)) y c d) pb
-    ∙ ap (λ (y : Scan). scannedLine (getD s 0 0) (field (drop 1 s)) (field (drop 8 s)) y d) pc
-    ∙ ap (λ (y : Scan). scannedLine (getD s 0 0) (field (drop 1 s)) (field (drop 8 s)) (field (drop 15 s)) y) pd
+-- what is said of four numbers is said of the fields that they were read from
+module _
+    (s : List ℕ) {a b c d : ℕ}
+    (pa : a ≡ fieldAt s 0) (pb : b ≡ fieldAt s 1) (pc : c ≡ fieldAt s 2)
+    (pd : d ≡ fieldAt s 3) where
+  pub line-numbers :
+      line (letterOf s) a b c d
+      ≡ line (letterOf s) (fieldAt s 0) (fieldAt s 1) (fieldAt s 2) (fieldAt s 3)
+  line-numbers = rw (pa, pb, pc, pd) refl
 
-module _ (s : List ℕ) (i : ℕ) (at-letter : i ≡ ruleIndex letterRules (getD s 0 0)) where
+  pub bounds-numbers :
+      (r : Rule) → allInBounds r a b c d
+      ≡ allInBounds r (fieldAt s 0) (fieldAt s 1) (fieldAt s 2) (fieldAt s 3)
+  bounds-numbers r = rw (pa, pb, pc, pd) refl
+
+-- a line with all of its bytes is its letter and its numbers
+pub line-whole :
+    (s : List ℕ) → 30 ≤ length s
+    → line (letterOf s) (fieldAt s 0) (fieldAt s 1) (fieldAt s 2) (fieldAt s 3) ≡ lineOf s
+line-whole s h =
+    ap
+    (λ (t : Bool). cond t
+    (line (letterOf s) (fieldAt s 0) (fieldAt s 1) (fieldAt s 2) (fieldAt s 3))
+    (line (letterOf s) 0 0 0 0))
+    (sym (le-leb 30 (length s) h))
+
+pub line-short : (s : List ℕ) → length s < 30 → line (letterOf s) 0 0 0 0 ≡ lineOf s
+line-short s h =
+    ap
+    (λ (t : Bool). cond t
+    (line (letterOf s) (fieldAt s 0) (fieldAt s 1) (fieldAt s 2) (fieldAt s 3))
+    (line (letterOf s) 0 0 0 0))
+    (sym (lt-leb 30 (length s) h))
+
+module _ (s : List ℕ) (i : ℕ) (at-letter : i ≡ ruleIndex letterRules (letterOf s)) where
   pub read-letter : 4 ≤ i → reading.Bad ≡ readLine s
   read-letter h =
       reads-bad s i at-letter (second-fails (leb 30 (length s)) (leb (suc i) 4) (fieldsKeep (getD letterRules i noRule) s) (eqb (getD s 29 0) 10) (lt-leb (suc i) 4 (omega arith)))
@@ -78,46 +108,71 @@ module _ (s : List ℕ) (i : ℕ) (at-letter : i ≡ ruleIndex letterRules (getD
   read-feed h =
       reads-bad s i at-letter (fourth-fails (leb 30 (length s)) (leb (suc i) 4) (fieldsKeep (getD letterRules i noRule) s) (eqb (getD s 29 0) 10) (ne-eqb (getD s 29 0) 10 h))
 
-  module _ (a b c d : Scan) (pa : a ≡ field (drop 1 s)) (pb : b ≡ field (drop 8 s)) (pc : c ≡ field (drop 15 s)) (pd : d ≡ field (drop 22 s)) where
-    keep-same : scansKeep (getD letterRules i noRule) a b c d ≡ fieldsKeep (getD letterRules i noRule) s
-    keep-same =
-        ap (λ (x : Scan). scansKeep (getD letterRules i noRule) x b c d) pa
-        ∙ ap (λ (x : Scan). scansKeep (getD letterRules i noRule) (field (drop 1 s)) x c d) pb
-        ∙ ap (λ (x : Scan). scansKeep (getD letterRules i noRule) (field (drop 1 s)) (field (drop 8 s)) x d) pc
-        ∙ ap (λ (x : Scan). scansKeep (getD letterRules i noRule) (field (drop 1 s)) (field (drop 8 s)) (field (drop 15 s)) x) pd
+  keep-same :
+      i < 4
+      → allInBounds (getD letterRules i noRule) (fieldAt s 0) (fieldAt s 1) (fieldAt s 2)
+      (fieldAt s 3)
+      ≡ fieldsKeep (getD letterRules i noRule) s
+  keep-same h =
+      rw (
+        field-kept i 0 s h (omega arith),
+        field-kept i 1 s h (omega arith),
+        field-kept i 2 s h (omega arith),
+        field-kept i 3 s h (omega arith),
+      ) refl
 
-    pub read-fields : scansKeep (getD letterRules i noRule) a b c d ≡ false → reading.Bad ≡ readLine s
+  module _ (known : i < 4) where
+    pub read-fields :
+        allInBounds (getD letterRules i noRule) (fieldAt s 0) (fieldAt s 1) (fieldAt s 2)
+        (fieldAt s 3) ≡ false
+        → reading.Bad ≡ readLine s
     read-fields h =
-        reads-bad s i at-letter (third-fails (leb 30 (length s)) (leb (suc i) 4) (fieldsKeep (getD letterRules i noRule) s) (eqb (getD s 29 0) 10) (sym keep-same ∙ h))
+        reads-bad s i at-letter
+        (third-fails (leb 30 (length s)) (leb (suc i) 4) (fieldsKeep (getD letterRules i noRule) s)
+        (eqb (getD s 29 0) 10) (sym (keep-same known) ∙ h))
 
     pub read-form :
-        30 ≤ length s → i < 4 → scansKeep (getD letterRules i noRule) a b c d ≡ true → getD s 29 0 ≡ 10
-        → reading.Form (scannedLine (getD s 0 0) a b c d) ≡ readLine s
-    read-form long known keep feed =
-        ap reading.Form (line-scanned s (getD s 0 0) a b c d refl pa pb pc pd)
+        30 ≤ length s
+        → allInBounds (getD letterRules i noRule) (fieldAt s 0) (fieldAt s 1) (fieldAt s 2)
+        (fieldAt s 3) ≡ true
+        → getD s 29 0 ≡ 10
+        → reading.Form (line (letterOf s) (fieldAt s 0) (fieldAt s 1) (fieldAt s 2) (fieldAt s 3))
+        ≡ readLine s
+    read-form long keep feed =
+        ap reading.Form (line-whole s long)
         ∙ reads-form s i at-letter
         (all-hold (leb 30 (length s)) (leb (suc i) 4) (fieldsKeep (getD letterRules i noRule) s) (eqb (getD s 29 0) 10)
-        (le-leb 30 (length s) long) (le-leb (suc i) 4 (omega arith)) (sym keep-same ∙ keep) (eq-eqb (getD s 29 0) 10 feed))
+        (le-leb 30 (length s) long) (le-leb (suc i) 4 (omega arith)) (sym (keep-same known) ∙ keep)
+        (eq-eqb (getD s 29 0) 10 feed))
 
--- in document 01's numbers: a field, and a line
-pub scan-reported : (f : Scan) → reportedScan f ≡ formReport (inForm f) (valueOf f ∷ [])
-scan-reported scan.Blank = refl
-scan-reported scan.Zero = refl
-scan-reported (scan.Number n) = refl
-scan-reported scan.Bad = refl
+-- a line in form has all of its bytes
+form-long : (s : List ℕ) → lineInForm s ≡ true → 30 ≤ length s
+form-long s h =
+    let i = ruleIndex letterRules (letterOf s) in
+    let a = leb 30 (length s) in
+    let b = leb (suc i) 4 in
+    let c = fieldsKeep (getD letterRules i noRule) s in
+    leb-true 30 (length s)
+    (and-left a b (and-left (a && b) c (and-left (a && b && c) (eqb (getD s 29 0) 10) h)))
 
+-- a line in document 01's numbers
 reading-reported :
-    (t : Bool) (l : Line) →
-    reportedReading (cond t (reading.Form l) reading.Bad)
-    ≡ formReport t (l .letter ∷ (l .first ∷ (l .second ∷ (l .third ∷ (l .fourth ∷ [])))))
-reading-reported true l = refl
-reading-reported false l = refl
+    (s : List ℕ) → reportedReading (readLine s) ≡ formReport (lineInForm s) (lineNumbers s)
+reading-reported s = go (lineInForm s) refl
+  where
+    go :
+        (t : Bool) → lineInForm s ≡ t
+        → reportedReading (readLine s) ≡ formReport (lineInForm s) (lineNumbers s)
+    go true e =
+        rw e (ap (λ (l : Line). reportedReading (reading.Form l))
+        (sym (line-whole s (form-long s e))))
+    go false e = rw e refl
 
 -- a reading that is the definition's, and in numbers
 pub said :
     (s : List ℕ) {r : Reading} → r ≡ readLine s →
     (r ≡ readLine s) × (reportedReading r ≡ formReport (lineInForm s) (lineNumbers s))
-said s e = (e, ap reportedReading e ∙ reading-reported (lineInForm s) (lineOf s))
+said s e = (e, ap reportedReading e ∙ reading-reported s)
 
 -- the answer of a reading
 answer-bad : (t : Bool) (l : Line) → reading.Bad ≡ cond t (reading.Form l) reading.Bad → false ≡ t
@@ -133,6 +188,13 @@ bad-not s h = answer-bad (lineInForm s) (lineOf s) h
 
 pub form-is : (s : List ℕ) (m : Line) → reading.Form m ≡ readLine s → true ≡ lineInForm s
 form-is s m h = answer-form (lineInForm s) (lineOf s) m h
+
+answer-line : (t : Bool) (l m : Line) → reading.Form m ≡ cond t (reading.Form l) reading.Bad → m ≡ l
+answer-line true l m h = cc
+answer-line false l m h = cc
+
+pub form-line : (s : List ℕ) (m : Line) → reading.Form m ≡ readLine s → m ≡ lineOf s
+form-line s m h = answer-line (lineInForm s) (lineOf s) m h
 
 -- of n lines the first that fails is line k + 1, if none of the k before it does
 pub fails-at : (f : ℕ → Bool) (k n : ℕ) → firstFailing f k ≡ 0 → f (k + 1) ≡ false → k < n → firstFailing f n ≡ k + 1

@@ -1,49 +1,66 @@
--- Numbers in columns. "four numbers right-justified in 7 columns (spaces before, no leading zero)"
-use Prim.Native.Nat.{ℕ, zero, suc, _+_, _-_, _*_, _/_, _%_}
-use mathlib.Core.Bool.{Bool, true, false, cond, _&&_}
+-- Numbers in seven columns: spaces, and behind them the digits of a number that does not start with
+-- a 0, unless it is 0 (01, sheet and history). What columns are worth, and which keep the form, is
+-- said without a word on how they are read (02, W4); specs/Digits has what is proved of both.
+use Prim.Native.Nat.{ℕ, zero, suc, _+_, _-_, _*_, _/_, _%_, _^_}
+use mathlib.Core.Bool.{Bool, cond, _&&_, _||_}
 use mathlib.Core.List.{List, [], _∷_, _++_}
-use lib.Dec.{leb, eqb}
+use lib.Dec.{ltb, leb, eqb}
 use lib.ListN.{getD, replicate}
-use Rattle.sheet.specs.declared.lines.Scan.{Scan}
-use Rattle.sheet.specs.declared.lines.Scan.the-variants as scan
-use Rattle.sheet.specs.Letters.{space, digitZero}
+use Rattle.laws.specs.Every.{everyBelow}
+use Rattle.sheet.specs.Letters.{space, digitZero, maxField}
 
 abbrev pub width : ℕ
 width = 7
 
+abbrev pub isSpace : ℕ → Bool
+isSpace c = eqb c space
+
 abbrev pub isDigit : ℕ → Bool
 isDigit c = leb digitZero c && leb c (digitZero + 9)
 
--- one more column
-abbrev pub nextColumn : Scan → ℕ → Scan
-nextColumn scan.Blank c =
-    cond (eqb c space) scan.Blank
-    (cond (eqb c digitZero) scan.Zero
-    (cond (isDigit c) (scan.Number (c - digitZero)) scan.Bad))
-nextColumn scan.Zero c = scan.Bad
-nextColumn (scan.Number n) c = cond (isDigit c) (scan.Number (n * 10 + (c - digitZero))) scan.Bad
-nextColumn scan.Bad c = scan.Bad
+-- what a column is worth at the last place: a digit its number, and a space 0
+abbrev pub digitOf : ℕ → ℕ
+digitOf c = cond (isDigit c) (c - digitZero) 0
 
--- the first k columns of s
-abbrev pub columnsTo : List ℕ → ℕ → Scan
-columnsTo s zero = scan.Blank
-columnsTo s (suc k) = nextColumn (columnsTo s k) (getD s k 0)
+-- of k columns the first j, each times the power of ten of its place
+abbrev pub placesTo : List ℕ → ℕ → ℕ → ℕ
+placesTo s k zero = 0
+placesTo s k (suc j) = placesTo s k j + digitOf (getD s j 0) * 10 ^ (k - suc j)
 
--- the seven columns that s starts with: in form, and their number
-abbrev pub field : List ℕ → Scan
-field s = columnsTo s width
+-- the value of the first k columns of s
+abbrev pub columnsValue : List ℕ → ℕ → ℕ
+columnsValue s k = placesTo s k k
 
-abbrev pub inForm : Scan → Bool
-inForm scan.Blank = false
-inForm scan.Zero = true
-inForm (scan.Number n) = true
-inForm scan.Bad = false
+-- the first k columns hold spaces alone
+abbrev pub blankTo : List ℕ → ℕ → Bool
+blankTo s k = everyBelow (λ j. isSpace (getD s j 0)) k
 
-abbrev pub valueOf : Scan → ℕ
-valueOf scan.Blank = 0
-valueOf scan.Zero = 0
-valueOf (scan.Number n) = n
-valueOf scan.Bad = 0
+-- column k, from 0, behind those before it: behind spaces alone a space or a digit, and behind a
+-- digit another one, unless the number is 0 so far
+abbrev pub columnKeeps : List ℕ → ℕ → Bool
+columnKeeps s k =
+    cond (blankTo s k) (isSpace (getD s k 0) || isDigit (getD s k 0))
+    (isDigit (getD s k 0) && ltb 0 (columnsValue s k))
+
+-- the first k columns keep the form
+abbrev pub columnsKeep : List ℕ → ℕ → Bool
+columnsKeep s k = everyBelow (columnKeeps s) k
+
+-- the seven columns that s starts with hold a number
+abbrev pub inForm : List ℕ → Bool
+inForm s = columnsKeep s width && isDigit (getD s (width - 1) 0)
+
+-- what stands for columns that are out of form: no seven columns have this value
+abbrev pub noNumber : ℕ
+noNumber = maxField + 1
+
+-- the value of the first k columns, if they keep the form
+abbrev pub valueTo : List ℕ → ℕ → ℕ
+valueTo s k = cond (columnsKeep s k) (columnsValue s k) noNumber
+
+-- the number of the seven columns that s starts with
+abbrev pub numberOf : List ℕ → ℕ
+numberOf s = cond (inForm s) (columnsValue s width) noNumber
 
 -- the last digit of a number
 abbrev pub lastDigit : ℕ → ℕ

@@ -8,7 +8,7 @@ use Rattle.sheet.specs.declared.lines.Line.{Line}
 use Rattle.sheet.specs.declared.lines.Reading.{Reading}
 use Rattle.sheet.specs.declared.lines.Reading.the-variants as reading
 use Rattle.sheet.specs.declared.lines.Rule.{Rule}
-use Rattle.sheet.specs.Columns.{width, field, inForm, valueOf}
+use Rattle.sheet.specs.Columns.{width, inForm, numberOf}
 use Rattle.sheet.specs.Letters.{lineFeed, letterQ, letterRules}
 
 abbrev pub lineLength : ℕ
@@ -23,14 +23,21 @@ abbrev pub ruleIndex : List Rule → ℕ → ℕ
 ruleIndex [] c = 0
 ruleIndex (r ∷ rs) c = cond (eqb (r .letter) c) 0 (suc (ruleIndex rs c))
 
--- field k, from 0, of the line that s starts with
+abbrev pub letterOf : List ℕ → ℕ
+letterOf s = getD s 0 0
+
+-- the part of a line that starts at its field k, from 0
+abbrev pub fieldPart : List ℕ → ℕ → List ℕ
+fieldPart s k = drop (1 + width * k) s
+
+-- the number of field k of the line that s starts with
 abbrev pub fieldAt : List ℕ → ℕ → ℕ
-fieldAt s k = valueOf (field (drop (1 + width * k) s))
+fieldAt s k = numberOf (fieldPart s k)
 
 -- its columns are in form and its number lies between the letter's bounds
 abbrev pub fieldKeeps : Rule → List ℕ → ℕ → Bool
 fieldKeeps r s k =
-    inForm (field (drop (1 + width * k) s))
+    inForm (fieldPart s k)
     && (leb (getD (r .low) k 0) (fieldAt s k) && leb (fieldAt s k) (getD (r .high) k 0))
 
 abbrev pub fieldsKeep : Rule → List ℕ → Bool
@@ -44,11 +51,18 @@ keepsForm s index =
     && eqb (getD s (lineLength - 1) 0) lineFeed
 
 abbrev pub lineInForm : List ℕ → Bool
-lineInForm s = keepsForm s (ruleIndex letterRules (getD s 0 0))
+lineInForm s = keepsForm s (ruleIndex letterRules (letterOf s))
 
--- the line that s starts with
+abbrev pub line : ℕ → ℕ → ℕ → ℕ → ℕ → Line
+line letter a b c d =
+    record { letter = letter; first = a; second = b; third = c; fourth = d }
+
+-- the line that s starts with; of a short one, which is out of form, only its letter is read
 abbrev pub lineOf : List ℕ → Line
-lineOf s = record { letter = getD s 0 0; first = fieldAt s 0; second = fieldAt s 1; third = fieldAt s 2; fourth = fieldAt s 3 }
+lineOf s =
+    cond (leb lineLength (length s))
+    (line (letterOf s) (fieldAt s 0) (fieldAt s 1) (fieldAt s 2) (fieldAt s 3))
+    (line (letterOf s) 0 0 0 0)
 
 abbrev pub readLine : List ℕ → Reading
 readLine s = cond (lineInForm s) (reading.Form (lineOf s)) reading.Bad
@@ -73,7 +87,8 @@ firstOutOfForm s = firstFailing (λ k. lineInForm (partAt s k)) (lineCount s)
 
 -- 42: "first line not Q, or a later Q; that line (empty sheet: 1)"
 abbrev pub rightLetter : List ℕ → ℕ → Bool
-rightLetter s k = cond (eqb k 1) (eqb (lineOf (partAt s k) .letter) letterQ) (not (eqb (lineOf (partAt s k) .letter) letterQ))
+rightLetter s k =
+    cond (eqb k 1) (eqb (letterOf (partAt s k)) letterQ) (not (eqb (letterOf (partAt s k)) letterQ))
 
 abbrev pub firstMisplaced : List ℕ → ℕ
 firstMisplaced s = cond (eqb (lineCount s) 0) 1 (firstFailing (rightLetter s) (lineCount s))

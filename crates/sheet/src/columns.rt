@@ -1,15 +1,22 @@
 // Numbers in seven columns: read, and written.
 ghost use mathlib.Core.Path.{_≡_};
-ghost use mathlib.Core.List.{[], _∷_};
-ghost use Prim.Native.Nat.{_+_, _≤_};
-ghost use lib.ListN.{length, getD};
+ghost use mathlib.Core.Bool.{true, false};
+ghost use Prim.Native.Nat.{_+_, _≤_, _<_};
+ghost use lib.ListN.{length, getD, drop};
 ghost use lib.Seq.{sets};
-ghost use Rattle.sheet.specs.Columns.{isDigit, nextColumn, field as fieldOf, inForm, valueOf as valueIn, lastDigit, columns};
-ghost use Rattle.sheet.specs.Scans.{paddedDigit, formReport, reportedScan};
+ghost use Rattle.sheet.specs.Columns.{isSpace, isDigit, blankTo, valueTo, numberOf};
+ghost use Rattle.sheet.specs.Columns.{lastDigit, columns};
+ghost use Rattle.sheet.specs.Digits.{extendedBy};
+ghost use Rattle.sheet.specs.Scans.{NumberSoFar, paddedDigit};
 use crate::letters::DIGIT_ZERO;
+use crate::letters::NO_NUMBER;
 use crate::letters::SPACE;
 use crate::letters::WIDTH;
-use crate::lines::Scan;
+
+// The last of seven columns, from 0, and the one before it.
+const LAST: usize = 6;
+
+const BEFORE_LAST: usize = 5;
 
 fn is_digit(c: u8) -> bool
     ensures { λ r. ⌜ r ≡ isDigit c ⌝ }
@@ -21,44 +28,102 @@ fn is_digit(c: u8) -> bool
     }
 }
 
-// The column after spaces alone.
-fn first_column(c: u8) -> Scan
-    ensures { λ r. ⌜ r ≡ nextColumn Scan.Blank c ⌝ }
+// The value so far, extended by a digit.
+fn extended(value: u32, c: u8) -> u32
+    requires { ⌜ (value ≤ 999999) × (isDigit c ≡ true) ⌝ }
+    ensures { λ r. ⌜ r ≡ extendedBy value c ⌝ }
 {
-    if c == SPACE {
-        return Scan::Blank;
-    }
-    if c == DIGIT_ZERO {
-        return Scan::Zero;
-    }
-    if !is_digit(c) {
-        return Scan::Bad;
-    }
-    Scan::Number((c - DIGIT_ZERO) as u32)
+    value * 10 + (c - DIGIT_ZERO) as u32
 }
 
-// The column after a number of at most six digits.
-fn next_digit(n: u32, c: u8) -> Scan
-    requires { ⌜ n ≤ 999999 ⌝ }
-    ensures { λ r. ⌜ r ≡ nextColumn (Scan.Number n) c ⌝ }
+// How many of the first `width` columns at `at` hold spaces before the first that does not.
+fn spaces_at(line: &[u8], at: usize, width: usize) -> usize
+    requires { ⌜ (width ≤ 7) × (at + width ≤ length (now line)) ⌝ }
+    ensures { λ r. ⌜ (r ≤ width) × (blankTo (drop at (now (line .entry))) r ≡ true) ⌝ }
+    ensures { λ r. ⌜ (r < width → isSpace (getD (drop at (now (line .entry))) r 0) ≡ false) ⌝ }
 {
-    if !is_digit(c) {
-        return Scan::Bad;
+    let mut k: usize = 0;
+    while k < width {
+        if line[at + k] != SPACE {
+            return k;
+        }
+        k = k + 1;
     }
-    Scan::Number(n * 10 + (c - DIGIT_ZERO) as u32)
+    k
 }
 
-// One more column.
-fn next_column(f: Scan, c: u8) -> Scan
-    requires { ⌜ valueIn f ≤ 999999 ⌝ }
-    ensures { λ r. ⌜ r ≡ nextColumn f c ⌝ }
+// The first `width` columns at `at`, of which the first `from` were read as a number above 0: the
+// value of all, or NO_NUMBER. Each digit extends the value so far.
+fn digits_behind(line: &[u8], at: usize, width: usize, from: usize, start: u32) -> u32
+    requires { ⌜ (width ≤ 7) × (at + width ≤ length (now line)) × (from ≤ width) ⌝ }
+    requires { ⌜ NumberSoFar (drop at (now line)) from start ⌝ }
+    ensures { λ r. ⌜ r ≡ valueTo (drop at (now (line .entry))) width ⌝ }
 {
-    match f {
-        Scan::Blank => first_column(c),
-        Scan::Zero => Scan::Bad,
-        Scan::Number(n) => next_digit(n, c),
-        Scan::Bad => Scan::Bad,
+    let mut value = start;
+    let mut k = from;
+    while k < width {
+        let c = line[at + k];
+        if !is_digit(c) {
+            return NO_NUMBER;
+        }
+        value = extended(value, c);
+        k = k + 1;
     }
+    value
+}
+
+// The value of the first `width` columns at `at`, or NO_NUMBER where they do not keep the form.
+fn value_at(line: &[u8], at: usize, width: usize) -> u32
+    requires { ⌜ (width ≤ 7) × (at + width ≤ length (now line)) ⌝ }
+    ensures { λ r. ⌜ r ≡ valueTo (drop at (now (line .entry))) width ⌝ }
+{
+    let first = spaces_at(line, at, width);
+    if width <= first {
+        return 0;
+    }
+    let c = line[at + first];
+    if !is_digit(c) {
+        return NO_NUMBER;
+    }
+    let digit = extended(0, c);
+    let behind = first + 1;
+    if digit == 0 {
+        // nothing may stand behind a 0
+        if behind < width {
+            return NO_NUMBER;
+        }
+        return 0;
+    }
+    digits_behind(line, at, width, behind, digit)
+}
+
+// The number in the seven columns at `at`, of which the last but one holds a space: that of the
+// last column, or NO_NUMBER.
+fn one_digit_at(line: &[u8], at: usize) -> u32
+    requires { ⌜ at + 7 ≤ length (now line) ⌝ }
+    requires { ⌜ isSpace (getD (drop at (now line)) 5 0) ≡ true ⌝ }
+    ensures { λ r. ⌜ r ≡ numberOf (drop at (now (line .entry))) ⌝ }
+{
+    if spaces_at(line, at, BEFORE_LAST) < BEFORE_LAST {
+        return NO_NUMBER;
+    }
+    let c = line[at + LAST];
+    if !is_digit(c) {
+        return NO_NUMBER;
+    }
+    extended(0, c)
+}
+
+// The number in the seven columns at `at`, or NO_NUMBER where they are out of form.
+pub(crate) fn number_at(line: &[u8], at: usize) -> u32
+    requires { ⌜ at + 7 ≤ length (now line) ⌝ }
+    ensures { λ r. ⌜ r ≡ numberOf (drop at (now (line .entry))) ⌝ }
+{
+    // most numbers of a sheet have one digit
+    if line[at + BEFORE_LAST] == SPACE {
+        return one_digit_at(line, at);
+    }
+    value_at(line, at, WIDTH)
 }
 
 // Byte k; past the end 0, which no column holds.
@@ -66,46 +131,6 @@ pub fn byte_at(part: &[u8], k: usize) -> u8
     ensures { λ r. ⌜ r ≡ getD (now (part .entry)) k 0 ⌝ }
 {
     if k < part.len() { part[k] } else { 0 }
-}
-
-// The seven columns that a part starts with.
-pub fn field(part: &[u8]) -> Scan
-    ensures { λ r. ⌜ r ≡ fieldOf (now (part .entry)) ⌝ }
-    ensures numbers { λ r.
-        ⌜ reportedScan r
-        ≡ formReport (inForm (fieldOf (now (part .entry))))
-        (valueIn (fieldOf (now (part .entry))) ∷ []) ⌝ }
-{
-    let mut f = Scan::Blank;
-    let mut k: usize = 0;
-    while k < WIDTH {
-        let c = byte_at(part, k);
-        f = next_column(f, c);
-        k = k + 1;
-    }
-    f
-}
-
-pub fn in_form(f: Scan) -> bool
-    ensures { λ r. ⌜ r ≡ inForm f ⌝ }
-{
-    match f {
-        Scan::Blank => false,
-        Scan::Zero => true,
-        Scan::Number(_) => true,
-        Scan::Bad => false,
-    }
-}
-
-pub fn value_of(f: Scan) -> u32
-    ensures { λ r. ⌜ r ≡ valueIn f ⌝ }
-{
-    match f {
-        Scan::Blank => 0,
-        Scan::Zero => 0,
-        Scan::Number(n) => n,
-        Scan::Bad => 0,
-    }
 }
 
 fn last_digit(n: u32) -> u8

@@ -1,8 +1,10 @@
 // The form of a whole sheet: refusals 41 and 42.
 ghost use mathlib.Core.Path.{_≡_};
-ghost use Rattle.sheet.specs.Lines.{lineCount, firstOutOfForm, firstMisplaced, lineInForm};
+ghost use Rattle.sheet.specs.Kept.{keptTo, linesInForm};
+ghost use Rattle.sheet.specs.Lines.{lineCount, firstOutOfForm, firstMisplaced};
 ghost use Rattle.sheet.specs.Scans.{rightFor};
 use crate::columns::byte_at;
+use crate::kept::keep_line;
 use crate::letters::LETTER_Q;
 use crate::letters::LINE;
 use crate::lines::Reading;
@@ -15,28 +17,27 @@ pub fn line_count(sheet: &[u8]) -> usize
     (sheet.len() + (LINE - 1)) / LINE
 }
 
-fn line_in_form(part: &[u8]) -> bool
-    ensures { λ r. ⌜ r ≡ lineInForm (now (part .entry)) ⌝ }
-{
-    match read_line(part) {
-        Reading::Bad => false,
-        Reading::Form(_) => true,
-    }
-}
-
-// The first line, from 1, that is not in form, or 0.
-pub fn first_out_of_form(sheet: &[u8]) -> usize
+// The first line, from 1, that is not in form, or 0. The numbers of the lines before it are kept.
+pub fn first_out_of_form(sheet: &[u8], kept: &mut [u32]) -> usize
     ensures { λ r. ⌜ r ≡ firstOutOfForm (now (sheet .entry)) ⌝ }
+    ensures { λ _.
+        ⌜ now (kept .exit)
+        ≡ keptTo (now (sheet .entry)) (now (kept .entry)) (linesInForm (now (sheet .entry))) ⌝ }
 {
     let count = line_count(sheet);
     let mut k: usize = 0;
     while k < count {
         let at = LINE * k;
         let part = &sheet[at..];
-        k = k + 1;
-        if !line_in_form(part) {
-            return k;
+        match read_line(part) {
+            Reading::Bad => {
+                return k + 1;
+            }
+            Reading::Form(l) => {
+                keep_line(kept, k, l);
+            }
         }
+        k = k + 1;
     }
     0
 }

@@ -3,6 +3,7 @@
 pub mod columns;
 pub mod events;
 pub mod forms;
+pub mod kept;
 pub mod letters;
 pub mod lines;
 
@@ -11,4 +12,3 @@ pub use events::Ran;
 pub use lines::Line;
 pub use lines::Reading;
 pub use lines::Rule;
-pub use lines::Scan;

@@ -1,16 +1,13 @@
 // A line of a run sheet: a letter, four numbers in seven columns each, a line feed.
 ghost use mathlib.Core.Path.{_≡_};
-ghost use Prim.Native.Nat.{_+_, _*_, _<_};
-ghost use lib.ListN.{getD, drop};
-ghost use Rattle.sheet.specs.Columns.{field as fieldOf};
+ghost use Prim.Native.Nat.{_<_};
+ghost use lib.ListN.{getD};
 ghost use Rattle.sheet.specs.Letters.{letterRules};
 ghost use Rattle.sheet.specs.Lines.{noRule, ruleIndex, lineInForm, lineOf, readLine};
 ghost use Rattle.sheet.specs.Scans.{formReport, lineNumbers, reportedReading};
-ghost use Rattle.sheet.specs.Scans.{inBounds, scanKeeps, scansKeep, scannedLine};
+ghost use Rattle.sheet.specs.Scans.{inBounds, allInBounds};
 use crate::columns::byte_at;
-use crate::columns::field;
-use crate::columns::in_form;
-use crate::columns::value_of;
+use crate::columns::number_at;
 use crate::letters::LETTER_D;
 use crate::letters::LETTER_I;
 use crate::letters::LETTER_Q;
@@ -18,16 +15,7 @@ use crate::letters::LETTER_S;
 use crate::letters::LINE;
 use crate::letters::LINE_FEED;
 use crate::letters::MAX_FIELD;
-use crate::letters::WIDTH;
 use record::levels::both;
-
-// A number of seven columns, as far as it was read: spaces alone, a single 0, a number without leading zero, or out of form.
-pub enum Scan {
-    Blank,
-    Zero,
-    Number(u32),
-    Bad,
-}
 
 // For a letter, which of its four fields are used, and the bounds of each. A field that is not used holds 0.
 pub struct Rule {
@@ -52,6 +40,15 @@ pub enum Reading {
 
 // How many letters a sheet has.
 const LETTERS: usize = 4;
+
+// Where the fields of a line start.
+const FIRST: usize = 1;
+
+const SECOND: usize = 8;
+
+const THIRD: usize = 15;
+
+const FOURTH: usize = 22;
 
 // For each letter, which of its four fields are used, and their bounds: `letterRules` of specs/Letters.antt.
 const RULES: [Rule; 4] = [
@@ -96,12 +93,12 @@ fn rule_index(letter: u8) -> usize
     LETTERS
 }
 
-// Whether n lies between the bounds of a letter's field k: where the field is not used, whether it is 0.
-fn in_bounds(index: usize, k: usize, n: u32) -> bool
-    requires { ⌜ (index < 4) × (k < 4) ⌝ }
-    ensures { λ r. ⌜ r ≡ inBounds (getD letterRules index noRule) k n ⌝ }
+// Whether n lies between the bounds of a letter's field k: where the field is not used, whether it
+// is 0.
+fn in_bounds(rule: Rule, k: usize, n: u32) -> bool
+    requires { ⌜ k < 4 ⌝ }
+    ensures { λ r. ⌜ r ≡ inBounds rule k n ⌝ }
 {
-    let rule = RULES[index];
     if rule.used[k] {
         let low = rule.low[k];
         let high = rule.high[k];
@@ -111,58 +108,66 @@ fn in_bounds(index: usize, k: usize, n: u32) -> bool
     }
 }
 
-fn scan_keeps(index: usize, k: usize, f: Scan) -> bool
-    requires { ⌜ (index < 4) × (k < 4) ⌝ }
-    ensures { λ r. ⌜ r ≡ scanKeeps (getD letterRules index noRule) k f ⌝ }
+// Whether four numbers lie between the bounds of a rule's fields. NO_NUMBER never does.
+fn in_rule(rule: Rule, a: u32, b: u32, c: u32, d: u32) -> bool
+    ensures { λ r. ⌜ r ≡ allInBounds rule a b c d ⌝ }
 {
-    let n = value_of(f);
-    both(in_form(f), in_bounds(index, k, n))
+    if !in_bounds(rule, 0, a) {
+        return false;
+    }
+    if !in_bounds(rule, 1, b) {
+        return false;
+    }
+    if !in_bounds(rule, 2, c) {
+        return false;
+    }
+    in_bounds(rule, 3, d)
 }
 
-// Whether four fields, as read, keep the form of a letter.
-fn fields_keep(index: usize, a: Scan, b: Scan, c: Scan, d: Scan) -> bool
+// The same of the rule at this place of the table. Each rule is named by itself, so that the
+// compiler puts its bounds into the tests; a rule at any place it would copy for each line.
+fn all_in_bounds(index: usize, a: u32, b: u32, c: u32, d: u32) -> bool
     requires { ⌜ index < 4 ⌝ }
-    ensures { λ r. ⌜ r ≡ scansKeep (getD letterRules index noRule) a b c d ⌝ }
+    ensures { λ r. ⌜ r ≡ allInBounds (getD letterRules index noRule) a b c d ⌝ }
 {
-    let ab = both(scan_keeps(index, 0, a), scan_keeps(index, 1, b));
-    both(both(ab, scan_keeps(index, 2, c)), scan_keeps(index, 3, d))
-}
-
-fn scanned_line(letter: u8, a: Scan, b: Scan, c: Scan, d: Scan) -> Line
-    ensures { λ r. ⌜ r ≡ scannedLine letter a b c d ⌝ }
-{
-    Line {
-        letter: letter,
-        first: value_of(a),
-        second: value_of(b),
-        third: value_of(c),
-        fourth: value_of(d),
+    if index == 0 {
+        let rule = RULES[0];
+        return in_rule(rule, a, b, c, d);
     }
-}
-
-// Field k, from 0, of the line that a part starts with.
-fn field_at(part: &[u8], k: usize) -> Scan
-    requires { ⌜ k < 4 ⌝ }
-    ensures { λ r. ⌜ r ≡ fieldOf (drop (1 + 7 * k) (now (part .entry))) ⌝ }
-{
-    let at = 1 + WIDTH * k;
-    if part.len() < at {
-        return Scan::Bad;
+    if index == 1 {
+        let rule = RULES[1];
+        return in_rule(rule, a, b, c, d);
     }
-    let rest = &part[at..];
-    field(rest)
+    if index == 2 {
+        let rule = RULES[2];
+        return in_rule(rule, a, b, c, d);
+    }
+    let rule = RULES[3];
+    in_rule(rule, a, b, c, d)
 }
 
-// The letter and the numbers of the line that a part starts with, in form or not: a field that is not in form gives 0.
+// The letter and the numbers of the line that a part starts with, in form or not: a field that is
+// out of form gives NO_NUMBER, and each field of a short line 0.
 pub fn line_at(part: &[u8]) -> Line
     ensures { λ r. ⌜ r ≡ lineOf (now (part .entry)) ⌝ }
 {
+    if LINE <= part.len() {
+        return Line {
+            letter: part[0],
+            first: number_at(part, FIRST),
+            second: number_at(part, SECOND),
+            third: number_at(part, THIRD),
+            fourth: number_at(part, FOURTH),
+        };
+    }
     let letter = byte_at(part, 0);
-    let a = field_at(part, 0);
-    let b = field_at(part, 1);
-    let c = field_at(part, 2);
-    let d = field_at(part, 3);
-    scanned_line(letter, a, b, c, d)
+    Line {
+        letter: letter,
+        first: 0,
+        second: 0,
+        third: 0,
+        fourth: 0,
+    }
 }
 
 // The line that a part starts with, if it is in form.
@@ -180,15 +185,21 @@ pub fn read_line(part: &[u8]) -> Reading
     if LETTERS <= index {
         return Reading::Bad;
     }
-    let a = field_at(part, 0);
-    let b = field_at(part, 1);
-    let c = field_at(part, 2);
-    let d = field_at(part, 3);
-    if !fields_keep(index, a, b, c, d) {
+    let a = number_at(part, FIRST);
+    let b = number_at(part, SECOND);
+    let c = number_at(part, THIRD);
+    let d = number_at(part, FOURTH);
+    if !all_in_bounds(index, a, b, c, d) {
         return Reading::Bad;
     }
     if part[29] != LINE_FEED {
         return Reading::Bad;
     }
-    Reading::Form(scanned_line(letter, a, b, c, d))
+    Reading::Form(Line {
+        letter: letter,
+        first: a,
+        second: b,
+        third: c,
+        fourth: d,
+    })
 }

@@ -5,6 +5,7 @@ ghost use mathlib.Core.List.{_++_};
 ghost use Prim.Native.Nat.{_≤_};
 ghost use lib.ListN.{length, take, drop};
 ghost use Rattle.checks.specs.Check.{valid as validOf};
+ghost use Rattle.sheet.specs.Kept.{IsKept};
 ghost use Rattle.sheet.specs.Sheets.{history as historyOf, fitted, written};
 use record::Queue;
 use runner::run_lines;
@@ -23,14 +24,15 @@ fn copy_front(from: &[u8], to: &mut [u8], n: usize)
 }
 
 // One run, whose history is written aside, and to the area if it fits.
-fn run_aside(sheet: &[u8], q: Queue, aside: &mut [u8], area: &mut [u8]) -> Ran
+fn run_aside(sheet: &[u8], q: Queue, aside: &mut [u8], area: &mut [u8], kept: &[u32]) -> Ran
     requires { ⌜ (validOf q ≡ true) × (length (now area) ≤ length (now aside)) ⌝ }
+    requires { ⌜ IsKept (now sheet) (now kept) ⌝ }
     ensures { λ r. ⌜ r ≡ fitted (historyOf (now (sheet .entry)) q) (length (now (area .entry))) ⌝ }
     ensures { λ r. ⌜ now (area .exit) ≡ written (historyOf (now (sheet .entry)) q) (now (area .entry)) r ⌝ }
 {
     let room = area.len();
     let part = &mut aside[..room];
-    match run_lines(sheet, q, part, true) {
+    match run_lines(sheet, q, part, true, kept) {
         Ran::Refused(number, line) => Ran::Refused(number, line),
         Ran::Length(bytes) => {
             copy_front(aside, area, bytes);
@@ -40,23 +42,24 @@ fn run_aside(sheet: &[u8], q: Queue, aside: &mut [u8], area: &mut [u8]) -> Ran
 }
 
 // The same with an array of its own, for an area of at most 64 KiB.
-pub(crate) fn run_once(sheet: &[u8], q: Queue, area: &mut [u8]) -> Ran
+pub(crate) fn run_once(sheet: &[u8], q: Queue, area: &mut [u8], kept: &[u32]) -> Ran
     requires { ⌜ (validOf q ≡ true) × (length (now area) ≤ 65536) ⌝ }
+    requires { ⌜ IsKept (now sheet) (now kept) ⌝ }
     ensures { λ r. ⌜ r ≡ fitted (historyOf (now (sheet .entry)) q) (length (now (area .entry))) ⌝ }
     ensures { λ r. ⌜ now (area .exit) ≡ written (historyOf (now (sheet .entry)) q) (now (area .entry)) r ⌝ }
 {
     let mut aside = [0; 65536];
-    run_aside(sheet, q, &mut aside, area)
+    run_aside(sheet, q, &mut aside, area, kept)
 }
 
 // Two runs: the first counts the history, the second writes it.
-pub(crate) fn run_twice(sheet: &[u8], q: Queue, area: &mut [u8]) -> Ran
-    requires { ⌜ validOf q ≡ true ⌝ }
+pub(crate) fn run_twice(sheet: &[u8], q: Queue, area: &mut [u8], kept: &[u32]) -> Ran
+    requires { ⌜ (validOf q ≡ true) × IsKept (now sheet) (now kept) ⌝ }
     ensures { λ r. ⌜ r ≡ fitted (historyOf (now (sheet .entry)) q) (length (now (area .entry))) ⌝ }
     ensures { λ r. ⌜ now (area .exit) ≡ written (historyOf (now (sheet .entry)) q) (now (area .entry)) r ⌝ }
 {
-    match run_lines(sheet, q, area, false) {
+    match run_lines(sheet, q, area, false, kept) {
         Ran::Refused(number, line) => Ran::Refused(number, line),
-        Ran::Length(_) => run_lines(sheet, q, area, true),
+        Ran::Length(_) => run_lines(sheet, q, area, true, kept),
     }
 }

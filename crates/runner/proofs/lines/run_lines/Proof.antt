@@ -29,7 +29,8 @@ use Rattle.rules.specs.declared.decisions.Decision.{Decision}
 use Rattle.rules.specs.Effects.{accepted}
 use Rattle.choosing.proofs.Bounds.{nodes-long, callers-long, entries-high, processor-low, place-low, own-low, next-low}
 use Rattle.queue.proofs.Steps.{stored, decided, changes}
-use Rattle.sheet.specs.Lines.{lineOf, partAt, lineCount}
+use Rattle.sheet.specs.Kept.{keptLine}
+use Rattle.sheet.specs.Lines.{lineCount}
 use Rattle.sheet.specs.Scans.{roomAt}
 use Rattle.sheet.specs.Sheets.{history}
 use Rattle.sheet.proofs.Parts.{tail-part, line-start, part-next}
@@ -43,35 +44,35 @@ use Rattle.runner.proofs.lines.run_lines.Statement.{statement}
 use Rattle.runner.proofs.lines.run_lines.Tie as tie
 
 abbrev Inv-loop2 : tie.InvT-loop2
-Inv-loop2 sheet area₀ writing q₀ count at₀ k from l o early x left₀ area q at left =
+Inv-loop2 sheet area₀ writing kept q₀ count at₀ k from l o early x left₀ area q at left =
     (s₀ : Queue) (b₀ : List ℕ) → Within sheet s₀ k l x left₀ q₀ b₀ area₀ at₀ writing → Within sheet s₀ k l x left q b₀ area at writing
 
 abbrev μ-loop2 : tie.MeasureT-loop2
-μ-loop2 sheet area₀ writing q₀ count at₀ k from l o early x left₀ area q at left = left
+μ-loop2 sheet area₀ writing kept q₀ count at₀ k from l o early x left₀ area q at left = left
 
 abbrev Inv-loop : tie.InvT-loop
-Inv-loop sheet area₀ writing q₀ count at₀ k₀ area q at k = Between sheet q₀ k q area₀ area at writing × (1 ≤ k) × (k - 1 ≤ count - 1)
+Inv-loop sheet area₀ writing kept q₀ count at₀ k₀ area q at k = Between sheet q₀ k q area₀ area at writing × (1 ≤ k) × (k - 1 ≤ count - 1)
 
 abbrev μ-loop : tie.MeasureT-loop
-μ-loop sheet area₀ writing q₀ count at₀ k₀ area q at k = count - k
+μ-loop sheet area₀ writing kept q₀ count at₀ k₀ area q at k = count - k
 
 -- the line starts within the sheet
-starts : (c : tie.In-loop Inv-loop2 μ-loop2 Inv-loop μ-loop) → 30 * c .before .loop .k < length (c .before .before .before .before .before .args .sheet .now)
+starts : (c : tie.In-loop Inv-loop2 μ-loop2 Inv-loop μ-loop) → 30 * c .before .loop .k < length (c .before .before .before .before .before .before .args .sheet .now)
 starts c =
-    let s = c .before .before .before .before .before .args .sheet .now in
+    let s = c .before .before .before .before .before .before .args .sheet .now in
     let e : c .before .before .line-count .result ≡ lineCount s = c .before .before .line-count .ensures in
     line-start s (c .before .loop .k) (omega (arith, e, c .loop-test .taken))
 
 first-slot : (c : tie.After-slot-of Inv-loop2 μ-loop2 Inv-loop μ-loop) → c .slot-of .result < maxProcessors
 first-slot c =
     let q = c .before .before .before .before .loop .q in
-    rw (c .slot-of .ensures) (slot-low q (c .before .line-at .result .first) (c .before .before .before .before .loop .inv .0 .kept .passes))
+    rw (c .slot-of .ensures) (slot-low q (c .before .kept-line .result .first) (c .before .before .before .before .loop .inv .0 .kept .passes))
 
 -- the refusal before a node is looked for
-first-refusal : (c : tie.After-call-refusal Inv-loop2 μ-loop2 Inv-loop μ-loop) → c .call-refusal .result ≡ early (c .before .before .before .before .line-at .result) (c .before .before .before .before .before .before .before .loop .q)
+first-refusal : (c : tie.After-call-refusal Inv-loop2 μ-loop2 Inv-loop μ-loop) → c .call-refusal .result ≡ early (c .before .before .before .before .kept-line .result) (c .before .before .before .before .before .before .before .loop .q)
 first-refusal c =
     let q = c .before .before .before .before .before .before .before .loop .q in
-    let l = c .before .before .before .before .line-at .result in
+    let l = c .before .before .before .before .kept-line .result in
     let low = first-slot (c .before .before .before) in
     let read = processor-read q (c .before .before .before .slot-of .result) (c .before .before .before .before .before .before .before .loop .inv .0 .kept .callers) low in
     c .call-refusal .ensures
@@ -79,10 +80,10 @@ first-refusal c =
     (c .before .is-idle .ensures ∙ ap (λ (b : Processor). isIdle (b .stage)) read ∙ ap (λ (p : ℕ). isIdle (processorAt q p .stage)) (c .before .before .before .slot-of .ensures))
 
 -- the node that an Insert takes
-node-is : (c : tie.Joined1 Inv-loop2 μ-loop2 Inv-loop μ-loop) → c .if1 .x ≡ nodeFor (c .before .before .before .before .before .before .line-at .result) (c .before .before .before .before .before .before .before .before .before .loop .q)
+node-is : (c : tie.Joined1 Inv-loop2 μ-loop2 Inv-loop μ-loop) → c .if1 .x ≡ nodeFor (c .before .before .before .before .before .before .kept-line .result) (c .before .before .before .before .before .before .before .before .before .loop .q)
 node-is c =
     let q = c .before .before .before .before .before .before .before .before .before .loop .q in
-    let l = c .before .before .before .before .before .before .line-at .result in
+    let l = c .before .before .before .before .before .before .kept-line .result in
     let asks : asksNode (l .letter) (early l q) ≡ c .before .asks-node .result = sym (c .before .asks-node .ensures ∙ ap (asksNode (l .letter)) (first-refusal (c .before .before))) in
     ⊎-elim
     (λ w. w .2 ∙ w .1 .ensures ∙ sym (ap (λ (b : Bool). cond b (chosen q) 0) (asks ∙ w .0 .taken)))
@@ -92,48 +93,52 @@ node-is c =
 -- before the calls of a line
 entry :
     (c : tie.After-calls-of Inv-loop2 μ-loop2 Inv-loop μ-loop) →
-    Within (c .before .before .before .before .before .before .before .before .before .before .before .before .before .before .args .sheet .now)
-    (c .before .before .before .before .before .before .before .before .before .before .before .before .before .before .args .t2)
+    Within (c .before .before .before .before .before .before .before .before .before .before .before .before .before .before .before .args .sheet .now)
+    (c .before .before .before .before .before .before .before .before .before .before .before .before .before .before .before .args .t2)
     (c .before .before .before .before .before .before .before .before .before .before .loop .k + 1)
-    (c .before .before .before .before .before .before .before .line-at .result)
+    (c .before .before .before .before .before .before .before .kept-line .result)
     (c .before .if1 .x)
     (c .calls-of .result)
     (c .before .before .before .before .before .before .before .before .before .before .loop .q)
-    (c .before .before .before .before .before .before .before .before .before .before .before .before .before .before .args .area .now)
+    (c .before .before .before .before .before .before .before .before .before .before .before .before .before .before .before .args .area .now)
     (c .before .before .before .before .before .before .before .before .before .before .loop .area)
     (c .before .before .before .before .before .before .before .before .before .before .loop .at)
-    (c .before .before .before .before .before .before .before .before .before .before .before .before .before .before .args .writing)
+    (c .before .before .before .before .before .before .before .before .before .before .before .before .before .before .before .args .writing)
 entry c =
     let o = c .before .before .before .before .before .before .before .before .before .before in
-    let a = o .before .before .before .before .args in
+    let a = o .before .before .before .before .before .args in
     let s = a .sheet .now in
     let k = o .loop .k in
-    begins s (a .t2) k (c .before .before .before .before .before .before .before .line-at .result) (c .before .if1 .x) (a .area .now) (a .writing)
+    let e : o .before .line-count .result ≡ lineCount s = o .before .line-count .ensures in
+    let counted : k < lineCount s = omega (arith, e, c .before .before .before .before .before .before .before .before .before .loop-test .taken) in
+    begins s (a .t2) k (c .before .before .before .before .before .before .before .kept-line .result) (c .before .if1 .x) (a .area .now) (a .writing)
     (o .loop .q) (o .loop .area) (o .loop .at) (c .calls-of .result) (o .loop .inv .1) (o .loop .inv .0)
-    (c .before .before .before .before .before .before .before .line-at .ensures ∙ ap lineOf (tail-part s (30 * k) ∙ part-next s k))
+    (c .before .before .before .before .before .before .before .kept-line .ensures
+    ∙ ap (λ (x : List ℕ). keptLine x (a .kept .now) k) (tail-part s (30 * k) ∙ part-next s k)
+    ∙ o .before .before .before .before .before .pre .1 k counted)
     (node-is (c .before))
     (c .calls-of .ensures)
 
 -- before a call
 held :
     (c : tie.In-loop2 Inv-loop2 μ-loop2 Inv-loop μ-loop) →
-    Within (c .before .before .before .before .before .before .before .before .before .before .before .before .before .before .before .before .args .sheet .now)
-    (c .before .before .before .before .before .before .before .before .before .before .before .before .before .before .before .before .args .t2)
+    Within (c .before .before .before .before .before .before .before .before .before .before .before .before .before .before .before .before .before .args .sheet .now)
+    (c .before .before .before .before .before .before .before .before .before .before .before .before .before .before .before .before .before .args .t2)
     (c .before .before .before .before .before .before .before .before .before .before .before .before .loop .k + 1)
-    (c .before .before .before .before .before .before .before .before .before .line-at .result)
+    (c .before .before .before .before .before .before .before .before .before .kept-line .result)
     (c .before .before .before .if1 .x)
     (c .before .loop2 .left)
     (c .before .loop2 .q)
-    (c .before .before .before .before .before .before .before .before .before .before .before .before .before .before .before .before .args .area .now)
+    (c .before .before .before .before .before .before .before .before .before .before .before .before .before .before .before .before .before .args .area .now)
     (c .before .loop2 .area)
     (c .before .loop2 .at)
-    (c .before .before .before .before .before .before .before .before .before .before .before .before .before .before .before .before .args .writing)
+    (c .before .before .before .before .before .before .before .before .before .before .before .before .before .before .before .before .before .args .writing)
 held c = c .before .loop2 .inv _ _ (entry (c .before .before))
 
 slot : (c : tie.After-slot-of2 Inv-loop2 μ-loop2 Inv-loop μ-loop) → c .slot-of2 .result < maxProcessors
 slot c =
     let q = c .before .before .loop2 .q in
-    rw (c .slot-of2 .ensures) (slot-low q (c .before .before .before .before .before .before .before .before .before .before .line-at .result .first) (held (c .before) .kept .passes))
+    rw (c .slot-of2 .ensures) (slot-low q (c .before .before .before .before .before .before .before .before .before .before .kept-line .result .first) (held (c .before) .kept .passes))
 
 caller : (c : tie.After-slot-of2 Inv-loop2 μ-loop2 Inv-loop μ-loop) → getD (c .before .before .loop2 .q .callers) (c .slot-of2 .result) noProcessor ≡ processorAt (c .before .before .loop2 .q) (c .slot-of2 .result)
 caller c = processor-read (c .before .before .loop2 .q) (c .slot-of2 .result) (held (c .before) .kept .callers) (slot c)
@@ -141,10 +146,10 @@ caller c = processor-read (c .before .before .loop2 .q) (c .slot-of2 .result) (h
 -- the call's refusal
 refusal-is :
     (c : tie.After-with-node Inv-loop2 μ-loop2 Inv-loop μ-loop) →
-    c .with-node .result ≡ refusalOn (c .before .before .before .before .before .before .before .before .before .before .before .before .before .before .line-at .result) (c .before .before .before .before .before .before .loop2 .q) (c .before .before .before .before .before .before .before .before .if1 .x)
+    c .with-node .result ≡ refusalOn (c .before .before .before .before .before .before .before .before .before .before .before .before .before .before .kept-line .result) (c .before .before .before .before .before .before .loop2 .q) (c .before .before .before .before .before .before .before .before .if1 .x)
 refusal-is c =
     let q = c .before .before .before .before .before .before .loop2 .q in
-    let l = c .before .before .before .before .before .before .before .before .before .before .before .before .before .before .line-at .result in
+    let l = c .before .before .before .before .before .before .before .before .before .before .before .before .before .before .kept-line .result in
     let x = c .before .before .before .before .before .before .before .before .if1 .x in
     c .with-node .ensures
     ∙ ap (withNode (l .letter) x)
@@ -159,20 +164,20 @@ some c = c .loop2-test .taken
 last-line :
     (c : tie.In-loop2 Inv-loop2 μ-loop2 Inv-loop μ-loop) →
     c .before .before .before .before .before .before .before .before .before .before .before .before .loop .k + 1 - 1
-    ≤ lineCount (c .before .before .before .before .before .before .before .before .before .before .before .before .before .before .before .before .args .sheet .now) - 1
+    ≤ lineCount (c .before .before .before .before .before .before .before .before .before .before .before .before .before .before .before .before .before .args .sheet .now) - 1
 last-line c =
     let o = c .before .before .before .before .before .before .before .before .before .before .before in
-    let e : o .before .before .line-count .result ≡ lineCount (o .before .before .before .before .before .args .sheet .now) = o .before .before .line-count .ensures in
+    let e : o .before .before .line-count .result ≡ lineCount (o .before .before .before .before .before .before .args .sheet .now) = o .before .before .line-count .ensures in
     omega (arith, e, o .loop-test .taken, o .before .loop .inv .1)
 
 -- a refused call: the area after its line, and whether there is room
 refused-room : (c : tie.After-append-event Inv-loop2 μ-loop2 Inv-loop μ-loop) → c .append-event .result ≡ roomAt (c .before .before .before .before .before .before .before .before .before .before .loop2 .area) (c .before .before .before .before .before .before .before .before .before .before .loop2 .at)
 refused-room c = c .append-event .ensures .0
 
-refused-area : (c : tie.After-append-event Inv-loop2 μ-loop2 Inv-loop μ-loop) → length (c .append-event .last .0) ≡ length (c .before .before .before .before .before .before .before .before .before .before .before .before .before .before .before .before .before .before .before .before .before .before .before .before .before .args .area .now)
+refused-area : (c : tie.After-append-event Inv-loop2 μ-loop2 Inv-loop μ-loop) → length (c .append-event .last .0) ≡ length (c .before .before .before .before .before .before .before .before .before .before .before .before .before .before .before .before .before .before .before .before .before .before .before .before .before .before .args .area .now)
 refused-area c =
     let b = c .before .before .before .before .before .before .before .before .before .before in
-    event-area (b .loop2 .area) (c .append-event .last .0) (b .loop2 .at) (c .before .before .event-of .result) (c .before .before .before .before .before .before .before .before .before .before .before .before .before .before .before .before .before .before .before .before .before .before .before .before .before .args .writing) (c .append-event .ensures .1)
+    event-area (b .loop2 .area) (c .append-event .last .0) (b .loop2 .at) (c .before .before .event-of .result) (c .before .before .before .before .before .before .before .before .before .before .before .before .before .before .before .before .before .before .before .before .before .before .before .before .before .before .args .writing) (c .append-event .ensures .1)
     ∙ same-area _ _ (b .loop2 .at) _ _ (held (c .before .before .before .before .before .before .before .before .before) .written)
 
 area-fits : (s : tie.Start Inv-loop2 μ-loop2 Inv-loop μ-loop) → length (s .args .area .now) < 18446744073709551616
@@ -183,26 +188,26 @@ room-fits : (c : tie.In-loop2 Inv-loop2 μ-loop2 Inv-loop μ-loop) → roomAt (c
 room-fits c room =
     let h = leb-true (c .before .loop2 .at + 37) (length (c .before .loop2 .area)) room in
     let n = same-area _ _ (c .before .loop2 .at) _ _ (held c .written) in
-    let f = area-fits (c .before .before .before .before .before .before .before .before .before .before .before .before .before .before .before .before) in
+    let f = area-fits (c .before .before .before .before .before .before .before .before .before .before .before .before .before .before .before .before .before) in
     omega (arith, h, n, f)
 
 -- an accepted call: its line, its record, its node and its processor
-known : (c : tie.In-loop2 Inv-loop2 μ-loop2 Inv-loop μ-loop) → c .before .before .before .if1 .x ≡ nodeFor (c .before .before .before .before .before .before .before .before .before .line-at .result) (c .before .loop2 .q)
+known : (c : tie.In-loop2 Inv-loop2 μ-loop2 Inv-loop μ-loop) → c .before .before .before .if1 .x ≡ nodeFor (c .before .before .before .before .before .before .before .before .before .kept-line .result) (c .before .loop2 .q)
 known c = held c .node (some c)
 
-zero : (c : tie.Else2 Inv-loop2 μ-loop2 Inv-loop μ-loop) → refusalOn (c .before .before .before .before .before .before .before .before .before .before .before .before .before .before .before .line-at .result) (c .before .before .before .before .before .before .before .loop2 .q) (c .before .before .before .before .before .before .before .before .before .if1 .x) ≡ 0
+zero : (c : tie.Else2 Inv-loop2 μ-loop2 Inv-loop μ-loop) → refusalOn (c .before .before .before .before .before .before .before .before .before .before .before .before .before .before .before .kept-line .result) (c .before .before .before .before .before .before .before .loop2 .q) (c .before .before .before .before .before .before .before .before .before .if1 .x) ≡ 0
 zero c =
     let z : c .before .with-node .result ≡ 0 = omega (arith, c .if2 .left) in
     sym (refusal-is (c .before)) ∙ z
 
-slot-is : (c : tie.Else2 Inv-loop2 μ-loop2 Inv-loop μ-loop) → c .before .before .before .before .before .slot-of2 .result ≡ c .before .before .before .before .before .before .before .before .before .before .before .before .before .before .before .line-at .result .first
-slot-is c = c .before .before .before .before .before .slot-of2 .ensures ∙ caller-slot (c .before .before .before .before .before .before .before .before .before .before .before .before .before .before .before .line-at .result) (c .before .before .before .before .before .before .before .loop2 .q) (c .before .before .before .before .before .before .before .before .before .if1 .x) (known (c .before .before .before .before .before .before)) (zero c)
+slot-is : (c : tie.Else2 Inv-loop2 μ-loop2 Inv-loop μ-loop) → c .before .before .before .before .before .slot-of2 .result ≡ c .before .before .before .before .before .before .before .before .before .before .before .before .before .before .before .kept-line .result .first
+slot-is c = c .before .before .before .before .before .slot-of2 .ensures ∙ caller-slot (c .before .before .before .before .before .before .before .before .before .before .before .before .before .before .before .kept-line .result) (c .before .before .before .before .before .before .before .loop2 .q) (c .before .before .before .before .before .before .before .before .before .if1 .x) (known (c .before .before .before .before .before .before)) (zero c)
 
 slot-known : (c : tie.Else2 Inv-loop2 μ-loop2 Inv-loop μ-loop) → c .before .before .before .before .before .slot-of2 .result < c .before .before .before .before .before .before .before .loop2 .q .processors
-slot-known c = rw (slot-is c) (caller-low (c .before .before .before .before .before .before .before .before .before .before .before .before .before .before .before .line-at .result) (c .before .before .before .before .before .before .before .loop2 .q) (c .before .before .before .before .before .before .before .before .before .if1 .x) (known (c .before .before .before .before .before .before)) (zero c))
+slot-known c = rw (slot-is c) (caller-low (c .before .before .before .before .before .before .before .before .before .before .before .before .before .before .before .kept-line .result) (c .before .before .before .before .before .before .before .loop2 .q) (c .before .before .before .before .before .before .before .before .before .if1 .x) (known (c .before .before .before .before .before .before)) (zero c))
 
 clock-known : (c : tie.Else2 Inv-loop2 μ-loop2 Inv-loop μ-loop) → c .before .before .before .before .before .before .before .loop2 .q .clock < 999999
-clock-known c = clock-low (c .before .before .before .before .before .before .before .before .before .before .before .before .before .before .before .line-at .result) (c .before .before .before .before .before .before .before .loop2 .q) (c .before .before .before .before .before .before .before .before .before .if1 .x) (known (c .before .before .before .before .before .before)) (zero c)
+clock-known c = clock-low (c .before .before .before .before .before .before .before .before .before .before .before .before .before .before .before .kept-line .result) (c .before .before .before .before .before .before .before .loop2 .q) (c .before .before .before .before .before .before .before .before .before .if1 .x) (known (c .before .before .before .before .before .before)) (zero c)
 
 -- what it reads
 place-is : (c : tie.After-reading-place Inv-loop2 μ-loop2 Inv-loop μ-loop) → c .reading-place .result ≡ readingPlace (processorAt (c .before .before .before .before .before .before .before .before .loop2 .q) (c .before .before .before .before .before .before .slot-of2 .result) .stage)
@@ -227,10 +232,10 @@ own-in : (c : tie.Else2 Inv-loop2 μ-loop2 Inv-loop μ-loop) → getD (c .before
 own-in c = rw (caller (c .before .before .before .before .before)) (own-low (c .before .before .before .before .before .before .before .loop2 .q) (c .before .before .before .before .before .slot-of2 .result) (held (c .before .before .before .before .before .before) .kept .passes) (slot-known c))
 
 -- what it decides
-decision-is : (c : tie.After-decision Inv-loop2 μ-loop2 Inv-loop μ-loop) → c .decision .result ≡ callDecision (c .before .before .before .before .before .before .before .before .before .before .before .before .before .before .before .before .before .before .before .before .before .before .before .before .line-at .result) (c .before .before .before .before .before .before .before .before .before .before .before .before .before .before .before .before .loop2 .q)
+decision-is : (c : tie.After-decision Inv-loop2 μ-loop2 Inv-loop μ-loop) → c .decision .result ≡ callDecision (c .before .before .before .before .before .before .before .before .before .before .before .before .before .before .before .before .before .before .before .before .before .before .before .before .kept-line .result) (c .before .before .before .before .before .before .before .before .before .before .before .before .before .before .before .before .loop2 .q)
 decision-is c =
     let q = c .before .before .before .before .before .before .before .before .before .before .before .before .before .before .before .before .loop2 .q in
-    let l = c .before .before .before .before .before .before .before .before .before .before .before .before .before .before .before .before .before .before .before .before .before .before .before .before .line-at .result in
+    let l = c .before .before .before .before .before .before .before .before .before .before .before .before .before .before .before .before .before .before .before .before .before .before .before .before .kept-line .result in
     let p = c .before .before .before .before .before .before .before .before .before .before .before .before .before .before .slot-of2 .result in
     let kept = held (c .before .before .before .before .before .before .before .before .before .before .before .before .before .before .before) .kept in
     let step =
@@ -244,17 +249,17 @@ decision-is c =
 
 node-in : (c : tie.After-node-of Inv-loop2 μ-loop2 Inv-loop μ-loop) → c .node-of .result < nodeSlots
 node-in c =
-    call-changes (c .before .before .before .before .before .before .before .before .before .before .before .before .before .before .before .before .before .before .before .before .before .before .before .before .before .line-at .result) (c .before .before .before .before .before .before .before .before .before .before .before .before .before .before .before .before .before .loop2 .q) (c .before .before .before .before .before .before .before .before .before .before .before .before .before .before .before .before .before .before .before .if1 .x) (known (c .before .before .before .before .before .before .before .before .before .before .before .before .before .before .before .before)) (held (c .before .before .before .before .before .before .before .before .before .before .before .before .before .before .before .before) .kept .passes) (zero (c .before .before .before .before .before .before .before .before .before .before))
+    call-changes (c .before .before .before .before .before .before .before .before .before .before .before .before .before .before .before .before .before .before .before .before .before .before .before .before .before .kept-line .result) (c .before .before .before .before .before .before .before .before .before .before .before .before .before .before .before .before .before .loop2 .q) (c .before .before .before .before .before .before .before .before .before .before .before .before .before .before .before .before .before .before .before .if1 .x) (known (c .before .before .before .before .before .before .before .before .before .before .before .before .before .before .before .before)) (held (c .before .before .before .before .before .before .before .before .before .before .before .before .before .before .before .before) .kept .passes) (zero (c .before .before .before .before .before .before .before .before .before .before))
     (c .before .decision .result) (c .node-of .result) (decision-is (c .before)) (c .node-of .ensures)
 
 -- what it changes
 outcome :
     (c : tie.After-processor-after Inv-loop2 μ-loop2 Inv-loop μ-loop) →
     stored (c .before .before .before .before .before .before .before .before .before .before .before .before .before .before .before .before .before .before .before .before .loop2 .q) (c .before .before .before .before .before .before .before .before .before .before .before .before .before .before .before .before .before .before .slot-of2 .result) (c .before .before .before .before .before .before .before .before .before .before .before .before .before .before .before .before .before .before .before .before .loop2 .q .clock + 1) (c .before .before .before .node-of .result) (c .before .changed .result) (c .processor-after .result) (c .before .before .before .before .decision .result)
-    ≡ callOn (c .before .before .before .before .before .before .before .before .before .before .before .before .before .before .before .before .before .before .before .before .before .before .before .before .before .before .before .before .line-at .result) (c .before .before .before .before .before .before .before .before .before .before .before .before .before .before .before .before .before .before .before .before .loop2 .q)
+    ≡ callOn (c .before .before .before .before .before .before .before .before .before .before .before .before .before .before .before .before .before .before .before .before .before .before .before .before .before .before .before .before .kept-line .result) (c .before .before .before .before .before .before .before .before .before .before .before .before .before .before .before .before .before .before .before .before .loop2 .q)
 outcome c =
     let q = c .before .before .before .before .before .before .before .before .before .before .before .before .before .before .before .before .before .before .before .before .loop2 .q in
-    let l = c .before .before .before .before .before .before .before .before .before .before .before .before .before .before .before .before .before .before .before .before .before .before .before .before .before .before .before .before .line-at .result in
+    let l = c .before .before .before .before .before .before .before .before .before .before .before .before .before .before .before .before .before .before .before .before .before .before .before .before .before .before .before .before .kept-line .result in
     let p = c .before .before .before .before .before .before .before .before .before .before .before .before .before .before .before .before .before .before .slot-of2 .result in
     changes q p _ (callDecision l q) _ _ _ _ _ (decision-is (c .before .before .before .before)) (caller (c .before .before .before .before .before .before .before .before .before .before .before .before .before .before .before .before .before .before)) (c .before .before .before .node-of .ensures)
     (node-read q (c .before .before .before .node-of .result) (held (c .before .before .before .before .before .before .before .before .before .before .before .before .before .before .before .before .before .before .before) .kept .nodes) (node-in (c .before .before .before)))
@@ -272,10 +277,10 @@ callers-after c = length-set (c .before .before .before .before .before .before 
 printed-room : (c : tie.After-append-event2 Inv-loop2 μ-loop2 Inv-loop μ-loop) → c .append-event2 .result ≡ roomAt (c .before .before .before .before .before .before .before .before .before .before .before .before .before .before .before .before .before .before .before .before .before .before .before .before .before .loop2 .area) (c .before .before .before .before .before .before .before .before .before .before .before .before .before .before .before .before .before .before .before .before .before .before .before .before .before .loop2 .at)
 printed-room c = c .append-event2 .ensures .0
 
-printed-area : (c : tie.After-append-event2 Inv-loop2 μ-loop2 Inv-loop μ-loop) → length (c .append-event2 .last .0) ≡ length (c .before .before .before .before .before .before .before .before .before .before .before .before .before .before .before .before .before .before .before .before .before .before .before .before .before .before .before .before .before .before .before .before .before .before .before .before .before .before .before .before .args .area .now)
+printed-area : (c : tie.After-append-event2 Inv-loop2 μ-loop2 Inv-loop μ-loop) → length (c .append-event2 .last .0) ≡ length (c .before .before .before .before .before .before .before .before .before .before .before .before .before .before .before .before .before .before .before .before .before .before .before .before .before .before .before .before .before .before .before .before .before .before .before .before .before .before .before .before .before .args .area .now)
 printed-area c =
     let b = c .before .before .before .before .before .before .before .before .before .before .before .before .before .before .before .before .before .before .before .before .before .before .before .before .before in
-    event-area (b .loop2 .area) (c .append-event2 .last .0) (b .loop2 .at) (c .before .before .event-of2 .result) (c .before .before .before .before .before .before .before .before .before .before .before .before .before .before .before .before .before .before .before .before .before .before .before .before .before .before .before .before .before .before .before .before .before .before .before .before .before .before .before .before .args .writing) (c .append-event2 .ensures .1)
+    event-area (b .loop2 .area) (c .append-event2 .last .0) (b .loop2 .at) (c .before .before .event-of2 .result) (c .before .before .before .before .before .before .before .before .before .before .before .before .before .before .before .before .before .before .before .before .before .before .before .before .before .before .before .before .before .before .before .before .before .before .before .before .before .before .before .before .before .args .writing) (c .append-event2 .ensures .1)
     ∙ same-area _ _ (b .loop2 .at) _ _ (held (c .before .before .before .before .before .before .before .before .before .before .before .before .before .before .before .before .before .before .before .before .before .before .before .before) .written)
 
 line-count-requires : tie.Need-line-count-requires Inv-loop2 μ-loop2 Inv-loop μ-loop
@@ -283,10 +288,10 @@ line-count-requires c κs = search needs
 
 loop-holds : tie.Need-loop-holds Inv-loop2 μ-loop2 Inv-loop μ-loop
 loop-holds c =
-    let s = c .before .before .before in
+    let s = c .before .before .before .before in
     let n = nodes-long (s .args .t2) (s .good .1 .0 .1 .1 .1 .1 .1 .1 .0 .1 .0 .1) in
     let m = callers-long (s .args .t2) (s .good .1 .0 .1 .1 .1 .1 .1 .1 .1 .0 .1 .0 .1) in
-    (at-first (s .args .sheet .now) (s .args .t2) (s .args .area .now) (s .args .writing) (record { passes = s .pre; nodes = n; callers = m }), omega arith, omega arith)
+    (at-first (s .args .sheet .now) (s .args .t2) (s .args .area .now) (s .args .writing) (record { passes = s .pre .0; nodes = n; callers = m }), omega arith, omega arith)
 
 mul-from : tie.Need-mul-from Inv-loop2 μ-loop2 Inv-loop μ-loop
 mul-from c = omega (arith, starts c)
@@ -300,8 +305,8 @@ part-part-start c = omega (arith, starts c)
 part-part-end : tie.Need-part-part-end Inv-loop2 μ-loop2 Inv-loop μ-loop
 part-part-end c = search needs
 
-line-at-requires : tie.Need-line-at-requires Inv-loop2 μ-loop2 Inv-loop μ-loop
-line-at-requires c κs = search needs
+kept-line-requires : tie.Need-kept-line-requires Inv-loop2 μ-loop2 Inv-loop μ-loop
+kept-line-requires c κs = search needs
 
 add-k : tie.Need-add-k Inv-loop2 μ-loop2 Inv-loop μ-loop
 add-k c = search needs
@@ -341,10 +346,10 @@ loop-less c =
 loop-again : tie.Need-loop-again Inv-loop2 μ-loop2 Inv-loop μ-loop
 loop-again c =
     let o = c .before .before .before .before .before .before .before .before .before .before .before .before in
-    let a = o .before .before .before .before .args in
+    let a = o .before .before .before .before .before .args in
     let z : c .before .loop2 .left ≡ 0 = omega (arith, c .loop2-test .left) in
     let i = c .before .loop2 .inv _ _ (entry (c .before .before)) in (
-      ends (a .sheet .now) (a .t2) (o .loop .k + 1) (c .before .before .before .before .before .before .before .before .before .line-at .result) (c .before .before .before .if1 .x) (a .area .now) (a .writing) (c .before .loop2 .q) (c .before .loop2 .area) (c .before .loop2 .at) (c .before .loop2 .left) z i,
+      ends (a .sheet .now) (a .t2) (o .loop .k + 1) (c .before .before .before .before .before .before .before .before .before .kept-line .result) (c .before .before .before .if1 .x) (a .area .now) (a .writing) (c .before .loop2 .q) (c .before .loop2 .area) (c .before .loop2 .at) (c .before .loop2 .left) z i,
       omega (arith, o .loop .inv .1),
       omega (arith, c .before .before .before .before .before .before .before .before .before .before .before .loop-test .taken, o .loop .inv .1),
     )
@@ -380,10 +385,10 @@ returns : tie.Need-returns Inv-loop2 μ-loop2 Inv-loop μ-loop
 returns c =
     let b = c .before .before .before .before .before .before .before .before .before .before .before .before in
     let o = b .before .before .before .before .before .before .before .before .before .before .before .before in
-    let a = o .before .before .before .before .args in
+    let a = o .before .before .before .before .before .args in
     let room = sym (refused-room (c .before .before .before)) ∙ not-true _ (c .if3 .taken) in
     let long =
-    refused-long (a .sheet .now) (a .t2) (o .loop .k + 1) (b .before .before .before .before .before .before .before .before .before .line-at .result) (b .before .before .before .if1 .x) (a .area .now) (a .writing)
+    refused-long (a .sheet .now) (a .t2) (o .loop .k + 1) (b .before .before .before .before .before .before .before .before .before .kept-line .result) (b .before .before .before .if1 .x) (a .area .now) (a .writing)
     (b .before .loop2 .q) (b .before .loop2 .area) (b .before .loop2 .at) (b .before .loop2 .left) (held b) (some b)
     (c .before .before .before .before .before .before .before .with-node .result) (c .before .before .before .before .before .event-of .result) (refusal-is (c .before .before .before .before .before .before .before)) (c .before .before .before .before .before .before .if2 .taken) room (last-line b) in (
       refuses-long (history (a .sheet .now) (a .t2)) (length (a .area .now)) (long .over),
@@ -403,10 +408,10 @@ loop2-again : tie.Need-loop2-again Inv-loop2 μ-loop2 Inv-loop μ-loop
 loop2-again c =
     let b = c .before .before .before .before .before .before .before .before .before .before .before .before in
     let o = b .before .before .before .before .before .before .before .before .before .before .before .before in
-    let a = o .before .before .before .before .args in
+    let a = o .before .before .before .before .before .args in
     let room = sym (refused-room (c .before .before .before)) ∙ not-false _ (c .if3 .left) in
     λ s₀ b₀ e.
-    call-refuses (a .sheet .now) s₀ (o .loop .k + 1) (b .before .before .before .before .before .before .before .before .before .line-at .result) (b .before .before .before .if1 .x) b₀ (a .writing)
+    call-refuses (a .sheet .now) s₀ (o .loop .k + 1) (b .before .before .before .before .before .before .before .before .before .kept-line .result) (b .before .before .before .if1 .x) b₀ (a .writing)
     (b .before .loop2 .q) (b .before .loop2 .area) (b .before .loop2 .at) (b .before .loop2 .left) (b .before .loop2 .inv s₀ b₀ e) (some b)
     (c .before .before .before .before .before .before .before .with-node .result) (c .before .before .before .before .before .event-of .result) _ (refusal-is (c .before .before .before .before .before .before .before)) (c .before .before .before .before .before .before .if2 .taken) (c .before .before .before .before .before .event-of .ensures) room (c .before .before .before .append-event .ensures .1)
 
@@ -464,7 +469,7 @@ sight-from-requires : tie.Need-sight-from-requires Inv-loop2 μ-loop2 Inv-loop �
 sight-from-requires c κs = search needs
 
 decision-requires : tie.Need-decision-requires Inv-loop2 μ-loop2 Inv-loop μ-loop
-decision-requires c κs = height-low (c .before .before .before .before .before .before .before .before .before .before .before .before .before .before .before .before .before .before .before .before .before .before .before .line-at .result) (c .before .before .before .before .before .before .before .before .before .before .before .before .before .before .before .loop2 .q) (c .before .before .before .before .before .before .before .before .before .before .before .before .before .before .before .before .before .if1 .x) (known (c .before .before .before .before .before .before .before .before .before .before .before .before .before .before)) (held (c .before .before .before .before .before .before .before .before .before .before .before .before .before .before) .kept .passes) (zero (c .before .before .before .before .before .before .before .before))
+decision-requires c κs = height-low (c .before .before .before .before .before .before .before .before .before .before .before .before .before .before .before .before .before .before .before .before .before .before .before .kept-line .result) (c .before .before .before .before .before .before .before .before .before .before .before .before .before .before .before .loop2 .q) (c .before .before .before .before .before .before .before .before .before .before .before .before .before .before .before .before .before .if1 .x) (known (c .before .before .before .before .before .before .before .before .before .before .before .before .before .before)) (held (c .before .before .before .before .before .before .before .before .before .before .before .before .before .before) .kept .passes) (zero (c .before .before .before .before .before .before .before .before))
 
 node-of-requires : tie.Need-node-of-requires Inv-loop2 μ-loop2 Inv-loop μ-loop
 node-of-requires c κs = search needs
@@ -520,14 +525,14 @@ loop2-again-2 : tie.Need-loop2-again-2 Inv-loop2 μ-loop2 Inv-loop μ-loop
 loop2-again-2 c =
     let b = c .before .before .before .before .before .before .before .before .before .before .before .before .before .before .before .before .before .before .before .before .before .before in
     let o = b .before .before .before .before .before .before .before .before .before .before .before .before in
-    let a = o .before .before .before .before .args in
+    let a = o .before .before .before .before .before .args in
     let h = clock-known (c .before .before .before .before .before .before .before .before .before .before .before .before .before .before .before .before) in
     let t : b .before .loop2 .q .clock + 1 ≤ 999999 = omega (arith, h) in
     λ s₀ b₀ e.
-    call-waits (a .sheet .now) s₀ (o .loop .k + 1) (b .before .before .before .before .before .before .before .before .before .line-at .result) (b .before .before .before .if1 .x) b₀ (a .writing)
+    call-waits (a .sheet .now) s₀ (o .loop .k + 1) (b .before .before .before .before .before .before .before .before .before .kept-line .result) (b .before .before .before .if1 .x) b₀ (a .writing)
     (b .before .loop2 .q) (b .before .loop2 .area) (b .before .loop2 .at) (b .before .loop2 .left - 1) _
     (outcome (c .before .before .before)) (known b) (zero (c .before .before .before .before .before .before .before .before .before .before .before .before .before .before .before .before)) h t (c .waits-left .result) (c .waits-left .ensures .0)
-    (call-silent (a .sheet .now) s₀ (o .loop .k + 1) (b .before .before .before .before .before .before .before .before .before .line-at .result) (b .before .before .before .if1 .x) b₀ (a .writing)
+    (call-silent (a .sheet .now) s₀ (o .loop .k + 1) (b .before .before .before .before .before .before .before .before .before .kept-line .result) (b .before .before .before .if1 .x) b₀ (a .writing)
     (b .before .loop2 .q) (b .before .loop2 .area) (b .before .loop2 .at) (b .before .loop2 .left) (b .before .loop2 .inv s₀ b₀ e) (some b)
     _ (outcome (c .before .before .before)) (zero (c .before .before .before .before .before .before .before .before .before .before .before .before .before .before .before .before)) _ refl
     (nodes-after (c .before .before .before)) (callers-after (c .before .before .before))
@@ -546,10 +551,10 @@ returns-2 : tie.Need-returns-2 Inv-loop2 μ-loop2 Inv-loop μ-loop
 returns-2 c =
     let b = c .before .before .before .before .before .before .before .before .before .before .before .before .before .before .before .before .before .before .before .before .before .before .before .before .before .before .before in
     let o = b .before .before .before .before .before .before .before .before .before .before .before .before in
-    let a = o .before .before .before .before .args in
+    let a = o .before .before .before .before .before .args in
     let room = sym (printed-room (c .before .before .before)) ∙ not-true _ (c .if5 .taken) in
     let long =
-    accepted-long (a .sheet .now) (a .t2) (o .loop .k + 1) (b .before .before .before .before .before .before .before .before .before .line-at .result) (b .before .before .before .if1 .x) (a .area .now) (a .writing)
+    accepted-long (a .sheet .now) (a .t2) (o .loop .k + 1) (b .before .before .before .before .before .before .before .before .before .kept-line .result) (b .before .before .before .if1 .x) (a .area .now) (a .writing)
     (b .before .loop2 .q) (b .before .loop2 .area) (b .before .loop2 .at) (b .before .loop2 .left) (held b) (some b)
     _ (outcome (c .before .before .before .before .before .before .before .before)) (zero (c .before .before .before .before .before .before .before .before .before .before .before .before .before .before .before .before .before .before .before .before .before))
     (sym (c .before .before .before .before .before .before .before .prints .ensures) ∙ not-false _ (c .before .before .before .before .before .before .if4 .left)) room (last-line b) in (
@@ -572,10 +577,10 @@ loop2-again-3 : tie.Need-loop2-again-3 Inv-loop2 μ-loop2 Inv-loop μ-loop
 loop2-again-3 c =
     let b = c .before .before .before .before .before .before .before .before .before .before .before .before .before .before .before .before .before .before .before .before .before .before .before .before .before .before .before in
     let o = b .before .before .before .before .before .before .before .before .before .before .before .before in
-    let a = o .before .before .before .before .args in
+    let a = o .before .before .before .before .before .args in
     let room = sym (printed-room (c .before .before .before)) ∙ not-false _ (c .if5 .left) in
     λ s₀ b₀ e.
-    call-prints (a .sheet .now) s₀ (o .loop .k + 1) (b .before .before .before .before .before .before .before .before .before .line-at .result) (b .before .before .before .if1 .x) b₀ (a .writing)
+    call-prints (a .sheet .now) s₀ (o .loop .k + 1) (b .before .before .before .before .before .before .before .before .before .kept-line .result) (b .before .before .before .if1 .x) b₀ (a .writing)
     (b .before .loop2 .q) (b .before .loop2 .area) (b .before .loop2 .at) (b .before .loop2 .left) (b .before .loop2 .inv s₀ b₀ e) (some b)
     _ (outcome (c .before .before .before .before .before .before .before .before)) (zero (c .before .before .before .before .before .before .before .before .before .before .before .before .before .before .before .before .before .before .before .before .before)) _ (c .before .before .before .before .before .event-of2 .result) _ refl
     (nodes-after (c .before .before .before .before .before .before .before .before)) (callers-after (c .before .before .before .before .before .before .before .before))
@@ -587,7 +592,7 @@ same-length-3 c = same-area _ _ _ _ _ (c .before .loop .inv .0 .written)
 returns-3 : tie.Need-returns-3 Inv-loop2 μ-loop2 Inv-loop μ-loop
 returns-3 c =
     let o = c .before in
-    let a = o .before .before .before .before .args in
+    let a = o .before .before .before .before .before .args in
     let e : o .before .line-count .result ≡ lineCount (a .sheet .now) = o .before .line-count .ensures in
     let k : o .loop .k - 1 ≡ lineCount (a .sheet .now) - 1 = omega (arith, e, c .loop-test .left, o .loop .inv .2) in
     let r = at-last (a .sheet .now) (a .t2) (o .loop .k) (o .loop .q) (a .area .now) (o .loop .area) (o .loop .at) (a .writing) (o .loop .inv .0) k in
@@ -607,7 +612,7 @@ run-lines-spec =
     sub-part
     part-part-start
     part-part-end
-    line-at-requires
+    kept-line-requires
     add-k
     slot-of-requires
     mul-b

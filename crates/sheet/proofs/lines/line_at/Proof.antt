@@ -1,47 +1,54 @@
-use mathlib.Core.Path.{_∙_}
+use mathlib.Core.Path.{_∙_, ap}
+use Prim.Native.Nat.{ℕ}
 use denote.Ref.{now}
-use Rattle.sheet.proofs.Readings.{line-scanned}
+use Rattle.sheet.specs.Lines.{line}
+use Rattle.sheet.proofs.Readings.{line-numbers, line-whole, line-short}
 use borrow.Author.Needs.{needs}
 use Rattle.sheet.proofs.lines.line_at.Statement.{statement}
 use Rattle.sheet.proofs.lines.line_at.Tie as tie
 
-byte-at-requires : tie.Need-byte-at-requires
-byte-at-requires c κs = search needs
+shared-slice-read-t6 : tie.Need-shared-slice-read-t6
+shared-slice-read-t6 c = search needs
 
-field-at-requires : tie.Need-field-at-requires
-field-at-requires c κs = search needs
+number-at-requires : tie.Need-number-at-requires
+number-at-requires c κs = search needs
 
-field-at-requires-2 : tie.Need-field-at-requires-2
-field-at-requires-2 c κs = search needs
+number-at-requires-2 : tie.Need-number-at-requires-2
+number-at-requires-2 c κs = search needs
 
-field-at-requires-3 : tie.Need-field-at-requires-3
-field-at-requires-3 c κs = search needs
+number-at-requires-3 : tie.Need-number-at-requires-3
+number-at-requires-3 c κs = search needs
 
-field-at-requires-4 : tie.Need-field-at-requires-4
-field-at-requires-4 c κs = search needs
-
-scanned-line-requires : tie.Need-scanned-line-requires
-scanned-line-requires c κs = search needs
+number-at-requires-4 : tie.Need-number-at-requires-4
+number-at-requires-4 c κs = search needs
 
 returns : tie.Need-returns
 returns c =
     let s = now (c .before .before .before .before .before .before .before .args .part) in
-    let x = c .before .before .before .before .before .byte-at in
-    let p = c .before .before .before .before .field-at in
-    let q = c .before .before .before .field-at2 in
-    let u = c .before .before .field-at3 in
-    let v = c .before .field-at4 in
-    c .scanned-line .ensures
-    ∙ line-scanned s (x .result) (p .result) (q .result) (u .result) (v .result) (x .ensures) (p .ensures) (q .ensures) (u .ensures) (v .ensures)
+    line-numbers s
+    (c .before .before .before .number-at .ensures)
+    (c .before .before .number-at2 .ensures)
+    (c .before .number-at3 .ensures)
+    (c .number-at4 .ensures)
+    ∙ line-whole s (c .before .before .before .before .before .if1 .taken)
+
+byte-at-requires : tie.Need-byte-at-requires
+byte-at-requires c κs = search needs
+
+returns-2 : tie.Need-returns-2
+returns-2 c =
+    let s = now (c .before .before .before .args .part) in
+    ap (λ (x : ℕ). line x 0 0 0 0) (c .byte-at .ensures) ∙ line-short s (c .before .if1 .left)
 
 pub line-at-spec : {M : Type 1} → statement M
 line-at-spec =
     tie.close
     (tie.spec
+    shared-slice-read-t6
+    number-at-requires
+    number-at-requires-2
+    number-at-requires-3
+    number-at-requires-4
+    returns
     byte-at-requires
-    field-at-requires
-    field-at-requires-2
-    field-at-requires-3
-    field-at-requires-4
-    scanned-line-requires
-    returns)
+    returns-2)

@@ -1,8 +1,13 @@
 use mathlib.Core.Path.{sym, _∙_, ap}
+use lib.ListN.{getD}
 use denote.Ref.{now}
 use borrow.Author.Tests.{not-true, not-false}
 use Rattle.sheet.specs.declared.lines.Reading.the-variants as reading
-use Rattle.sheet.proofs.Readings.{said, read-short, read-letter, read-fields, read-feed, read-form}
+use Rattle.sheet.specs.Letters.{letterRules}
+use Rattle.sheet.specs.Lines.{noRule}
+use Rattle.sheet.proofs.Readings.{said, read-short, read-letter, read-fields, read-feed}
+use Rattle.sheet.proofs.Readings.{read-form}
+use Rattle.sheet.proofs.Readings.{line-numbers, bounds-numbers}
 use borrow.Author.Needs.{needs}
 use Rattle.sheet.proofs.lines.read_line.Statement.{statement}
 use Rattle.sheet.proofs.lines.read_line.Tie as tie
@@ -22,57 +27,68 @@ returns-2 c =
     let i = c .before .rule-index in
     said s (read-letter s (i .result) (i .ensures) (c .if2 .taken))
 
-field-at-requires : tie.Need-field-at-requires
-field-at-requires c κs = search needs
+number-at-requires : tie.Need-number-at-requires
+number-at-requires c κs = search needs
 
-field-at-requires-2 : tie.Need-field-at-requires-2
-field-at-requires-2 c κs = search needs
+number-at-requires-2 : tie.Need-number-at-requires-2
+number-at-requires-2 c κs = search needs
 
-field-at-requires-3 : tie.Need-field-at-requires-3
-field-at-requires-3 c κs = search needs
+number-at-requires-3 : tie.Need-number-at-requires-3
+number-at-requires-3 c κs = search needs
 
-field-at-requires-4 : tie.Need-field-at-requires-4
-field-at-requires-4 c κs = search needs
+number-at-requires-4 : tie.Need-number-at-requires-4
+number-at-requires-4 c κs = search needs
 
-fields-keep-requires : tie.Need-fields-keep-requires
-fields-keep-requires c κs = search needs
+all-in-bounds-requires : tie.Need-all-in-bounds-requires
+all-in-bounds-requires c κs = search needs
 
 returns-3 : tie.Need-returns-3
 returns-3 c =
-    let s = now (c .before .before .before .before .before .before .before .before .before .before .before .args .part) in
+    let s =
+    now (c .before .before .before .before .before .before .before .before .before .before .before .args .part) in
     let i = c .before .before .before .before .before .before .before .rule-index in
-    let p = c .before .before .before .before .before .field-at in
-    let q = c .before .before .before .before .field-at2 in
-    let u = c .before .before .before .field-at3 in
-    let v = c .before .before .field-at4 in
+    let e =
+    bounds-numbers s (c .before .before .before .before .before .number-at .ensures)
+    (c .before .before .before .before .number-at2 .ensures)
+    (c .before .before .before .number-at3 .ensures) (c .before .before .number-at4 .ensures)
+    (getD letterRules (i .result) noRule) in
     said s
-    (read-fields s (i .result) (i .ensures) (p .result) (q .result) (u .result) (v .result) (p .ensures) (q .ensures) (u .ensures) (v .ensures)
-    (sym (c .before .fields-keep .ensures) ∙ not-true _ (c .if3 .taken)))
+    (read-fields s (i .result) (i .ensures)
+    (c .before .before .before .before .before .before .if2 .left)
+    (sym e ∙ sym (c .before .all-in-bounds .ensures) ∙ not-true _ (c .if3 .taken)))
 
 shared-slice-read-if4 : tie.Need-shared-slice-read-if4
 shared-slice-read-if4 c = search needs
 
 returns-4 : tie.Need-returns-4
 returns-4 c =
-    let s = now (c .before .before .before .before .before .before .before .before .before .before .before .before .before .args .part) in
+    let s =
+    now (c .before .before .before .before .before .before .before .before .before .before .before .before .before .args .part) in
     let i = c .before .before .before .before .before .before .before .before .before .rule-index in
     said s (read-feed s (i .result) (i .ensures) (c .if4 .taken))
 
-scanned-line-requires : tie.Need-scanned-line-requires
-scanned-line-requires c κs = search needs
-
 returns-5 : tie.Need-returns-5
 returns-5 c =
-    let s = now (c .before .before .before .before .before .before .before .before .before .before .before .before .before .before .args .part) in
-    let i = c .before .before .before .before .before .before .before .before .before .before .rule-index in
-    let p = c .before .before .before .before .before .before .before .before .field-at in
-    let q = c .before .before .before .before .before .before .before .field-at2 in
-    let u = c .before .before .before .before .before .before .field-at3 in
-    let v = c .before .before .before .before .before .field-at4 in
+    let s =
+    now (c .before .before .before .before .before .before .before .before .before .before .before .before .before .args .part) in
+    let i = c .before .before .before .before .before .before .before .before .before .rule-index in
+    let e =
+    bounds-numbers s (c .before .before .before .before .before .before .before .number-at .ensures)
+    (c .before .before .before .before .before .before .number-at2 .ensures)
+    (c .before .before .before .before .before .number-at3 .ensures)
+    (c .before .before .before .before .number-at4 .ensures)
+    (getD letterRules (i .result) noRule) in
     said s
-    (ap reading.Form (c .scanned-line .ensures)
-    ∙ read-form s (i .result) (i .ensures) (p .result) (q .result) (u .result) (v .result) (p .ensures) (q .ensures) (u .ensures) (v .ensures)
-    (c .before .before .before .before .before .before .before .before .before .before .before .before .if1 .left) (c .before .before .before .before .before .before .before .before .before .if2 .left) (sym (c .before .before .before .before .fields-keep .ensures) ∙ not-false _ (c .before .before .before .if3 .left)) (c .before .if4 .left))
+    (ap reading.Form
+    (line-numbers s (c .before .before .before .before .before .before .before .number-at .ensures)
+    (c .before .before .before .before .before .before .number-at2 .ensures)
+    (c .before .before .before .before .before .number-at3 .ensures)
+    (c .before .before .before .before .number-at4 .ensures))
+    ∙ read-form s (i .result) (i .ensures)
+    (c .before .before .before .before .before .before .before .before .if2 .left)
+    (c .before .before .before .before .before .before .before .before .before .before .before .if1 .left)
+    (sym e ∙ sym (c .before .before .before .all-in-bounds .ensures)
+    ∙ not-false _ (c .before .before .if3 .left)) (c .if4 .left))
 
 pub read-line-spec : {M : Type 1} → statement M
 read-line-spec =
@@ -82,13 +98,12 @@ read-line-spec =
     shared-slice-read-letter
     rule-index-requires
     returns-2
-    field-at-requires
-    field-at-requires-2
-    field-at-requires-3
-    field-at-requires-4
-    fields-keep-requires
+    number-at-requires
+    number-at-requires-2
+    number-at-requires-3
+    number-at-requires-4
+    all-in-bounds-requires
     returns-3
     shared-slice-read-if4
     returns-4
-    scanned-line-requires
     returns-5)

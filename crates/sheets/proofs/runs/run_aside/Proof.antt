@@ -15,7 +15,7 @@ slice-relend-prefix-part : tie.Need-slice-relend-prefix-part
 slice-relend-prefix-part c = search needs
 
 slice-aggregate-part : tie.Need-slice-aggregate-part
-slice-aggregate-part c = sym (length-take-le _ _ (c .before .before .before .before .pre .1))
+slice-aggregate-part c = sym (length-take-le _ _ (c .before .before .before .before .before .pre .0 .1))
 
 run-lines-requires : tie.Need-run-lines-requires
 run-lines-requires c κs = search needs
@@ -28,12 +28,12 @@ enum-known-bytes c = search needs
 
 copy-front-requires : tie.Need-copy-front-requires
 copy-front-requires c κs =
-    let x = c .before .before .before .before .before .before .before .before .before .before .before .before .args in
+    let x = c .before .before .before .before .before .before .before .before .before .before .before .before .before .args in
     let h = history (x .sheet .now) (x .q) in
     let run = c .before .before .before .before .before .before .before .run-lines in
     let e = sym (c .before .before .before .bytes .given .1) ∙ run .ensures .0 in
     let fits = length-fits h _ _ e in
-    let n = length-take-le _ (x .aside .now) (c .before .before .before .before .before .before .before .before .before .before .before .before .pre .1) in
+    let n = length-take-le _ (x .aside .now) (c .before .before .before .before .before .before .before .before .before .before .before .before .before .pre .0 .1) in
     let m = length-told h _ _ e in
     (copied-within h _ _ _ _ e (run .ensures .1 ∙ area-whole (x .sheet .now) (x .q) (take (length (x .area .now)) (x .aside .now)) true fits) _, omega (arith, fits, n, m))
 
@@ -42,8 +42,8 @@ same-length c = search needs
 
 returns : tie.Need-returns
 returns c =
-    let x = c .before .before .before .before .before .before .before .before .before .before .args in
-    let n = length-take-le _ (x .aside .now) (c .before .before .before .before .before .before .before .before .before .before .pre .1) in
+    let x = c .before .before .before .before .before .before .before .before .before .before .before .args in
+    let n = length-take-le _ (x .aside .now) (c .before .before .before .before .before .before .before .before .before .before .before .pre .0 .1) in
     (sym (c .before .number .given .1) ∙ c .before .before .before .before .before .run-lines .ensures .0 ∙ ap (λ (k : ℕ). fitted (history (x .sheet .now) (x .q)) k) n, refl)
 
 same-length-2 : tie.Need-same-length-2
@@ -54,12 +54,12 @@ same-length-3 c = search needs
 
 returns-2 : tie.Need-returns-2
 returns-2 c =
-    let x = c .before .before .before .before .before .before .before .before .before .before .before .before .before .before .before .args in
+    let x = c .before .before .before .before .before .before .before .before .before .before .before .before .before .before .before .before .args in
     let h = history (x .sheet .now) (x .q) in
     let run = c .before .before .before .before .before .before .before .before .before .before .run-lines in
     let e = sym (c .before .before .before .before .before .before .bytes .given .1) ∙ run .ensures .0 in
     let fits = length-fits h _ _ e in
-    let n = length-take-le _ (x .aside .now) (c .before .before .before .before .before .before .before .before .before .before .before .before .before .before .before .pre .1) in
+    let n = length-take-le _ (x .aside .now) (c .before .before .before .before .before .before .before .before .before .before .before .before .before .before .before .before .pre .0 .1) in
     (e ∙ ap (λ (k : ℕ). fitted h k) n, copied-whole h (x .area .now) _ _ _ _ _ e (run .ensures .1 ∙ area-whole (x .sheet .now) (x .q) (take (length (x .area .now)) (x .aside .now)) true fits) _ (c .before .before .copy-front .ensures))
 
 pub run-aside-spec : {M : Type 1} → statement M

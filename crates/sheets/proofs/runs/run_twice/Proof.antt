@@ -35,7 +35,7 @@ same-length-2 c = search needs
 
 returns-2 : tie.Need-returns-2
 returns-2 c =
-    let a = c .before .before .before .before .before .before .before .before .before .before .before .before .args in
+    let a = c .before .before .before .before .before .before .before .before .before .before .before .before .before .args in
     let h = history (a .sheet .now) (a .q) in
     let one = c .before .before .before .before .before .before .before .before .run-lines in
     let two = c .before .before .run-lines2 in

@@ -1,0 +1,46 @@
+-- The numbers of a sheet's lines in a list, four for each line as far as there is room: the check
+-- of the form keeps them, so that the run need not read a line again.
+use Prim.Native.Nat.{ℕ, zero, suc, _+_, _-_, _*_, _/_, _<_}
+use mathlib.Core.Path.{_≡_}
+use mathlib.Core.Bool.{cond}
+use mathlib.Core.List.{List}
+use lib.Dec.{ltb, eqb}
+use lib.ListN.{length, getD, set}
+use Rattle.sheet.specs.declared.lines.Line.{Line}
+use Rattle.sheet.specs.Lines.{letterOf, line, lineOf, partAt, lineCount, firstOutOfForm}
+
+-- for how many lines there is room
+abbrev pub roomFor : List ℕ → ℕ
+roomFor kept = length kept / 4
+
+-- with the numbers of line k, from 0, in its four places
+abbrev pub stored : List ℕ → ℕ → Line → List ℕ
+stored kept k l =
+    set (set (set (set kept (4 * k) (l .first)) (4 * k + 1) (l .second)) (4 * k + 2) (l .third))
+    (4 * k + 3)
+    (l .fourth)
+
+abbrev pub withLine : List ℕ → ℕ → Line → List ℕ
+withLine kept k l = cond (ltb k (roomFor kept)) (stored kept k l) kept
+
+-- with those of the first n lines of a sheet
+abbrev pub keptTo : List ℕ → List ℕ → ℕ → List ℕ
+keptTo s kept zero = kept
+keptTo s kept (suc n) = withLine (keptTo s kept n) n (lineOf (partAt s (suc n)))
+
+-- how many lines there are before the first that is out of form
+abbrev pub linesInForm : List ℕ → ℕ
+linesInForm s = cond (eqb (firstOutOfForm s) 0) (lineCount s) (firstOutOfForm s - 1)
+
+-- line k, which a part starts with: its numbers as they were kept, or read where they were not
+abbrev pub keptLine : List ℕ → List ℕ → ℕ → Line
+keptLine s kept k =
+    cond (ltb k (roomFor kept))
+    (line (letterOf s) (getD kept (4 * k) 0) (getD kept (4 * k + 1) 0) (getD kept (4 * k + 2) 0)
+    (getD kept (4 * k + 3) 0))
+    (lineOf s)
+
+-- what is kept are the numbers of this sheet's lines
+abbrev pub IsKept : List ℕ → List ℕ → Type 0
+IsKept s kept =
+    (k : ℕ) → k < lineCount s → keptLine (partAt s (k + 1)) kept k ≡ lineOf (partAt s (k + 1))
