@@ -4,8 +4,12 @@
 //! slows them alike; of the rounds the quickest and the middle one are
 //! printed, each with its ratio to the reference's.
 //!
-//! With two arguments (a workload's name; `proved` or `reference`) it only
-//! runs those sheets once, for a counter of instructions.
+//! With two arguments (a workload's name; `proved`, `reference`, `form` or
+//! `again`) it only runs those sheets once, for a counter of instructions.
+//! `form` is the proved run of the sheets with their last lines out of form,
+//! which checks the form and no more; `again` that of longer sheets, whose last
+//! lines are read again. `form-fields` and `again-fields` print how many fields
+//! these read.
 
 use darthog_sheetrun::runs::{counted_reference, proved, reference, Run, SheetReply};
 use darthog_sheetrun::workload::{Case, Workload};
@@ -44,18 +48,28 @@ fn main() -> ExitCode {
     ExitCode::SUCCESS
 }
 
-/// Runs the sheets of a workload once.
+/// Runs the sheets of a workload once, or prints how many fields they have.
 fn once(name: &str, which: &str) -> ExitCode {
-    let run: Run = match which {
-        "proved" => proved,
-        "reference" => |sheet, area| counted_reference(sheet, area),
-        _ => return ExitCode::FAILURE,
-    };
     let all = Workload::all();
     let Some(workload) = all.iter().find(|workload| workload.name == name) else {
         return ExitCode::FAILURE;
     };
-    for case in &workload.cases {
+    let (run, cases): (Run, Vec<Case>) = match which {
+        "proved" => (proved, same(workload)),
+        "form" => (proved, damaged_ends(workload)),
+        "reference" => (|sheet, area| counted_reference(sheet, area), same(workload)),
+        "again" => (proved, workload.longer().cases),
+        "form-fields" => {
+            println!("{}", workload.fields());
+            return ExitCode::SUCCESS;
+        }
+        "again-fields" => {
+            println!("{}", workload.longer().fields_again());
+            return ExitCode::SUCCESS;
+        }
+        _ => return ExitCode::FAILURE,
+    };
+    for case in &cases {
         let mut area = vec![UNTOUCHED; case.area];
         black_box(run(black_box(&case.sheet), black_box(&mut area)));
     }
@@ -70,12 +84,18 @@ fn outcome(run: Run, sheet: &[u8], area: usize) -> (SheetReply, Vec<u8>) {
 }
 
 /// Before anything is measured: both give the same reply and leave the same
-/// bytes in the area, for the sheets as they are and for those that are
-/// refused.
+/// bytes in the area, for the sheets as they are, for longer ones and for those
+/// that are refused.
 fn compare(workload: &Workload) -> Result<(), String> {
     let short = short_areas(workload);
     let damaged = damaged_ends(workload);
-    for (cases, number) in [(&workload.cases, 0), (&short, 43), (&damaged, 41)] {
+    let longer = workload.longer().cases;
+    for (cases, number) in [
+        (&workload.cases, 0),
+        (&longer, 0),
+        (&short, 43),
+        (&damaged, 41),
+    ] {
         for (at, case) in cases.iter().enumerate() {
             let (reply, bytes) = outcome(reference, &case.sheet, case.area);
             if reply.number != number {

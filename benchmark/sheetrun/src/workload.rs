@@ -7,6 +7,8 @@ use darthog_reference::random::Random;
 
 /// The bytes of a line.
 const LINE: usize = 30;
+/// The fields of a line.
+const FIELDS: usize = 4;
 /// As many lines as 64 KiB hold whole.
 const FULL_SHEET: usize = 64 * 1024 / LINE;
 /// What the program lends for a history.
@@ -94,6 +96,32 @@ impl Workload {
             of(b'E'),
             of(b'R')
         )
+    }
+
+    /// How many fields the lines of the sheets have.
+    pub fn fields(&self) -> usize {
+        let lines = |case: &Case| case.sheet.len() / LINE;
+        FIELDS * self.cases.iter().map(lines).sum::<usize>()
+    }
+
+    /// Longer sheets, with the lines after Q three times over. A run reads the
+    /// lines behind the first `FULL_SHEET` again, and Q.
+    pub fn longer(&self) -> Workload {
+        let longer = |case: &Case| {
+            let (q, lines) = case.sheet.split_at(LINE);
+            lent(8 * AREA, [q, lines, lines, lines].concat())
+        };
+        Workload {
+            name: self.name,
+            words: "its lines three times over",
+            cases: self.cases.iter().map(longer).collect(),
+        }
+    }
+
+    /// How many fields are read again by the two runs of such sheets.
+    pub fn fields_again(&self) -> usize {
+        let again = |case: &Case| 1 + 2 * (case.sheet.len() / LINE).saturating_sub(FULL_SHEET);
+        FIELDS * self.cases.iter().map(again).sum::<usize>()
     }
 
     /// The steps that the sheets make, and what they are answered.
