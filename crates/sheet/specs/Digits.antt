@@ -24,7 +24,7 @@ keptValue s zero = 0
 keptValue s (suc k) =
     cond (isDigit (getD s k 0)) (extendedBy (keptValue s k) (getD s k 0)) (keptValue s k)
 
--- 02, W4: after each column that keeps the form it is the value of the columns read
+-- 02, W4: at every column, if the columns so far keep the form, it is what they are worth
 abbrev pub KeptIsValue : Type 0
 KeptIsValue = (s : List ℕ) (k : ℕ) → columnsKeep s k ≡ true → keptValue s k ≡ columnsValue s k
 
