@@ -12,7 +12,7 @@ use lib.Dec.{leb}
 use lib.ListN.{getD}
 use borrow.Author.Tests.{lt-ltb, leb-true, eqb-true}
 use Rattle.laws.proofs.Booleans.{cond-cases}
-use Rattle.laws.proofs.Counting.{and-left, and-right, and-both, every-at}
+use Rattle.laws.proofs.Counting.{and-left, and-right, and-both, every-not}
 use Rattle.sheet.specs.Columns.{isSpace, isDigit, digitOf, placesTo, columnsValue}
 use Rattle.sheet.specs.Columns.{blankTo, columnKeeps, columnsKeep}
 use Rattle.sheet.specs.Digits.{extendedBy, ColumnExtends, KeptIsValue, keptValue}
@@ -85,13 +85,12 @@ pub keeps-next :
     → columnsKeep s (suc k) ≡ true
 keeps-next s k h t = and-both (columnsKeep s k) (columnKeeps s k) h t
 
--- columns of which one does not keep the form do not
+-- one column is enough for columns not to keep the form, or not to be blank
 pub keeps-not : (s : List ℕ) (k n : ℕ) → columnKeeps s k ≡ false → k < n → columnsKeep s n ≡ false
-keeps-not s k n h l = go (columnsKeep s n) refl
-  where
-    go : (t : Bool) → columnsKeep s n ≡ t → columnsKeep s n ≡ false
-    go false e = e
-    go true e = absurd (true≢false (sym (every-at (columnKeeps s) n k e l) ∙ h))
+keeps-not s k n h l = every-not (columnKeeps s) n k h l
+
+pub blank-not : (s : List ℕ) (k n : ℕ) → k < n → isSpace (getD s k 0) ≡ false → blankTo s n ≡ false
+blank-not s k n h e = every-not (λ j. isSpace (getD s j 0)) n k e h
 
 pub blank-keeps : (s : List ℕ) (k : ℕ) → blankTo s k ≡ true → columnsKeep s k ≡ true
 blank-keeps s zero h = refl
@@ -132,14 +131,6 @@ worth-not-blank s k h = go (blankTo s k) refl
     go : (t : Bool) → blankTo s k ≡ t → blankTo s k ≡ false
     go false e = e
     go true e = absurd (omega (arith, blank-value s k e))
-
--- a column that is no space, among the first n
-pub blank-not : (s : List ℕ) (k n : ℕ) → k < n → isSpace (getD s k 0) ≡ false → blankTo s n ≡ false
-blank-not s k n h e = go (blankTo s n) refl
-  where
-    go : (t : Bool) → blankTo s n ≡ t → blankTo s n ≡ false
-    go false b = b
-    go true b = absurd (true≢false (sym (every-at (λ j. isSpace (getD s j 0)) n k b h) ∙ e))
 
 -- ---- 02, W4
 

@@ -11,8 +11,7 @@ use borrow.Author.Tests.{ne-eqb, eqb-true}
 use Rattle.laws.proofs.Counting.{and-left, and-both, every-at}
 use Rattle.sheet.specs.Columns.{isSpace, isDigit, digitOf, columnsValue, blankTo, columnKeeps}
 use Rattle.sheet.specs.Columns.{columnsKeep, inForm, noNumber, valueTo, numberOf}
-use Rattle.sheet.specs.Digits.{extendedBy}
-use Rattle.sheet.specs.Scans.{NumberSoFar}
+use Rattle.sheet.specs.Digits.{extendedBy, NumberSoFar}
 use Rattle.sheet.proofs.Digits.{digit-low, digit-is, value-next, blank-value, keeps-next}
 use Rattle.sheet.proofs.Digits.{keeps-not, blank-keeps, first-keeps, first-fails}
 use Rattle.sheet.proofs.Digits.{later-keeps, later-fails, zero-fails, worth-not-blank}

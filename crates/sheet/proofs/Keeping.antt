@@ -13,7 +13,8 @@ use lib.Seq.{getD-set-same, getD-set-other}
 use borrow.Author.Tests.{ltb-true, eq-eqb, ne-eqb}
 use Rattle.laws.proofs.Booleans.{cond-elim}
 use Rattle.sheet.specs.declared.lines.Line.{Line}
-use Rattle.sheet.specs.Kept.{roomFor, stored, withLine, keptTo, linesInForm, keptLine, IsKept}
+use Rattle.sheet.specs.Kept.{roomFor, stored, storedLine, withLine, keptTo, linesInForm}
+use Rattle.sheet.specs.Kept.{keptLine, IsKept}
 use Rattle.sheet.specs.Lines.{letterOf, fieldAt, line, lineOf, partAt, lineCount}
 use Rattle.sheet.specs.Lines.{firstOutOfForm}
 
@@ -52,10 +53,9 @@ with-other kept n j l h =
 
 -- its own places have its numbers
 stored-line :
-    (kept : List ℕ) (k letter : ℕ) (l : Line) → 4 * k + 4 ≤ length kept
-    → line letter (getD (stored kept k l) (4 * k) 0) (getD (stored kept k l) (4 * k + 1) 0)
-    (getD (stored kept k l) (4 * k + 2) 0) (getD (stored kept k l) (4 * k + 3) 0)
-    ≡ line letter (l .first) (l .second) (l .third) (l .fourth)
+    (kept : List ℕ) (k letter : ℕ) (l : Line)
+    → 4 * k + 4 ≤ length kept
+    → storedLine letter (stored kept k l) k ≡ line letter (l .first) (l .second) (l .third) (l .fourth)
 stored-line kept k letter l room =
     let a = set kept (4 * k) (l .first) in
     let b = set a (4 * k + 1) (l .second) in
@@ -77,13 +77,7 @@ stored-line kept k letter l room =
     ∙ getD-set-same b (4 * k + 2) (l .third) 0 (omega (arith, lb)) in
     let fourth : getD (stored kept k l) (4 * k + 3) 0 ≡ l .fourth =
     getD-set-same c (4 * k + 3) (l .fourth) 0 (omega (arith, lc)) in
-    ap (λ (x : ℕ). line letter x (getD (stored kept k l) (4 * k + 1) 0)
-    (getD (stored kept k l) (4 * k + 2) 0) (getD (stored kept k l) (4 * k + 3) 0)) first
-    ∙ ap (λ (x : ℕ). line letter (l .first) x (getD (stored kept k l) (4 * k + 2) 0)
-    (getD (stored kept k l) (4 * k + 3) 0)) second
-    ∙ ap (λ (x : ℕ). line letter (l .first) (l .second) x
-    (getD (stored kept k l) (4 * k + 3) 0)) third
-    ∙ ap (λ (x : ℕ). line letter (l .first) (l .second) (l .third) x) fourth
+    rw (first, second, third, fourth) refl
 
 pub room-enough : (kept : List ℕ) (k : ℕ) → k < roomFor kept → 4 * k + 4 ≤ length kept
 room-enough kept k h = omega (arith, div-mul-le-self (length kept) 4)
@@ -110,22 +104,18 @@ newest s kept k = go (ltb k (roomFor kept)) refl
 
     go : (t : Bool) → ltb k (roomFor kept) ≡ t → keptLine s (withLine kept k l) k ≡ l
     go true e =
-        let w : withLine kept k l ≡ stored kept k l =
-        ap (λ (t : Bool). cond t (stored kept k l) kept) e in
-        let r : ltb k (roomFor (stored kept k l)) ≡ true =
+        let x = stored kept k l in
+        let w : withLine kept k l ≡ x = ap (λ (t : Bool). cond t x kept) e in
+        let r : ltb k (roomFor x) ≡ true =
         ap (λ (n : ℕ). ltb k (n / 4)) (length-stored kept k l) ∙ e in
-        ap (λ (x : List ℕ). keptLine s x k) w
-        ∙ ap (λ (t : Bool). cond t
-        (line (letterOf s) (getD (stored kept k l) (4 * k) 0) (getD (stored kept k l) (4 * k + 1) 0)
-        (getD (stored kept k l) (4 * k + 2) 0) (getD (stored kept k l) (4 * k + 3) 0)) l) r
+        ap (λ (y : List ℕ). keptLine s y k) w
+        ∙ ap (λ (t : Bool). cond t (storedLine (letterOf s) x k) l) r
         ∙ stored-line kept k (letterOf s) l (room-enough kept k (ltb-true k (roomFor kept) e))
         ∙ line-is s
     go false e =
         let w : withLine kept k l ≡ kept = ap (λ (t : Bool). cond t (stored kept k l) kept) e in
-        ap (λ (x : List ℕ). keptLine s x k) w
-        ∙ ap (λ (t : Bool). cond t
-        (line (letterOf s) (getD kept (4 * k) 0) (getD kept (4 * k + 1) 0) (getD kept (4 * k + 2) 0)
-        (getD kept (4 * k + 3) 0)) l) e
+        ap (λ (y : List ℕ). keptLine s y k) w
+        ∙ ap (λ (t : Bool). cond t (storedLine (letterOf s) kept k) l) e
 
 -- a later line leaves it
 earlier :

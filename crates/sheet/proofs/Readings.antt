@@ -54,6 +54,10 @@ third-fails a b c d h = ap (λ (x : Bool). x && d) (no-right (a && b) c h)
 all-hold : (a b c d : Bool) → a ≡ true → b ≡ true → c ≡ true → d ≡ true → tests a b c d ≡ true
 all-hold a b c d h k l m = rw (h, k, l, m)
 
+tests-same :
+    (a b c d p q u v : Bool) → a ≡ p → b ≡ q → c ≡ u → d ≡ v → tests a b c d ≡ tests p q u v
+tests-same a b c d p q u v e f g h = rw (e, f, g, h) refl
+
 pub last-decides : (a b c d : Bool) → a ≡ true → b ≡ true → c ≡ true → d ≡ tests a b c d
 last-decides a b c d h k l = rw (h, k, l) refl
 
@@ -80,24 +84,17 @@ module _
       ≡ allInBounds r (fieldAt s 0) (fieldAt s 1) (fieldAt s 2) (fieldAt s 3)
   bounds-numbers r = rw (pa, pb, pc, pd) refl
 
--- a line with all of its bytes is its letter and its numbers
-pub line-whole :
-    (s : List ℕ) → 30 ≤ length s
-    → line (letterOf s) (fieldAt s 0) (fieldAt s 1) (fieldAt s 2) (fieldAt s 3) ≡ lineOf s
-line-whole s h =
-    ap
-    (λ (t : Bool). cond t
-    (line (letterOf s) (fieldAt s 0) (fieldAt s 1) (fieldAt s 2) (fieldAt s 3))
-    (line (letterOf s) 0 0 0 0))
-    (sym (le-leb 30 (length s) h))
+-- a line with all of its bytes is its letter and its numbers, and a short one its letter
+abbrev line-by : List ℕ → Bool → Line
+line-by s whole =
+    cond whole (line (letterOf s) (fieldAt s 0) (fieldAt s 1) (fieldAt s 2) (fieldAt s 3))
+    (line (letterOf s) 0 0 0 0)
 
-pub line-short : (s : List ℕ) → length s < 30 → line (letterOf s) 0 0 0 0 ≡ lineOf s
-line-short s h =
-    ap
-    (λ (t : Bool). cond t
-    (line (letterOf s) (fieldAt s 0) (fieldAt s 1) (fieldAt s 2) (fieldAt s 3))
-    (line (letterOf s) 0 0 0 0))
-    (sym (lt-leb 30 (length s) h))
+pub line-whole : (s : List ℕ) → 30 ≤ length s → line-by s true ≡ lineOf s
+line-whole s h = ap (line-by s) (sym (le-leb 30 (length s) h))
+
+pub line-short : (s : List ℕ) → length s < 30 → line-by s false ≡ lineOf s
+line-short s h = ap (line-by s) (sym (lt-leb 30 (length s) h))
 
 module _ (s : List ℕ) (i : ℕ) (at-letter : i ≡ ruleIndex letterRules (letterOf s)) where
   pub read-letter : 4 ≤ i → reading.Bad ≡ readLine s
@@ -114,12 +111,11 @@ module _ (s : List ℕ) (i : ℕ) (at-letter : i ≡ ruleIndex letterRules (lett
       (fieldAt s 3)
       ≡ fieldsKeep (getD letterRules i noRule) s
   keep-same h =
-      rw (
-        field-kept i 0 s h (omega arith),
-        field-kept i 1 s h (omega arith),
-        field-kept i 2 s h (omega arith),
-        field-kept i 3 s h (omega arith),
-      ) refl
+      tests-same _ _ _ _ _ _ _ _
+      (field-kept i 0 s h (omega arith))
+      (field-kept i 1 s h (omega arith))
+      (field-kept i 2 s h (omega arith))
+      (field-kept i 3 s h (omega arith))
 
   module _ (known : i < 4) where
     pub read-fields :

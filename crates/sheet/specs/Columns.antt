@@ -18,7 +18,7 @@ isSpace c = eqb c space
 abbrev pub isDigit : ℕ → Bool
 isDigit c = leb digitZero c && leb c (digitZero + 9)
 
--- what a column is worth at the last place: a digit its number, and a space 0
+-- what a column is worth at the last place: a digit its number; a space, as any other byte, 0
 abbrev pub digitOf : ℕ → ℕ
 digitOf c = cond (isDigit c) (c - digitZero) 0
 

@@ -9,17 +9,30 @@ use lib.ListN.{length, getD, set}
 use Rattle.sheet.specs.declared.lines.Line.{Line}
 use Rattle.sheet.specs.Lines.{letterOf, line, lineOf, partAt, lineCount, firstOutOfForm}
 
+-- a line has so many numbers
+abbrev pub numbers : ℕ
+numbers = 4
+
 -- for how many lines there is room
 abbrev pub roomFor : List ℕ → ℕ
-roomFor kept = length kept / 4
+roomFor kept = length kept / numbers
 
--- with the numbers of line k, from 0, in its four places
+-- the numbers of line k, from 0, stored in its places; and a line with those that are there
 abbrev pub stored : List ℕ → ℕ → Line → List ℕ
 stored kept k l =
-    set (set (set (set kept (4 * k) (l .first)) (4 * k + 1) (l .second)) (4 * k + 2) (l .third))
-    (4 * k + 3)
+    set
+    (set (set (set kept (numbers * k) (l .first)) (numbers * k + 1) (l .second)) (numbers * k + 2)
+    (l .third))
+    (numbers * k + 3)
     (l .fourth)
 
+abbrev pub storedLine : ℕ → List ℕ → ℕ → Line
+storedLine letter kept k =
+    line letter (getD kept (numbers * k) 0) (getD kept (numbers * k + 1) 0)
+    (getD kept (numbers * k + 2) 0)
+    (getD kept (numbers * k + 3) 0)
+
+-- with the numbers of line k, if there is room for them
 abbrev pub withLine : List ℕ → ℕ → Line → List ℕ
 withLine kept k l = cond (ltb k (roomFor kept)) (stored kept k l) kept
 
@@ -34,11 +47,7 @@ linesInForm s = cond (eqb (firstOutOfForm s) 0) (lineCount s) (firstOutOfForm s 
 
 -- line k, which a part starts with: its numbers as they were kept, or read where they were not
 abbrev pub keptLine : List ℕ → List ℕ → ℕ → Line
-keptLine s kept k =
-    cond (ltb k (roomFor kept))
-    (line (letterOf s) (getD kept (4 * k) 0) (getD kept (4 * k + 1) 0) (getD kept (4 * k + 2) 0)
-    (getD kept (4 * k + 3) 0))
-    (lineOf s)
+keptLine s kept k = cond (ltb k (roomFor kept)) (storedLine (letterOf s) kept k) (lineOf s)
 
 -- what is kept are the numbers of this sheet's lines
 abbrev pub IsKept : List ℕ → List ℕ → Type 0

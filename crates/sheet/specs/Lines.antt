@@ -1,6 +1,6 @@
 -- A line of a sheet. "Each line of the sheet is thirty bytes: a letter, four numbers right-justified in 7 columns, a line feed."
 use Prim.Native.Nat.{ℕ, zero, suc, _+_, _-_, _*_, _/_}
-use mathlib.Core.Bool.{Bool, cond, _&&_, not}
+use mathlib.Core.Bool.{Bool, false, cond, _&&_, not}
 use mathlib.Core.List.{List, [], _∷_}
 use lib.Dec.{leb, eqb}
 use lib.ListN.{length, getD, drop}
@@ -34,11 +34,15 @@ fieldPart s k = drop (1 + width * k) s
 abbrev pub fieldAt : List ℕ → ℕ → ℕ
 fieldAt s k = numberOf (fieldPart s k)
 
--- its columns are in form and its number lies between the letter's bounds
+-- n lies between the letter's bounds of field k or, where the letter does not use it, is 0
+abbrev pub inBounds : Rule → ℕ → ℕ → Bool
+inBounds r k n =
+    cond (getD (r .used) k false) (leb (getD (r .low) k 0) n && leb n (getD (r .high) k 0))
+    (eqb n 0)
+
+-- field k is in form, and its number in bounds
 abbrev pub fieldKeeps : Rule → List ℕ → ℕ → Bool
-fieldKeeps r s k =
-    inForm (fieldPart s k)
-    && (leb (getD (r .low) k 0) (fieldAt s k) && leb (fieldAt s k) (getD (r .high) k 0))
+fieldKeeps r s k = inForm (fieldPart s k) && inBounds r k (fieldAt s k)
 
 abbrev pub fieldsKeep : Rule → List ℕ → Bool
 fieldsKeep r s = fieldKeeps r s 0 && fieldKeeps r s 1 && fieldKeeps r s 2 && fieldKeeps r s 3

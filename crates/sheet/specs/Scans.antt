@@ -1,31 +1,20 @@
 -- What the readers and writers of columns share: the form of a line over the numbers of its fields,
 -- and one column of a number as written.
-use mathlib.Core.Path.{_≡_}
-use Prim.Native.Nat.{ℕ, _+_, _≤_}
-use mathlib.Core.Bool.{Bool, true, false, cond, not, _&&_}
+use Prim.Native.Nat.{ℕ, _+_}
+use mathlib.Core.Bool.{Bool, cond, not, _&&_}
 use mathlib.Core.List.{List, [], _∷_}
 use lib.Dec.{leb, eqb}
-use lib.ListN.{length, getD}
+use lib.ListN.{length}
 use lib.Seq.{sets}
 use Rattle.sheet.specs.declared.events.Event.{Event}
 use Rattle.record.specs.Report.{Report, report}
 use Rattle.sheet.specs.declared.lines.Reading.{Reading}
 use Rattle.sheet.specs.declared.lines.Reading.the-variants as reading
 use Rattle.sheet.specs.declared.lines.Rule.{Rule}
-use Rattle.sheet.specs.Columns.{columnsValue, columnsKeep, lastDigit}
+use Rattle.sheet.specs.Columns.{lastDigit}
 use Rattle.sheet.specs.Events.{eventLength, eventBytes}
 use Rattle.sheet.specs.Letters.{space, letterQ}
-use Rattle.sheet.specs.Lines.{letterOf, fieldAt}
-
--- k columns of a number on its way: they keep the form, and n is their value and not 0
-abbrev pub NumberSoFar : List ℕ → ℕ → ℕ → Type 0
-NumberSoFar s k n = (n ≡ columnsValue s k) × (1 ≤ n) × (columnsKeep s k ≡ true)
-
--- n lies between the bounds of field k or, where the field is not used, is 0
-abbrev pub inBounds : Rule → ℕ → ℕ → Bool
-inBounds r k n =
-    cond (getD (r .used) k false) (leb (getD (r .low) k 0) n && leb n (getD (r .high) k 0))
-    (eqb n 0)
+use Rattle.sheet.specs.Lines.{inBounds, letterOf, fieldAt}
 
 -- `fieldsKeep` of a line whose fields have these numbers
 abbrev pub allInBounds : Rule → ℕ → ℕ → ℕ → ℕ → Bool

@@ -6,17 +6,17 @@ ghost use lib.ListN.{length, getD, drop};
 ghost use lib.Seq.{sets};
 ghost use Rattle.sheet.specs.Columns.{isSpace, isDigit, blankTo, valueTo, numberOf};
 ghost use Rattle.sheet.specs.Columns.{lastDigit, columns};
-ghost use Rattle.sheet.specs.Digits.{extendedBy};
-ghost use Rattle.sheet.specs.Scans.{NumberSoFar, paddedDigit};
+ghost use Rattle.sheet.specs.Digits.{extendedBy, NumberSoFar};
+ghost use Rattle.sheet.specs.Scans.{paddedDigit};
 use crate::letters::DIGIT_ZERO;
 use crate::letters::NO_NUMBER;
 use crate::letters::SPACE;
 use crate::letters::WIDTH;
 
 // The last of seven columns, from 0, and the one before it.
-const LAST: usize = 6;
+const LAST: usize = WIDTH - 1;
 
-const BEFORE_LAST: usize = 5;
+const BEFORE_LAST: usize = WIDTH - 2;
 
 fn is_digit(c: u8) -> bool
     ensures { λ r. ⌜ r ≡ isDigit c ⌝ }

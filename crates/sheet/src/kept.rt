@@ -6,7 +6,7 @@ use crate::lines::Line;
 use crate::lines::line_at;
 
 // A line has so many numbers.
-const NUMBERS: usize = 4;
+pub const NUMBERS: usize = 4;
 
 // Keeps the numbers of line k, from 0, if there is room for them.
 pub(crate) fn keep_line(kept: &mut [u32], k: usize, l: Line)

@@ -29,7 +29,7 @@ pub const WIDTH: usize = 7;
 pub const MAX_FIELD: u32 = 9999999;
 
 // What stands for a field that is out of form.
-pub const NO_NUMBER: u32 = 10000000;
+pub const NO_NUMBER: u32 = MAX_FIELD + 1;
 
 // The bytes of a line of a sheet, and of a line of a history.
 pub const LINE: usize = 30;

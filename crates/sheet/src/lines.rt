@@ -3,9 +3,10 @@ ghost use mathlib.Core.Path.{_≡_};
 ghost use Prim.Native.Nat.{_<_};
 ghost use lib.ListN.{getD};
 ghost use Rattle.sheet.specs.Letters.{letterRules};
-ghost use Rattle.sheet.specs.Lines.{noRule, ruleIndex, lineInForm, lineOf, readLine};
-ghost use Rattle.sheet.specs.Scans.{formReport, lineNumbers, reportedReading};
-ghost use Rattle.sheet.specs.Scans.{inBounds, allInBounds};
+ghost use Rattle.sheet.specs.Lines.{noRule, ruleIndex, inBounds, lineInForm, lineOf};
+ghost use Rattle.sheet.specs.Lines.{readLine};
+ghost use Rattle.sheet.specs.Scans.{allInBounds, formReport, lineNumbers};
+ghost use Rattle.sheet.specs.Scans.{reportedReading};
 use crate::columns::byte_at;
 use crate::columns::number_at;
 use crate::letters::LETTER_D;
@@ -15,6 +16,7 @@ use crate::letters::LETTER_S;
 use crate::letters::LINE;
 use crate::letters::LINE_FEED;
 use crate::letters::MAX_FIELD;
+use crate::letters::WIDTH;
 use record::levels::both;
 
 // For a letter, which of its four fields are used, and the bounds of each. A field that is not used holds 0.
@@ -44,11 +46,11 @@ const LETTERS: usize = 4;
 // Where the fields of a line start.
 const FIRST: usize = 1;
 
-const SECOND: usize = 8;
+const SECOND: usize = FIRST + WIDTH;
 
-const THIRD: usize = 15;
+const THIRD: usize = SECOND + WIDTH;
 
-const FOURTH: usize = 22;
+const FOURTH: usize = THIRD + WIDTH;
 
 // For each letter, which of its four fields are used, and their bounds: `letterRules` of specs/Letters.antt.
 const RULES: [Rule; 4] = [

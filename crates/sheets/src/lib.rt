@@ -14,19 +14,20 @@ use sheet::Line;
 use sheet::Ran;
 use sheet::forms::first_misplaced;
 use sheet::forms::first_out_of_form;
+use sheet::kept::NUMBERS;
+use sheet::letters::LINE;
 use sheet::lines::line_at;
 
 // An area of at most this many bytes takes one run of the lines; a longer one takes two.
 const ONE_RUN: usize = 65536;
 
-// So many numbers of a sheet's lines are kept for the run, four a line: those of the 2,184 lines of
-// 64 KiB. The lines behind them are read again. For a short sheet, of at most 64 lines, there is a
-// short list, which is filled more quickly.
-const KEPT: usize = 8736;
+// The numbers of so many lines are kept for the run: those that 64 KiB have whole. The lines behind
+// them are read again. A short sheet has a short list, which is filled more quickly.
+const LINES: usize = 2184;
 
-const KEPT_SHORT: usize = 256;
+const FEW_LINES: usize = 64;
 
-const SHORT: usize = 1920;
+const SHORT: usize = FEW_LINES * LINE;
 
 // What `run_sheet` does, with a list to keep the numbers of the lines in.
 fn run_keeping(sheet: &[u8], history: &mut [u8], kept: &mut [u32]) -> Ran
@@ -67,9 +68,9 @@ pub fn run_sheet(sheet: &[u8], history: &mut [u8]) -> Ran
     ensures { λ _. ⌜ SheetAgrees (now (sheet .entry)) ⌝ }
 {
     if sheet.len() <= SHORT {
-        let mut kept = [0; KEPT_SHORT];
+        let mut kept = [0; FEW_LINES * NUMBERS];
         return run_keeping(sheet, history, &mut kept);
     }
-    let mut kept = [0; KEPT];
+    let mut kept = [0; LINES * NUMBERS];
     run_keeping(sheet, history, &mut kept)
 }

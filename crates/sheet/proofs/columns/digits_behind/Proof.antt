@@ -8,8 +8,7 @@ use denote.Ref.{now}
 use borrow.Author.Needs.{needs}
 use borrow.Author.Tests.{not-true, not-false}
 use Rattle.sheet.specs.Columns.{isDigit}
-use Rattle.sheet.specs.Digits.{extendedBy}
-use Rattle.sheet.specs.Scans.{NumberSoFar}
+use Rattle.sheet.specs.Digits.{extendedBy, NumberSoFar}
 use Rattle.sheet.proofs.Digits.{value-small}
 use Rattle.sheet.proofs.Found.{number-stops, number-goes-on, number-ends}
 use Rattle.sheet.proofs.columns.digits_behind.Statement.{statement}

@@ -1,6 +1,6 @@
 use mathlib.Core.Path.{sym, _∙_}
 use borrow.Author.Tests.{not-true, not-false}
-use Rattle.sheet.specs.Scans.{inBounds}
+use Rattle.sheet.specs.Lines.{inBounds}
 use Rattle.sheet.proofs.Readings.{first-fails, second-fails, third-fails, last-decides}
 use borrow.Author.Needs.{needs}
 use Rattle.sheet.proofs.lines.in_rule.Statement.{statement}
