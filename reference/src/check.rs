@@ -3,18 +3,36 @@
 //! Slots past P, N+1 and L are not looked at.
 
 use crate::queue::{
-    Node, Place, Processor, Queue, Stage, Use, HEAD, LIMIT, MOST_LEVELS, MOST_NODES,
-    MOST_PROCESSORS,
+    Node, Place, Processor, Queue, Stage, Use, LIMIT, MOST_LEVELS, MOST_NODES, MOST_PROCESSORS,
 };
 
+type Levels = [u8; MOST_LEVELS];
+
+/// Whether each number is at most the greatest for its level.
+fn none_above(numbers: &Levels, greatest: &Levels) -> bool {
+    let above = |sum: u8, (number, most): (&u8, &u8)| sum | u8::from(number > most);
+    numbers.iter().zip(greatest).fold(0, above) == 0
+}
+
 impl Queue {
-    /// Whether the record passes check 21.
+    /// Whether the record passes check 21. But for the sizes nothing ends it
+    /// early: a record mostly passes, and without branches the compiler tests
+    /// several numbers at once.
     pub fn sound(&self) -> bool {
-        self.sizes_sound()
-            && (0..=self.tail()).all(|number| self.node_sound(number))
-            && self.processors[..self.processor_count as usize]
-                .iter()
-                .all(|processor| self.processor_sound(processor))
+        if !self.sizes_sound() {
+            return false;
+        }
+        let nodes = &self.nodes[..=self.tail() as usize];
+        let processors = &self.processors[..self.processor_count as usize];
+        let links = self.on_levels(self.tail());
+        let holders = self.on_levels(self.processor_count);
+        let (first, last) = (&nodes[0], &nodes[nodes.len() - 1]);
+        let ends = first.stamp.is_none() & last.stamp.is_none();
+        nodes.iter().fold(ends, |sound, node| {
+            sound & self.node_sound(node, &links, &holders)
+        }) && processors
+            .iter()
+            .all(|processor| self.processor_sound(processor, &links))
     }
 
     fn sizes_sound(&self) -> bool {
@@ -24,36 +42,35 @@ impl Queue {
             && self.clock <= LIMIT
     }
 
-    fn node_sound(&self, number: u8) -> bool {
-        let node: &Node = &self.nodes[number as usize];
-        let levels = self.level_count as usize;
-        let is_end = number == HEAD || number == self.tail();
-        let stamp_sound = match node.stamp {
-            None => true,
-            Some(time) => !is_end && time <= self.clock,
-        };
+    /// The greatest number for each level: this one on the queue's levels, and
+    /// any on those past them.
+    fn on_levels(&self, greatest: u8) -> [u8; MOST_LEVELS] {
+        let mut on = [u8::MAX; MOST_LEVELS];
+        on[..self.level_count as usize].fill(greatest);
+        on
+    }
+
+    fn node_sound(&self, node: &Node, links: &Levels, holders: &Levels) -> bool {
+        let stamp_sound = node.stamp.unwrap_or(0) <= self.clock;
         let use_sound = match node.usage {
             Use::Never | Use::InUse => true,
             Use::Retired(time) => time <= self.clock,
         };
-        node.forward[..levels].iter().all(|&n| n <= self.tail())
-            && node.locks[..levels]
-                .iter()
-                .all(|&holder| holder <= self.processor_count)
-            && node.node_lock <= self.processor_count
-            && node.due <= LIMIT
-            && node.item <= LIMIT
-            && node.ticket <= self.clock
-            && self.is_level(node.height)
-            && stamp_sound
-            && use_sound
+        none_above(&node.forward, links)
+            & none_above(&node.locks, holders)
+            & (node.node_lock <= self.processor_count)
+            & (node.due <= LIMIT)
+            & (node.item <= LIMIT)
+            & (node.ticket <= self.clock)
+            & self.is_level(node.height)
+            & stamp_sound
+            & use_sound
     }
 
-    fn processor_sound(&self, processor: &Processor) -> bool {
-        let levels = self.level_count as usize;
+    fn processor_sound(&self, processor: &Processor, links: &Levels) -> bool {
         processor.begin <= self.clock
             && processor.own <= self.tail()
-            && processor.saved[..levels].iter().all(|&n| n <= self.tail())
+            && none_above(&processor.saved, links)
             && self.stage_sound(processor)
     }
 
@@ -90,7 +107,7 @@ impl Queue {
     }
 
     fn is_level(&self, level: u8) -> bool {
-        1 <= level && level <= self.level_count
+        (1 <= level) & (level <= self.level_count)
     }
 
     fn is_place(&self, place: Place) -> bool {

@@ -1,88 +1,98 @@
 //! The record as bytes, in the layout of docs/IMAGE.md, and back.
 //!
-//! Every number is unsigned; one of four bytes has its lowest byte first.
-//! Bytes are taken only if they are the image of the record that they are
-//! read as. Whether the numbers are in their ranges is check 21.
+//! Every number is unsigned; one of four bytes has its lowest byte first. An
+//! image has the processors below P and the nodes 0 to N+1, and so the length
+//! that its sizes ask for. The record's other slots are as made, which is what
+//! they are read as. Bytes are taken only if they are the image of the record
+//! that they are read as. Whether the numbers are in their ranges is check 21.
 
 use crate::queue::{
-    Node, Operation, Place, Processor, Queue, Stage, Use, HEAD, MOST_LEVELS, MOST_PROCESSORS,
+    Node, Operation, Place, Processor, Queue, Stage, Use, MOST_LEVELS, MOST_NODES, MOST_PROCESSORS,
     NODE_SLOTS,
 };
 
-/// How many bytes an image has.
-pub const IMAGE_LENGTH: usize = 8561;
-/// Where the nodes start.
-pub const NODES_AT: usize = 7;
-/// How many bytes a node has.
-pub const NODE_BYTES: usize = 41;
-/// Where the processors start.
-pub const PROCESSORS_AT: usize = 8289;
+/// Where the processors start, behind the sizes and the clock.
+pub const PROCESSORS_AT: usize = 7;
 /// How many bytes a processor has.
 pub const PROCESSOR_BYTES: usize = 17;
+/// How many bytes a node has.
+pub const NODE_BYTES: usize = 41;
 
-/// The image of a record.
+/// The length of an image for so many processors and entries; none where no
+/// queue has these sizes.
+pub fn image_length(processors: u64, entries: u64) -> Option<usize> {
+    let made = (1..=MOST_PROCESSORS as u64).contains(&processors)
+        && (1..=MOST_NODES as u64).contains(&entries);
+    made.then(|| node_at(processors as usize, entries as usize + 2))
+}
+
+/// Where processor p starts.
+pub fn processor_at(p: usize) -> usize {
+    PROCESSORS_AT + PROCESSOR_BYTES * p
+}
+
+/// Where node x starts in the image of a queue for so many processors.
+pub fn node_at(processors: usize, x: usize) -> usize {
+    processor_at(processors) + NODE_BYTES * x
+}
+
+/// The image of a record. One whose P or N is more than a record has room for
+/// has none: the bytes are its sizes and all its slots, which nothing takes.
 pub fn encode(queue: &Queue) -> Vec<u8> {
-    let mut bytes = Vec::with_capacity(IMAGE_LENGTH);
-    bytes.push(queue.processor_count);
-    bytes.push(queue.node_count);
-    bytes.push(queue.level_count);
+    let sizes = [queue.processor_count, queue.node_count, queue.level_count];
+    let mut bytes = sizes.to_vec();
     put_number(&mut bytes, queue.clock);
-    for node in &queue.nodes {
-        put_node(&mut bytes, node);
-    }
-    for processor in &queue.processors {
+    let processors = usize::from(queue.processor_count);
+    for processor in queue.processors.iter().take(processors) {
         put_processor(&mut bytes, processor);
+    }
+    let nodes = usize::from(queue.node_count) + 2;
+    for node in queue.nodes.iter().take(nodes) {
+        put_node(&mut bytes, node);
     }
     bytes
 }
 
 /// The record of an image, or none where the bytes are the image of no record.
 pub fn decode(bytes: &[u8]) -> Option<Queue> {
-    if bytes.len() != IMAGE_LENGTH {
+    let (&processor_count, &node_count) = (bytes.first()?, bytes.get(1)?);
+    let (processors, entries) = (usize::from(processor_count), usize::from(node_count));
+    let room = processors <= MOST_PROCESSORS && entries <= MOST_NODES;
+    if !room || bytes.len() != node_at(processors, entries + 2) {
         return None;
     }
-    let mut reader = Reader { bytes };
-    let processor_count = reader.byte();
-    let node_count = reader.byte();
-    let level_count = reader.byte();
-    let clock = reader.number();
-    let mut nodes = [BLANK_NODE; NODE_SLOTS];
-    for node in &mut nodes {
-        *node = reader.node()?;
-    }
-    let mut processors = [BLANK_PROCESSOR; MOST_PROCESSORS];
-    for processor in &mut processors {
-        *processor = reader.processor()?;
-    }
-    Some(Queue {
+    let mut reader = Reader { bytes: &bytes[2..] };
+    let mut queue = Queue {
         processor_count,
         node_count,
-        level_count,
-        clock,
-        nodes,
-        processors,
-    })
+        level_count: reader.byte(),
+        clock: reader.number(),
+        nodes: [Node::made(node_count + 1); NODE_SLOTS],
+        processors: [Processor::made(); MOST_PROCESSORS],
+    };
+    for processor in &mut queue.processors[..processors] {
+        *processor = reader.processor()?;
+    }
+    for node in &mut queue.nodes[..entries + 2] {
+        *node = reader.node()?;
+    }
+    Some(queue)
 }
 
-const BLANK_NODE: Node = Node {
-    forward: [0; MOST_LEVELS],
-    locks: [0; MOST_LEVELS],
-    node_lock: 0,
-    mark: false,
-    stamp: None,
-    due: 0,
-    ticket: 0,
-    item: 0,
-    height: 0,
-    usage: Use::Never,
-};
-
-const BLANK_PROCESSOR: Processor = Processor {
-    begin: 0,
-    own: 0,
-    stage: Stage::Idle,
-    saved: [HEAD; MOST_LEVELS],
-};
+/// The record with the slots past P and N+1 as made: the one that has the same
+/// image.
+pub fn stored(queue: &Queue) -> Queue {
+    let mut stored = queue.clone();
+    let processors = usize::from(queue.processor_count);
+    for processor in stored.processors.iter_mut().skip(processors) {
+        *processor = Processor::made();
+    }
+    let entries = usize::from(queue.node_count);
+    for node in stored.nodes.iter_mut().skip(entries + 2) {
+        *node = Node::made(queue.tail());
+    }
+    stored
+}
 
 fn put_number(bytes: &mut Vec<u8>, number: u32) {
     bytes.extend_from_slice(&number.to_le_bytes());

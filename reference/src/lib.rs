@@ -14,6 +14,7 @@ pub mod dump;
 pub mod ghost;
 pub mod image;
 pub mod invariant;
+pub mod lists;
 pub mod mistakes;
 pub mod perturb;
 pub mod program;

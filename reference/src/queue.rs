@@ -184,33 +184,44 @@ pub fn fresh(p: u64, n: u64, l: u64) -> Result<Queue, Refusal> {
     if l < 1 || l > MOST_LEVELS as u64 {
         return Err(13);
     }
-    let tail = n as u8 + 1;
-    let node = Node {
-        forward: [tail; MOST_LEVELS],
-        locks: [FREE; MOST_LEVELS],
-        node_lock: FREE,
-        mark: false,
-        stamp: None,
-        due: 0,
-        ticket: 0,
-        item: 0,
-        height: 1,
-        usage: Use::Never,
-    };
-    let processor = Processor {
-        begin: 0,
-        own: 0,
-        stage: Stage::Idle,
-        saved: [HEAD; MOST_LEVELS],
-    };
     Ok(Queue {
         processor_count: p as u8,
         node_count: n as u8,
         level_count: l as u8,
         clock: 0,
-        nodes: [node; NODE_SLOTS],
-        processors: [processor; MOST_PROCESSORS],
+        nodes: [Node::made(n as u8 + 1); NODE_SLOTS],
+        processors: [Processor::made(); MOST_PROCESSORS],
     })
+}
+
+impl Node {
+    /// A node as a fresh queue with this tail has it, in every slot.
+    pub fn made(tail: u8) -> Node {
+        Node {
+            forward: [tail; MOST_LEVELS],
+            locks: [FREE; MOST_LEVELS],
+            node_lock: FREE,
+            mark: false,
+            stamp: None,
+            due: 0,
+            ticket: 0,
+            item: 0,
+            height: 1,
+            usage: Use::Never,
+        }
+    }
+}
+
+impl Processor {
+    /// A processor as a fresh queue has it, in every slot.
+    pub fn made() -> Processor {
+        Processor {
+            begin: 0,
+            own: 0,
+            stage: Stage::Idle,
+            saved: [HEAD; MOST_LEVELS],
+        }
+    }
 }
 
 /// The minute nearest to a count of seconds; half a minute goes to the even one

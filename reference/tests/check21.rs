@@ -3,7 +3,7 @@
 //! and L are neither looked at nor changed.
 
 use darthog_reference::calls::Outcome;
-use darthog_reference::perturb::{bases, breaking, past, to_the_edge, CALLS};
+use darthog_reference::perturb::{bases, breaking, past_levels, past_slots, to_the_edge, CALLS};
 use darthog_reference::schedule::Schedule;
 
 #[test]
@@ -51,7 +51,7 @@ fn each_field_at_the_edge_of_its_range_passes() {
 fn slots_past_the_sizes_are_not_looked_at_and_not_changed() {
     let mut count = 0;
     for (sizes, base) in bases() {
-        for change in past(&base) {
+        for change in past_slots(&base).into_iter().chain(past_levels(&base)) {
             let mut plain = base.clone();
             let mut changed = base.clone();
             (change.make)(&mut changed);

@@ -1,12 +1,17 @@
-//! The record as bytes: written and read back, and damaged bytes.
+//! The record as bytes: written and read back, stated images, and bytes that
+//! are no image.
 
 use darthog_reference::any_record::any_record;
+use darthog_reference::calls::{Call, Outcome};
 use darthog_reference::image::{
-    decode, encode, IMAGE_LENGTH, NODES_AT, NODE_BYTES, PROCESSORS_AT, PROCESSOR_BYTES,
+    decode, encode, image_length, node_at, processor_at, stored, NODE_BYTES, PROCESSOR_BYTES,
 };
+use darthog_reference::perturb::{bases, past_slots};
 use darthog_reference::perturb::{stages_at, stages_without_place, walk_stages_at};
-use darthog_reference::queue::{fresh, Place, Queue, Stage, Use, NODE_SLOTS};
+use darthog_reference::queue::{fresh, Place, Queue, Stage, Use};
 use darthog_reference::random::Random;
+use darthog_reference::stated::backlogs::printed;
+use darthog_reference::stated::images;
 
 const RECORDS: u64 = 2_000;
 
@@ -15,9 +20,101 @@ fn a_record_is_read_back_from_its_image() {
     let mut random = Random::new(1);
     for _ in 0..RECORDS {
         let queue = any_record(&mut random);
+        let (p, n) = (queue.processor_count, queue.node_count);
         let image = encode(&queue);
-        assert_eq!(image.len(), IMAGE_LENGTH);
-        assert!(decode(&image) == Some(queue));
+        assert_eq!(Some(image.len()), image_length(p.into(), n.into()));
+        assert!(decode(&image) == Some(stored(&queue)));
+    }
+}
+
+#[test]
+fn every_fresh_queue_is_read_back_as_it_is() {
+    for p in 1..=16 {
+        for n in 1..=200 {
+            let queue = fresh(p, n, 1 + n % 8).unwrap();
+            let image = encode(&queue);
+            assert_eq!(Some(image.len()), image_length(p, n));
+            assert!(decode(&image) == Some(queue), "{p} {n}");
+        }
+    }
+}
+
+/// No image says what stands past P and N+1, and it is read as made.
+#[test]
+fn slots_past_the_sizes_are_in_no_image() {
+    let mut count = 0;
+    for (_, base) in bases() {
+        for change in past_slots(&base) {
+            let mut queue = base.clone();
+            (change.make)(&mut queue);
+            assert!(queue != base, "{}", change.name);
+            assert!(encode(&queue) == encode(&base), "{}", change.name);
+            assert!(stored(&queue) == base, "{}", change.name);
+            count += 1;
+        }
+    }
+    assert!(count > 1000, "only {count} changes");
+}
+
+#[test]
+fn lengths_are_as_stated() {
+    for (p, n, length) in images::LENGTHS {
+        let got = image_length(p.into(), n.into());
+        assert_eq!(got.unwrap_or(0), length, "{p} processors, {n} entries");
+        assert_ne!(got, Some(0));
+    }
+    for ([p, n, _], length, _) in images::PLACES {
+        assert_eq!(image_length(p.into(), n.into()), Some(length));
+    }
+}
+
+#[test]
+fn the_printed_run_has_the_stated_images() {
+    let mut queue = fresh(1, 1, 1).unwrap();
+    let mut calls = printed().into_iter();
+    for (time, bytes) in images::printed() {
+        while queue.clock < time {
+            queue.call(&calls.next().expect("the run is longer"));
+        }
+        assert_eq!(encode(&queue), bytes, "at {time}");
+        assert!(decode(&bytes) == Some(queue.clone()), "at {time}");
+    }
+}
+
+#[test]
+fn the_pieces_stand_where_stated() {
+    for (what, queue, bytes) in images::pieces() {
+        assert!(encode(&queue) == bytes, "{what}");
+        assert!(decode(&bytes) == Some(queue), "{what}");
+    }
+    for (sizes, changed) in images::BEGUN {
+        let [p, n, l] = sizes.map(u64::from);
+        let mut queue = fresh(p, n, l).unwrap();
+        let mut expected = encode(&queue);
+        for (at, byte) in changed {
+            expected[at] = byte;
+        }
+        assert_eq!(queue.begin_delete_min(p - 1), Ok(1));
+        assert!(encode(&queue) == expected, "{sizes:?}");
+    }
+}
+
+/// Whether the bytes are the image of a record that passes check 21.
+fn taken(bytes: &[u8]) -> bool {
+    decode(bytes).is_some_and(|mut queue| queue.call(&Call::Backlog) != Outcome::Refused(21))
+}
+
+#[test]
+fn bytes_are_taken_and_refused_as_stated() {
+    for (sizes, at, byte, expected) in images::EDITS {
+        let [p, n, l] = sizes.map(u64::from);
+        let mut bytes = encode(&fresh(p, n, l).unwrap());
+        bytes[at] = byte;
+        assert_eq!(taken(&bytes), expected, "{sizes:?}: byte {at} is {byte}");
+    }
+    for (what, length, bytes) in images::refused() {
+        assert_eq!(bytes.len(), length, "{what}");
+        assert!(!taken(&bytes), "{what}");
     }
 }
 
@@ -34,19 +131,19 @@ fn the_numbers_stand_where_the_layout_has_them() {
     queue.processors[1].saved[7] = 6;
     let image = encode(&queue);
     assert_eq!(image[..7], [2, 3, 4, 0x0c, 0x0b, 0x0a, 0]);
-    let node = &image[NODES_AT + 3 * NODE_BYTES..][..NODE_BYTES];
+    let node = &image[node_at(2, 3)..][..NODE_BYTES];
     assert_eq!(node[..8], [4; 8]);
     assert_eq!(node[8..17], [0; 9]);
     assert_eq!(node[17..23], [1, 1, 7, 0, 0, 0]);
     assert_eq!(node[23..27], [3, 2, 1, 0]);
     assert_eq!(node[27..35], [0; 8]);
     assert_eq!(node[35..], [1, 2, 9, 0, 0, 0]);
-    let processor = &image[PROCESSORS_AT + PROCESSOR_BYTES..][..PROCESSOR_BYTES];
+    let processor = &image[processor_at(1)..][..PROCESSOR_BYTES];
     assert_eq!(
         processor,
         [5, 0, 0, 0, 3, 0, 0, 0, 0, 0, 0, 0, 0, 0, 0, 0, 6]
     );
-    assert_eq!(NODES_AT + NODE_SLOTS * NODE_BYTES, PROCESSORS_AT);
+    assert_eq!(node_at(2, 5), image.len());
 }
 
 /// The tags of docs/IMAGE.md's table, in the order of `perturb`'s stages.
@@ -68,38 +165,50 @@ fn tag_of(stage: Stage) -> u8 {
     queue.processors[0].stage = stage;
     let image = encode(&queue);
     assert!(decode(&image) == Some(queue));
-    image[PROCESSORS_AT + 5]
+    image[processor_at(0) + 5]
 }
 
 #[test]
-fn bytes_that_are_no_image_are_not_taken() {
+fn another_length_is_no_image() {
+    for (p, n) in [(1, 1), (2, 3), (16, 1), (1, 200), (16, 200)] {
+        let image = encode(&fresh(p, n, 4).unwrap());
+        let mut longer = image.clone();
+        longer.extend([0; 100]);
+        for length in (0..=200).chain(image.len() - 50..=longer.len()) {
+            let bytes = &longer[..length.min(longer.len())];
+            assert_eq!(decode(bytes).is_some(), bytes.len() == image.len());
+        }
+    }
+}
+
+#[test]
+fn wrong_tags_are_no_image() {
     let image = encode(&fresh(2, 3, 4).unwrap());
-    assert!(decode(&[]).is_none());
-    assert!(decode(&image[..IMAGE_LENGTH - 1]).is_none());
-    let mut longer = image.clone();
-    longer.push(0);
-    assert!(decode(&longer).is_none());
-    let node = NODES_AT + 200 * NODE_BYTES;
-    let processor = PROCESSORS_AT + 15 * PROCESSOR_BYTES;
-    // mark, stamp, a stamp's time, use, a retirement's time, stage, place, level, node of G3
     let damage = [
-        (node + 17, 2),
-        (node + 18, 2),
-        (node + 19, 1),
-        (node + 22, 1),
-        (node + 36, 3),
-        (node + 37, 1),
-        (node + 40, 1),
-        (processor + 5, 27),
-        (processor + 5, 255),
-        (processor + 6, 1),
-        (processor + 7, 1),
-        (processor + 8, 1),
+        // mark, stamp, a stamp's time, use, a retirement's time
+        (17, 2),
+        (18, 2),
+        (19, 1),
+        (22, 1),
+        (36, 3),
+        (37, 1),
+        (40, 1),
     ];
-    for (at, byte) in damage {
-        let mut damaged = image.clone();
-        damaged[at] = byte;
-        assert!(decode(&damaged).is_none(), "byte {at} is {byte}");
+    for node in 0..5 {
+        for (at, byte) in damage {
+            let mut damaged = image.clone();
+            damaged[node_at(2, node) + at] = byte;
+            assert!(decode(&damaged).is_none(), "node {node}: {at} is {byte}");
+        }
+    }
+    // stage, place, level, node of G3
+    for processor in 0..2 {
+        for (at, byte) in [(5, 27), (5, 255), (6, 1), (7, 1), (8, 1)] {
+            let mut damaged = image.clone();
+            damaged[processor_at(processor) + at] = byte;
+            let whose = format!("processor {processor}");
+            assert!(decode(&damaged).is_none(), "{whose}: {at} is {byte}");
+        }
     }
 }
 
@@ -110,11 +219,12 @@ fn taken_bytes_are_the_image_of_their_record() {
     let (mut taken, mut refused) = (0, 0);
     for _ in 0..RECORDS {
         let mut image = encode(&any_record(&mut random));
-        let at = random.below(IMAGE_LENGTH as u64) as usize;
+        let at = random.below(image.len() as u64) as usize;
         image[at] = random.below(256) as u8;
         match decode(&image) {
             Some(queue) => {
                 assert!(encode(&queue) == image, "byte {at}");
+                assert!(stored(&queue) == queue, "byte {at}");
                 taken += 1;
             }
             None => refused += 1,

@@ -195,8 +195,9 @@ pub fn to_the_edge(queue: &Queue) -> Vec<Change> {
     changes
 }
 
-/// Changes past P, N+1 and L, one slot at a time, which no call may notice.
-pub fn past(queue: &Queue) -> Vec<Change> {
+/// Changes past P and N+1, one slot at a time, which no call may notice and no
+/// image has: there these slots are as made.
+pub fn past_slots(queue: &Queue) -> Vec<Change> {
     let mut changes = Vec::new();
     let far = Place {
         node: u8::MAX,
@@ -235,6 +236,13 @@ pub fn past(queue: &Queue) -> Vec<Change> {
             processor.begin = u32::MAX
         }));
     }
+    changes
+}
+
+/// Changes past L, one slot at a time, which no call may notice; images have
+/// them.
+pub fn past_levels(queue: &Queue) -> Vec<Change> {
+    let mut changes = Vec::new();
     for i in queue.level_count as usize..MOST_LEVELS {
         for n in 0..=queue.tail() as usize {
             changes.push(on_node(n, format!("forward[{i}] past L"), move |node| {

@@ -21,6 +21,20 @@ pub enum Spot {
     Stage(usize, usize),
 }
 
+impl Spot {
+    /// Whether an image for these sizes has the place: it has no node past N+1
+    /// and no processor past P, and every level.
+    pub fn stored(&self, [p, n, _]: [u8; 3]) -> bool {
+        match *self {
+            Spot::Record => true,
+            Spot::Node(node) | Spot::NodeLevel(node, _) => node < usize::from(n) + 2,
+            Spot::Processor(number) | Spot::ProcessorLevel(number, _) | Spot::Stage(number, _) => {
+                number < usize::from(p)
+            }
+        }
+    }
+}
+
 /// The record that the rows of a table change.
 pub fn record(table: &Table) -> Queue {
     let [processor_count, node_count, level_count] = table.sizes;

@@ -1,0 +1,267 @@
+//! The layout of docs/IMAGE.md, byte by byte: the length of an image, the
+//! images of the printed run, where the pieces of a queue stand at the edges of
+//! its sizes, and bytes that every call refuses with 21.
+
+use crate::queue::{Node, Operation, Place, Processor, Queue, Stage, Use};
+
+/// Processors and entries, and the length of their image; 0 where no queue has
+/// these sizes.
+pub const LENGTHS: [(u32, u32, usize); 21] = [
+    (1, 1, 147),
+    (1, 2, 188),
+    (2, 1, 164),
+    (2, 3, 246),
+    (16, 1, 402),
+    (1, 200, 8_306),
+    (15, 200, 8_544),
+    (16, 199, 8_520),
+    (16, 200, 8_561),
+    (0, 0, 0),
+    (0, 1, 0),
+    (1, 0, 0),
+    (17, 1, 0),
+    (1, 201, 0),
+    (17, 201, 0),
+    (257, 1, 0),
+    (1, 257, 0),
+    (65_537, 65_537, 0),
+    (0x8000_0001, 1, 0),
+    (1, u32::MAX, 0),
+    (u32::MAX, u32::MAX, 0),
+];
+
+/// An idle processor.
+const IDLE: [u8; 17] = [0; 17];
+
+/// A node as made where the tail is node 2.
+const AS_MADE: [u8; 41] = [
+    2, 2, 2, 2, 2, 2, 2, 2, // forward
+    0, 0, 0, 0, 0, 0, 0, 0, // level locks
+    0, 0, // node lock, mark
+    0, 0, 0, 0, 0, // stamp
+    0, 0, 0, 0, // due
+    0, 0, 0, 0, // ticket
+    0, 0, 0, 0, // item
+    1, // height
+    0, 0, 0, 0, 0, // use
+];
+
+/// The printed run, one processor, one entry, one level: the image at these
+/// times. At 1 the Insert has begun, at 10 it is answered, at 14 the Delete_Min
+/// has marked the entry, at 26 it is handed out.
+pub fn printed() -> Vec<(u32, Vec<u8>)> {
+    let inserting = [1, 0, 0, 0, 1, 1, 0, 1, 0, 0, 0, 0, 0, 0, 0, 0, 0];
+    let removing = [11, 0, 0, 0, 1, 14, 0, 1, 0, 0, 0, 0, 0, 0, 0, 0, 0];
+    let mut leading_to_1 = AS_MADE;
+    leading_to_1[0] = 1;
+    let begun = [
+        2, 2, 2, 2, 2, 2, 2, 2, // forward
+        0, 0, 0, 0, 0, 0, 0, 0, // level locks
+        1, 0, // node lock, mark
+        0, 0, 0, 0, 0, // stamp
+        7, 0, 0, 0, // due
+        1, 0, 0, 0, // ticket
+        42, 0, 0, 0, // item
+        1, // height
+        1, 0, 0, 0, 0, // use
+    ];
+    let mut answered = begun;
+    answered[16..23].copy_from_slice(&[0, 0, 1, 10, 0, 0, 0]);
+    let mut marked = answered;
+    marked[17] = 1;
+    let mut retired = marked;
+    retired[0] = 0;
+    retired[36..41].copy_from_slice(&[2, 26, 0, 0, 0]);
+    let image = |time: u8, processor: &[u8], head: &[u8], entry: &[u8]| {
+        let front = [1, 1, 1, time, 0, 0, 0];
+        let bytes = [&front, processor, head, entry, &AS_MADE].concat();
+        (u32::from(time), bytes)
+    };
+    vec![
+        image(0, &IDLE, &AS_MADE, &AS_MADE),
+        image(1, &inserting, &AS_MADE, &begun),
+        image(10, &IDLE, &leading_to_1, &answered),
+        image(14, &removing, &leading_to_1, &marked),
+        image(26, &IDLE, &AS_MADE, &retired),
+    ]
+}
+
+/// Sizes, the length of their image, and where the first and the last
+/// processor, the head and the tail start.
+pub const PLACES: [([u8; 3], usize, [usize; 4]); 5] = [
+    ([1, 1, 1], 147, [7, 7, 24, 106]),
+    ([2, 3, 2], 246, [7, 24, 41, 205]),
+    ([16, 1, 8], 402, [7, 262, 279, 361]),
+    ([1, 200, 1], 8_306, [7, 7, 24, 8_265]),
+    ([16, 200, 8], 8_561, [7, 262, 279, 8_520]),
+];
+
+/// A processor with another number in each of its bytes.
+const MANY: Processor = Processor {
+    begin: 0x0403_0201,
+    own: 5,
+    stage: Stage::G4Unlock(Operation::DeleteMin, Place { node: 7, level: 8 }, 9),
+    saved: [10, 11, 12, 13, 14, 15, 16, 17],
+};
+const MANY_BYTES: [u8; 17] = [1, 2, 3, 4, 5, 19, 7, 8, 9, 10, 11, 12, 13, 14, 15, 16, 17];
+
+/// A node with another number in each of its bytes, but mark and tags.
+const FULL: Node = Node {
+    forward: [1, 2, 3, 4, 5, 6, 7, 8],
+    locks: [9, 10, 11, 12, 13, 14, 15, 16],
+    node_lock: 17,
+    mark: true,
+    stamp: Some(0x1716_1514),
+    due: 0x1b1a_1918,
+    ticket: 0x1f1e_1d1c,
+    item: 0x2322_2120,
+    height: 36,
+    usage: Use::Retired(0x2928_2726),
+};
+const FULL_BYTES: [u8; 41] = [
+    1, 2, 3, 4, 5, 6, 7, 8, 9, 10, 11, 12, 13, 14, 15, 16, 17, 1, 1, 20, 21, 22, 23, 24, 25, 26,
+    27, 28, 29, 30, 31, 32, 33, 34, 35, 36, 2, 38, 39, 40, 41,
+];
+
+/// A record whose numbers are all 0 but the sizes, with its slots past P and
+/// N+1 as made.
+fn zeros([processor_count, node_count, level_count]: [u8; 3]) -> Queue {
+    let (tail, last) = (node_count + 1, usize::from(node_count) + 1);
+    let made = Node {
+        forward: [tail; 8],
+        locks: [0; 8],
+        node_lock: 0,
+        mark: false,
+        stamp: None,
+        due: 0,
+        ticket: 0,
+        item: 0,
+        height: 1,
+        usage: Use::Never,
+    };
+    let zero = Node {
+        forward: [0; 8],
+        height: 0,
+        ..made
+    };
+    let idle = Processor {
+        begin: 0,
+        own: 0,
+        stage: Stage::Idle,
+        saved: [0; 8],
+    };
+    Queue {
+        processor_count,
+        node_count,
+        level_count,
+        clock: 0,
+        nodes: std::array::from_fn(|x| if x > last { made } else { zero }),
+        processors: [idle; 16],
+    }
+}
+
+/// Records with one piece that is not 0, and their images: the first and the
+/// last processor, the head, the tail. Check 21 takes none of them.
+pub fn pieces() -> Vec<(String, Queue, Vec<u8>)> {
+    let mut all = Vec::new();
+    for (sizes, length, starts) in PLACES {
+        let [p, n, _] = sizes.map(usize::from);
+        for (number, start) in starts.into_iter().enumerate() {
+            let mut queue = zeros(sizes);
+            let mut bytes = vec![0; length];
+            bytes[..3].copy_from_slice(&sizes);
+            match number {
+                0 => queue.processors[0] = MANY,
+                1 => queue.processors[p - 1] = MANY,
+                2 => queue.nodes[0] = FULL,
+                _ => queue.nodes[n + 1] = FULL,
+            }
+            let piece: &[u8] = if number < 2 { &MANY_BYTES } else { &FULL_BYTES };
+            bytes[start..start + piece.len()].copy_from_slice(piece);
+            all.push((format!("{sizes:?}, at {start}"), queue, bytes));
+        }
+    }
+    all
+}
+
+/// A place in an image, and the byte there.
+pub type ByteAt = (usize, u8);
+
+/// Fresh queues and the begin of a Delete_Min by their last processor: sizes,
+/// and all that differs from the fresh image.
+pub const BEGUN: [([u8; 3], [ByteAt; 4]); 5] = [
+    ([1, 1, 1], [(3, 1), (7, 1), (12, 11), (14, 1)]),
+    ([2, 3, 2], [(3, 1), (24, 1), (29, 11), (31, 1)]),
+    ([16, 1, 8], [(3, 1), (262, 1), (267, 11), (269, 1)]),
+    ([1, 200, 1], [(3, 1), (7, 1), (12, 11), (14, 1)]),
+    ([16, 200, 8], [(3, 1), (262, 1), (267, 11), (269, 1)]),
+];
+
+/// One byte of a fresh queue's image replaced: sizes, place, byte, and whether
+/// the calls take it. The last processor's own node (its fifth byte) and stage,
+/// the head's first forward number, the tail's mark, height and last byte.
+pub const EDITS: [([u8; 3], usize, u8, bool); 24] = [
+    ([1, 1, 1], 11, 2, true),
+    ([1, 1, 1], 11, 3, false),
+    ([1, 1, 1], 12, 27, false),
+    ([1, 1, 1], 24, 2, true),
+    ([1, 1, 1], 24, 3, false),
+    ([1, 1, 1], 123, 1, true),
+    ([1, 1, 1], 123, 2, false),
+    ([1, 1, 1], 146, 1, false),
+    ([2, 3, 2], 28, 4, true),
+    ([2, 3, 2], 28, 5, false),
+    ([2, 3, 2], 29, 27, false),
+    ([2, 3, 2], 41, 4, true),
+    ([2, 3, 2], 41, 5, false),
+    ([2, 3, 2], 222, 1, true),
+    ([2, 3, 2], 222, 2, false),
+    ([2, 3, 2], 245, 1, false),
+    ([16, 200, 8], 266, 201, true),
+    ([16, 200, 8], 266, 202, false),
+    ([16, 200, 8], 267, 27, false),
+    ([16, 200, 8], 279, 202, false),
+    ([16, 200, 8], 8_537, 1, true),
+    ([16, 200, 8], 8_537, 2, false),
+    ([16, 200, 8], 8_555, 9, false),
+    ([16, 200, 8], 8_560, 1, false),
+];
+
+/// Bytes as a fresh queue of any sizes would have them, also of sizes that no
+/// queue has: P processors and so many nodes.
+fn fresh_like(sizes: [u8; 3], nodes: usize) -> Vec<u8> {
+    let mut node = AS_MADE;
+    node[..8].fill(sizes[1].wrapping_add(1));
+    let mut bytes = sizes.to_vec();
+    bytes.extend([0; 4]);
+    bytes.extend(IDLE.repeat(usize::from(sizes[0])));
+    bytes.extend(node.repeat(nodes));
+    bytes
+}
+
+/// Bytes that every call refuses with 21, each with its length.
+pub fn refused() -> Vec<(&'static str, usize, Vec<u8>)> {
+    let short = |length: usize| fresh_like([1, 1, 1], 3)[..length].to_vec();
+    vec![
+        ("nothing", 0, short(0)),
+        ("P alone", 1, short(1)),
+        ("sizes alone", 3, short(3)),
+        ("no piece", 7, short(7)),
+        ("a byte too few", 146, short(146)),
+        ("a node too few", 106, fresh_like([1, 1, 1], 2)),
+        ("a node too many", 188, fresh_like([1, 1, 1], 4)),
+        ("no processor", 130, fresh_like([0, 1, 1], 3)),
+        ("no entry", 106, fresh_like([1, 0, 1], 2)),
+        ("neither", 89, fresh_like([0, 0, 1], 2)),
+        ("no level", 147, fresh_like([1, 1, 0], 3)),
+        ("9 levels", 147, fresh_like([1, 1, 9], 3)),
+        ("17 processors", 419, fresh_like([17, 1, 1], 3)),
+        ("201 entries", 8_347, fresh_like([1, 201, 1], 203)),
+        ("255 of both", 14_879, fresh_like([255, 255, 1], 257)),
+        (
+            "the largest, a node more",
+            8_602,
+            fresh_like([16, 200, 8], 203),
+        ),
+    ]
+}
