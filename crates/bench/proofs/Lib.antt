@@ -1,1 +1,1 @@
-pub mod Repeats
+pub mod Stepping

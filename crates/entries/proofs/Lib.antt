@@ -1,4 +1,2 @@
 pub mod Stored
-pub mod Sizes
-pub mod Kept
 pub mod Runs

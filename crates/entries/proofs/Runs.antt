@@ -1,109 +1,156 @@
 -- Calls on bytes are the calls on the record: the statements of specs/Lists. Assumes nothing.
 use mathlib.Core.Path.{_≡_, refl, sym, ap, _∙_}
-use mathlib.Core.Bool.{Bool, true, false, cond}
+use mathlib.Core.Bool.{Bool, true, false, cond, true≢false}
 use mathlib.Core.List.{List, [], _∷_}
 use Prim.Native.Nat.{ℕ}
-use Rattle.laws.proofs.Booleans.{cond-cases}
 use Rattle.checks.specs.declared.counting.Count.{Count}
 use Rattle.checks.specs.Backlog.{backlogOf, reportedCount}
-use Rattle.image.specs.declared.whole.Decoded.{Decoded}
-use Rattle.image.specs.Image.{imageOf, recordOf}
-use Rattle.image.proofs.Inverse.{Sized, read-write}
+use Rattle.image.specs.Image.{imageOf, queueIn, isImage}
+use Rattle.image.specs.OneToOne.{Sized, Trim}
+use Rattle.image.proofs.Inverse.{image-facts, image-taken, read-write, trim-in}
+use Rattle.image.proofs.Sizes.{sized-in}
+use Rattle.image_parts.proofs.Arrays.{fresh-sized}
+use Rattle.image_parts.proofs.Kept.{Kept, kept-insert, kept-delete, kept-step, sized-after}
+use Rattle.image_parts.proofs.Reached.{fresh-trim, all-sized, all-trim}
+use Rattle.image_parts.proofs.Sounds.{trim-after}
 use Rattle.record.specs.declared.queues.Queue.{Queue}
 use Rattle.record.specs.Queues.{freshQueue}
 use Rattle.rules.specs.declared.answers.Outcome.{Outcome}
-use Rattle.rules.specs.Answers.{refused}
+use Rattle.rules.specs.Answers.{refused, isRefused}
 use Rattle.rules.specs.Calls.{beginInsert, beginDelete, step}
-use Rattle.rules.specs.Runs.{Call, insert, deleteMin, steps, backlog, reply, after, afterAll}
-use Rattle.entries.specs.Entries.{replyOf, replyTo, isRefusal, onBytes, bytesAfter, countOn}
-use Rattle.entries.specs.Lists.{bytesAfterCall, replyToCall, bytesAfterAll, inNumbers, AcceptedIsRead, SameRun, BytesAreTheRecord}
-use Rattle.entries.proofs.Sizes.{fresh-sized, record-sized}
-use Rattle.entries.proofs.Kept.{Kept, kept-insert, kept-delete, kept-step}
+use Rattle.rules.specs.Runs.{
+  Call,
+  insert,
+  deleteMin,
+  steps,
+  backlog,
+  reply,
+  after,
+  afterAll,
+}
+use Rattle.rules.proofs.Untouched.{untouched}
+use Rattle.entries.specs.Entries.{replyOf, replyTo, onBytes, bytesAfter, countOn}
+use Rattle.entries.specs.Lists.{
+  bytesAfterCall,
+  replyToCall,
+  bytesAfterAll,
+  inNumbers,
+  AcceptedIsRead,
+  SameRun,
+  BytesAreTheRecord,
+}
 
 -- an accepted call on any bytes
-bytes-accepted : (b : List ℕ) (o : Outcome) → isRefusal (o .answer) ≡ false → bytesAfter b o ≡ imageOf (o .queue)
+bytes-accepted :
+    (b : List ℕ) (o : Outcome) → isRefused (o .answer) ≡ false → bytesAfter b o ≡ imageOf (o .queue)
 unfolding bytesAfter
 bytes-accepted b o h = rw h refl
 
-outcome-sized : (call : Queue → Outcome) → ((q : Queue) → Sized q → Kept q (call q)) → (b : List ℕ) → Sized (onBytes b call .queue)
+-- it was one on an image
+taken :
+    (b : List ℕ) (call : Queue → Outcome) → isRefused (onBytes b call .answer) ≡ false →
+    (isImage b ≡ true) × (onBytes b call ≡ call (queueIn b))
 unfolding onBytes
-outcome-sized call keeps b =
-    cond-cases (λ (o : Outcome). Sized (o .queue)) (recordOf b .ok) (call (recordOf b .queue)) (refused (recordOf b .queue) 21)
-    (λ h. keeps (recordOf b .queue) (record-sized b) .sized) (λ h. record-sized b)
+taken b call h = go (isImage b) refl h
+  where
+    go : (t : Bool) → isImage b ≡ t →
+        isRefused (cond t (call (queueIn b)) (refused (queueIn b) 21) .answer) ≡ false →
+        (isImage b ≡ true) ×
+        (cond (isImage b) (call (queueIn b)) (refused (queueIn b) 21) ≡ call (queueIn b))
+    go true e k = (e, rw e refl)
+    go false e k = absurd (true≢false k)
 
-accepted-read : (call : Queue → Outcome) → ((q : Queue) → Sized q → Kept q (call q)) → AcceptedIsRead call
-accepted-read call keeps b h =
-    ap recordOf (bytes-accepted b (onBytes b call) h) ∙ read-write (onBytes b call .queue) (outcome-sized call keeps b)
+module _ (call : Queue → Outcome) (c : Call) (is : (q : Queue) → call q .queue ≡ after q c) where
+  accepted-read : AcceptedIsRead call
+  accepted-read b h =
+      let t = taken b call h in
+      let f = image-facts b (t .0) in
+      let q = queueIn b in
+      let e : onBytes b call .queue ≡ after q c = ap (λ (o : Outcome). o .queue) (t .1) ∙ is q in
+      let S : Sized (onBytes b call .queue) = rw e (sized-after q (sized-in b) c) in
+      let T : Trim (onBytes b call .queue) =
+      rw e (trim-after q (after q c) (untouched q c) (trim-in b (f .few) (f .short))) in
+      let g = bytes-accepted b (onBytes b call) h in (
+        g,
+        (
+          ap isImage g ∙ image-taken (onBytes b call .queue) S T,
+          ap queueIn g
+              ∙ read-write (onBytes b call .queue) S T,
+        ),
+      )
 
-pub insert-read : (p due item height : ℕ) → AcceptedIsRead (λ q. beginInsert q p due item height)
-insert-read p due item height = accepted-read _ (λ q S. kept-insert q S p due item height)
+pub insert-read :
+    (p due item height : ℕ) → AcceptedIsRead (λ q. beginInsert q p due item height)
+insert-read p due item height = accepted-read _ (insert p due item height) (λ q. refl)
 
 pub delete-read : (p : ℕ) → AcceptedIsRead (λ q. beginDelete q p)
-delete-read p = accepted-read _ (λ q S. kept-delete q S p)
+delete-read p = accepted-read _ (deleteMin p) (λ q. refl)
 
 pub step-read : (p : ℕ) → AcceptedIsRead (λ q. step q p)
-step-read p = accepted-read _ (λ q S. kept-step q S p)
+step-read p = accepted-read _ (steps p) (λ q. refl)
 
 -- a call on the image of a record
-module _ (q : Queue) (S : Sized q) where
+module _ (q : Queue) (S : Sized q) (T : Trim q) where
   on-image : (call : Queue → Outcome) → onBytes (imageOf q) call ≡ call q
   unfolding onBytes
-  on-image call =
-      ap (λ (d : Decoded). cond (d .ok) (call (d .queue)) (refused (d .queue) 21)) {x = recordOf (imageOf q)} {y = record { ok = true; queue = q }} (read-write q S)
+  on-image call = rw (image-taken q S T) (ap call (read-write q S T))
 
   after-image : (o : Outcome) → Kept q o → bytesAfter (imageOf q) o ≡ imageOf (o .queue)
   unfolding bytesAfter
-  after-image o k = go (isRefusal (o .answer)) refl
+  after-image o k = go (isRefused (o .answer)) refl
     where
-      go : (t : Bool) → isRefusal (o .answer) ≡ t → cond (isRefusal (o .answer)) (imageOf q) (imageOf (o .queue)) ≡ imageOf (o .queue)
+      go : (t : Bool) → isRefused (o .answer) ≡ t →
+          cond (isRefused (o .answer)) (imageOf q) (imageOf (o .queue)) ≡ imageOf (o .queue)
       go true h = rw h (ap imageOf (sym (k .stays h)))
       go false h = rw h refl
 
-  called-after : (call : Queue → Outcome) → Kept q (call q) → bytesAfter (imageOf q) (onBytes (imageOf q) call) ≡ imageOf (call q .queue)
+  called-after :
+      (call : Queue → Outcome) → Kept q (call q) →
+      bytesAfter (imageOf q) (onBytes (imageOf q) call) ≡ imageOf (call q .queue)
   called-after call k = ap (bytesAfter (imageOf q)) (on-image call) ∙ after-image (call q) k
 
   count-image : countOn (imageOf q) ≡ backlogOf q
   unfolding countOn
-  count-image = rw (read-write q S) refl
+  count-image = rw (image-taken q S T) (ap backlogOf (read-write q S T))
 
   bytes-call : (c : Call) → bytesAfterCall (imageOf q) c ≡ imageOf (after q c)
-  bytes-call (insert p due item height) = called-after (λ (r : Queue). beginInsert r p due item height) (kept-insert q S p due item height)
+  bytes-call (insert p due item height) =
+      called-after (λ (r : Queue). beginInsert r p due item height)
+      (kept-insert q S p due item height)
   bytes-call (deleteMin p) = called-after (λ (r : Queue). beginDelete r p) (kept-delete q S p)
   bytes-call (steps p) = called-after (λ (r : Queue). step r p) (kept-step q S p)
   bytes-call backlog = refl
 
   reply-call : (c : Call) → replyToCall (imageOf q) c ≡ inNumbers (reply q c)
-  reply-call (insert p due item height) = ap replyTo (on-image (λ (r : Queue). beginInsert r p due item height))
+  reply-call (insert p due item height) =
+      ap replyTo (on-image (λ (r : Queue). beginInsert r p due item height))
   reply-call (deleteMin p) = ap replyTo (on-image (λ (r : Queue). beginDelete r p))
   reply-call (steps p) = ap replyTo (on-image (λ (r : Queue). step r p))
   reply-call backlog = ap (λ (k : Count). replyOf (reportedCount k)) count-image
 
-  sized-call : (c : Call) → Sized (after q c)
-  sized-call (insert p due item height) = kept-insert q S p due item height .sized
-  sized-call (deleteMin p) = kept-delete q S p .sized
-  sized-call (steps p) = kept-step q S p .sized
-  sized-call backlog = S
-
 -- after a list of calls
-sized-all : (q : Queue) → Sized q → (cs : List Call) → Sized (afterAll q cs)
-unfolding afterAll
-sized-all q S [] = S
-sized-all q S (c ∷ cs) = sized-all (after q c) (sized-call q S c) cs
-
-bytes-all : (q : Queue) → Sized q → (cs : List Call) → bytesAfterAll (imageOf q) cs ≡ imageOf (afterAll q cs)
+bytes-all :
+    (q : Queue) → Sized q → Trim q → (cs : List Call) →
+    bytesAfterAll (imageOf q) cs ≡ imageOf (afterAll q cs)
 unfolding bytesAfterAll afterAll
-bytes-all q S [] = refl
-bytes-all q S (c ∷ cs) = ap (λ (b : List ℕ). bytesAfterAll b cs) (bytes-call q S c) ∙ bytes-all (after q c) (sized-call q S c) cs
+bytes-all q S T [] = refl
+bytes-all q S T (c ∷ cs) =
+    ap (λ (b : List ℕ). bytesAfterAll b cs) (bytes-call q S T c)
+    ∙ bytes-all (after q c) (sized-after q S c) (trim-after q (after q c) (untouched q c) T) cs
 
-pub same-run : (q : Queue) → Sized q → (cs : List Call) → SameRun q (imageOf q) cs
-same-run q S cs =
-    let e = bytes-all q S cs in
-    let T = sized-all q S cs in
+pub same-run : (q : Queue) → Sized q → Trim q → (cs : List Call) → SameRun q (imageOf q) cs
+same-run q S T cs =
+    let e = bytes-all q S T cs in
+    let s = all-sized q S cs in
+    let t = all-trim q T cs in
     record {
       bytes = e;
-      read = ap recordOf e ∙ read-write (afterAll q cs) T;
-      next = λ c. ap (λ (b : List ℕ). replyToCall b c) e ∙ reply-call (afterAll q cs) T c;
+      image = ap isImage e ∙ image-taken (afterAll q cs) s t;
+      read = ap queueIn e ∙ read-write (afterAll q cs) s t;
+      next = λ c. ap (λ (b : List ℕ). replyToCall b c) e ∙ reply-call (afterAll q cs) s t c;
     }
 
 pub bytes-are-the-record : BytesAreTheRecord
-bytes-are-the-record P N L cs = same-run (freshQueue P N L) (fresh-sized P N L) cs
+bytes-are-the-record P N L R cs =
+    same-run (freshQueue P N L) (fresh-sized P N L)
+    (fresh-trim P N L (R .processors-high) (R .entries-high)) cs

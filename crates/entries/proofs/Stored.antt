@@ -1,110 +1,187 @@
--- What the entries' proofs need of the definitions of specs/Entries, over any bytes and any outcome. Assumes nothing.
-use mathlib.Core.Path.{_≡_, refl, sym, ap, _∙_}
-use mathlib.Core.Bool.{Bool, true, false, true≢false}
-use mathlib.Core.List.{List, []}
+-- What the entries' proofs need of the definitions of specs/Entries, over any bytes and any
+-- outcome. Assumes nothing.
+use mathlib.Core.Path.{_≡_, refl, sym, ap, subst, _∙_}
+use mathlib.Core.Bool.{Bool, true, false, cond, _&&_, _||_, true≢false}
+use mathlib.Core.List.{List, [], _∷_}
 use Prim.Native.Nat.{ℕ, _<_}
 use native.Mathlib.Omega.{arith}
-use lib.Dec.{eqb}
-use lib.ListN.{length}
-use borrow.Author.Tests.{eq-eqb, eqb-true, ne-eqb}
-use Rattle.checks.specs.declared.counting.Count.{Count}
-use Rattle.checks.specs.declared.making.Made.{Made}
-use Rattle.checks.specs.Backlog.{backlogOf, reportedCount}
-use Rattle.image.specs.declared.whole.Decoded.{Decoded}
-use Rattle.image.specs.Image.{imageLength, imageOf, areaAfter, recordOf}
+use lib.ListN.{length, getD}
+use borrow.Author.Tests.{eq-eqb, ne-eqb, le-ltb}
+use Rattle.laws.specs.HowMany.{howMany}
+use Rattle.laws.proofs.Counting.{and-left, and-right}
+use Rattle.checks.specs.declared.counting.Count.the-variants as count
+use Rattle.checks.specs.Backlog.{pendingAt, reportedCount}
+use Rattle.checks.specs.Check.{valid}
+use Rattle.checks.specs.Making.{outside, made}
+use Rattle.checks.proofs.Made.{made-sizes, made-fresh}
 use Rattle.record.specs.declared.queues.Queue.{Queue}
+use Rattle.record.specs.Limits.{maxProcessors, maxEntries}
+use Rattle.record.specs.Queues.{freshQueue}
 use Rattle.record.specs.Report.{report}
+use Rattle.rules.specs.declared.answers.Answer.{Answer}
 use Rattle.rules.specs.declared.answers.Outcome.{Outcome}
+use Rattle.rules.specs.Answers.{reported, refused, isRefused}
+use Rattle.rules.specs.Calls.{onRecord, beginInsertValid, beginDeleteValid, stepValid}
+use Rattle.rules.proofs.Inner.{step-inner, insert-inner, delete-inner}
+use Rattle.image.proofs.Sizes.{sized-in}
+use Rattle.image.specs.Image.{imageLength, imageOf, queueIn, isImage, passesOf, Sound}
+use Rattle.image_parts.specs.Given.{Gives}
+use Rattle.image_parts.proofs.Kept.{Kept, kept-insert, kept-delete, kept-step}
 use Rattle.entries.specs.declared.replies.Reply.{Reply}
-use Rattle.entries.specs.Entries.{replyOf, replyTo, isRefusal, onBytes, bytesAfter, countOn, makeCode, bytesMade}
+use Rattle.entries.specs.Entries.{
+  replyOf,
+  replyTo,
+  onBytes,
+  bytesAfter,
+  countOn,
+  lengthFor,
+  makeCode,
+  bytesMade,
+}
 
--- bytes that are taken are as long as an image
-pub taken-long : (b : List ℕ) (d : Decoded) → d ≡ recordOf b → d .ok ≡ true → length b ≡ imageLength
-taken-long b d e ok = go (eqb (length b) imageLength) refl
-  where
-    go : (t : Bool) → eqb (length b) imageLength ≡ t → length b ≡ imageLength
-    go true h = eqb-true _ _ h
-    go false h =
-        let short : recordOf b .ok ≡ false = rw h refl in
-        absurd (true≢false (sym ok ∙ ap (λ (x : Decoded). x .ok) e ∙ short))
+-- a call on any bytes: by its inner form where they pass, and refused with 21 where not
+module _ (b : List ℕ) (inner : Queue → Outcome) where
+  pub passing : passesOf b ≡ true → onBytes b (λ q. onRecord q (inner q)) ≡ inner (queueIn b)
+  unfolding onBytes passesOf
+  passing h =
+      rw (and-left (isImage b) (valid (queueIn b)) h, and-right (isImage b) (valid (queueIn b)) h)
+      refl
 
--- bytes that are not taken: the reply is 21, and they stay
-pub none-read :
-    (b : List ℕ) (call : Queue → Outcome) (d : Decoded) (r : Reply) →
-    d ≡ recordOf b →
-    d .ok ≡ false →
-    r ≡ replyOf (report 21 []) →
-    (r ≡ replyTo (onBytes b call)) × (b ≡ bytesAfter b (onBytes b call))
-unfolding onBytes bytesAfter
-none-read b call d r e ok s =
-    let o = sym (ap (λ (x : Decoded). x .ok) e) ∙ ok in
-    (rw o s, rw o refl)
+  pub failing :
+      passesOf b ≡ false → onBytes b (λ q. onRecord q (inner q)) ≡ refused (queueIn b) 21
+  unfolding onBytes passesOf
+  failing h = go (isImage b) (valid (queueIn b)) h
+    where
+      go : (x y : Bool) → (x && y) ≡ false →
+          cond x (cond y (inner (queueIn b)) (refused (queueIn b) 21)) (refused (queueIn b) 21)
+          ≡ refused (queueIn b) 21
+      go true true k = absurd (true≢false k)
+      go true false k = refl
+      go false y k = refl
 
-taken-call : (b : List ℕ) (call : Queue → Outcome) (d : Decoded) → d ≡ recordOf b → d .ok ≡ true → call (d .queue) ≡ onBytes b call
-unfolding onBytes
-taken-call b call d e ok =
-    let k = sym (ap (λ (x : Decoded). x .ok) e) ∙ ok in
-    rw k (ap (λ (x : Decoded). call (x .queue)) e)
+  pub turned-down :
+      (r : Reply) → passesOf b ≡ false → r ≡ replyOf (report 21 []) →
+      let o = onBytes b (λ q. onRecord q (inner q)) in
+      (r ≡ replyTo o) × (b ≡ bytesAfter b o)
+  unfolding bytesAfter
+  turned-down r h e =
+      let f = failing h in (
+        e ∙ ap replyTo (sym f),
+        ap (λ (o : Outcome). cond (isRefused (o .answer)) b (imageOf (o .queue))) (sym f),
+      )
 
--- bytes that are taken: the reply and the bytes are those of the call's outcome
-pub called :
-    (b after : List ℕ) (call : Queue → Outcome) (d : Decoded) (o : Outcome) (r : Reply) →
-    d ≡ recordOf b →
-    d .ok ≡ true →
-    o ≡ call (d .queue) →
-    r ≡ replyTo o →
-    after ≡ bytesAfter b o →
-    (r ≡ replyTo (onBytes b call)) × (after ≡ bytesAfter b (onBytes b call))
-called b after call d o r e ok f s t =
-    let same : o ≡ onBytes b call = f ∙ taken-call b call d e ok in
-    (s ∙ ap replyTo same, t ∙ ap (bytesAfter b) same)
-
--- what `store` leaves
-pub stays : (b : List ℕ) (o : Outcome) → isRefusal (o .answer) ≡ true → b ≡ bytesAfter b o
-unfolding bytesAfter
-stays b o h = rw h refl
-
-pub stored :
-    (b after : List ℕ) (o : Outcome) →
-    length b ≡ imageLength →
-    isRefusal (o .answer) ≡ false →
-    after ≡ areaAfter (o .queue) b →
-    after ≡ bytesAfter b o
-unfolding bytesAfter
-stored b after o long h e = rw h (e ∙ rw (eq-eqb _ _ long) refl)
+  pub carried-out :
+      (after : List ℕ) (a : Answer) (r : Reply) → passesOf b ≡ true → Sound b →
+      Kept (queueIn b) (inner (queueIn b)) → Gives (inner (queueIn b)) after a →
+      r ≡ replyOf (reported a) →
+      let o = onBytes b (λ q. onRecord q (inner q)) in
+      (r ≡ replyTo o) × (after ≡ bytesAfter b o)
+  unfolding bytesAfter
+  carried-out after a r h s k g e =
+      let f = passing h in (
+        e ∙ ap (λ (x : Answer). replyOf (reported x)) (g .answer) ∙ ap replyTo (sym f),
+        g .bytes ∙ left (isRefused (inner (queueIn b) .answer)) refl
+            ∙ ap (λ (o : Outcome). cond (isRefused (o .answer)) b (imageOf (o .queue))) (sym f),
+      )
+    where
+      left : (t : Bool) → isRefused (inner (queueIn b) .answer) ≡ t →
+          imageOf (inner (queueIn b) .queue)
+          ≡ cond (isRefused (inner (queueIn b) .answer)) b (imageOf (inner (queueIn b) .queue))
+      left true x = rw x (ap imageOf (k .stays x) ∙ s .image)
+      left false x = rw x refl
 
 -- Backlog
-pub none-counted : (b : List ℕ) (d : Decoded) (r : Reply) → d ≡ recordOf b → d .ok ≡ false → r ≡ replyOf (report 21 []) → r ≡ replyOf (reportedCount (countOn b))
-unfolding countOn
-none-counted b d r e ok s =
-    let o = sym (ap (λ (x : Decoded). x .ok) e) ∙ ok in
-    rw o s
+module _ (b : List ℕ) (r : Reply) where
+  pub not-counted :
+      passesOf b ≡ false → r ≡ replyOf (report 21 []) → r ≡ replyOf (reportedCount (countOn b))
+  unfolding countOn passesOf
+  not-counted h e = e ∙ go (isImage b) (valid (queueIn b)) h
+    where
+      go : (x y : Bool) → (x && y) ≡ false →
+          replyOf (report 21 [])
+          ≡ replyOf
+          (reportedCount
+          (cond x
+          (cond y (count.Pending (howMany (pendingAt (queueIn b)) (queueIn b .entries)))
+          (count.Refused 21)) (count.Refused 21)))
+      go true true k = absurd (true≢false k)
+      go true false k = refl
+      go false y k = refl
 
-taken-count : (b : List ℕ) (d : Decoded) → d ≡ recordOf b → d .ok ≡ true → backlogOf (d .queue) ≡ countOn b
-unfolding countOn
-taken-count b d e ok =
-    let k = sym (ap (λ (x : Decoded). x .ok) e) ∙ ok in
-    rw k (ap (λ (x : Decoded). backlogOf (x .queue)) e)
+  pub counted :
+      passesOf b ≡ true → (k : ℕ) → k ≡ howMany (pendingAt (queueIn b)) (getD b 1 0) →
+      r ≡ replyOf (report 0 (k ∷ [])) → r ≡ replyOf (reportedCount (countOn b))
+  unfolding countOn passesOf queueIn
+  counted h k e f =
+      f ∙ rw (
+        e,
+        and-left (isImage b) (valid (queueIn b)) h,
+        and-right (isImage b)
+            (valid (queueIn b)) h,
+      ) refl
 
-pub counted : (b : List ℕ) (d : Decoded) (c : Count) (r : Reply) → d ≡ recordOf b → d .ok ≡ true → c ≡ backlogOf (d .queue) → r ≡ replyOf (reportedCount c) → r ≡ replyOf (reportedCount (countOn b))
-counted b d c r e ok f s = s ∙ ap (λ (x : Count). replyOf (reportedCount x)) (f ∙ taken-count b d e ok)
+-- the length of an image
+module _ (p n : ℕ) where
+  pub no-length : (outside p maxProcessors || outside n maxEntries) ≡ true → 0 ≡ lengthFor p n
+  unfolding lengthFor
+  no-length h = rw h refl
 
--- making: refused by the sizes; made; refused by the length
-pub not-made : (b : List ℕ) (m n : Made) → m ≡ n → 0 < m .refusal → (m .refusal ≡ makeCode b n) × (b ≡ bytesMade b n)
-unfolding makeCode bytesMade
-not-made b m n e h =
-    let ne : ¬ (m .refusal ≡ 0) = λ z. omega arith in
-    let k : eqb (n .refusal) 0 ≡ false = sym (ap (λ (x : Made). eqb (x .refusal) 0) e) ∙ ne-eqb _ _ ne in
-    (rw k (ap (λ (x : Made). x .refusal) e), rw k refl)
+  pub some-length :
+      outside p maxProcessors ≡ false → outside n maxEntries ≡ false →
+      imageLength p n ≡ lengthFor p n
+  unfolding lengthFor
+  some-length h k = rw (h, k) refl
 
-pub made-in : (b after : List ℕ) (m n : Made) → m ≡ n → m .refusal ≡ 0 → eqb (length b) imageLength ≡ true → after ≡ areaAfter (m .queue) b → (0 ≡ makeCode b n) × (after ≡ bytesMade b n)
-unfolding makeCode bytesMade
-made-in b after m n e h long f =
-    let k : eqb (n .refusal) 0 ≡ true = sym (ap (λ (x : Made). eqb (x .refusal) 0) e) ∙ eq-eqb _ _ h in
-    (rw (k, long) refl, rw (k, long) (f ∙ rw long (ap (λ (x : Made). imageOf (x .queue)) e)))
+-- making
+module _ (b : List ℕ) (p n l : ℕ) where
+  pub not-made :
+      0 < made p n l .refusal →
+      (made p n l .refusal ≡ makeCode b (made p n l)) × (b ≡ bytesMade b (made p n l))
+  unfolding makeCode bytesMade
+  not-made h =
+      let ne : (made p n l .refusal ≡ 0 → ⊥) = λ z. omega arith in
+      let k = ne-eqb (made p n l .refusal) 0 ne in
+      (rw k refl, rw (k, k) refl)
 
-pub not-long : (b after : List ℕ) (m n : Made) → m ≡ n → m .refusal ≡ 0 → eqb (length b) imageLength ≡ false → after ≡ areaAfter (m .queue) b → (21 ≡ makeCode b n) × (after ≡ bytesMade b n)
-unfolding makeCode bytesMade
-not-long b after m n e h short f =
-    let k : eqb (n .refusal) 0 ≡ true = sym (ap (λ (x : Made). eqb (x .refusal) 0) e) ∙ eq-eqb _ _ h in
-    (rw (k, short) refl, rw (k, short) (f ∙ rw short refl))
+  module _ (z : made p n l .refusal ≡ 0) where
+    pub not-long :
+        (length b ≡ imageLength p n → ⊥) →
+        (21 ≡ makeCode b (made p n l)) × (b ≡ bytesMade b (made p n l))
+    unfolding makeCode bytesMade
+    not-long h = let k = ne-eqb (length b) (imageLength p n) h in
+        (rw (made-fresh p n l z, k) refl, rw (made-fresh p n l z, k) refl)
+
+    pub made-in :
+        (after : List ℕ) → length b ≡ imageLength p n → after ≡ imageOf (freshQueue p n l) →
+        (0 ≡ makeCode b (made p n l)) × (after ≡ bytesMade b (made p n l))
+    unfolding makeCode bytesMade
+    made-in after h e = let k = eq-eqb (length b) (imageLength p n) h in
+        (rw (made-fresh p n l z, k) refl, rw (made-fresh p n l z, k) e)
+
+-- the inner forms keep what a call keeps
+module _ (b : List ℕ) (s : Sound b) (p : ℕ) where
+  pub step-keeps : Kept (queueIn b) (stepValid (queueIn b) p)
+  step-keeps =
+      subst (Kept (queueIn b)) (step-inner (queueIn b) p (s .passes))
+      (kept-step (queueIn b) (sized-in b) p)
+
+  pub delete-keeps : Kept (queueIn b) (beginDeleteValid (queueIn b) p)
+  delete-keeps =
+      subst (Kept (queueIn b)) (delete-inner (queueIn b) p (s .passes))
+      (kept-delete (queueIn b) (sized-in b) p)
+
+  pub insert-keeps :
+      (due item height : ℕ) → Kept (queueIn b) (beginInsertValid (queueIn b) p due item height)
+  insert-keeps due item height =
+      subst (Kept (queueIn b)) (insert-inner (queueIn b) p due item height (s .passes))
+      (kept-insert (queueIn b) (sized-in b) p due item height)
+
+-- sizes that are not refused
+pub outside-not :
+    (p n l : ℕ) → made p n l .refusal ≡ 0 →
+    (outside p maxProcessors ≡ false) × (outside n maxEntries ≡ false)
+outside-not p n l z =
+    let t = made-sizes p n l z in (
+      rw (le-ltb p 1 (t .processors-low), le-ltb maxProcessors p (t .processors-high)) refl,
+      rw (le-ltb n 1 (t .entries-low), le-ltb maxEntries n (t .entries-high)) refl,
+    )

@@ -1,7 +1,8 @@
--- The calls on lent bytes. The record is the one that the bytes are the image of. "A refusal returns its number and leaves everything lent
--- untouched": bytes that are the image of no record are refused with 21, like a record that does not pass check 21.
+-- The calls on lent bytes. The record is the one that the bytes are the image of. A refused call
+-- leaves the bytes (01, refusals); bytes that are the image of no record are refused with 21, like
+-- a record that does not pass check 21.
 use Prim.Native.Nat.{ℕ}
-use mathlib.Core.Bool.{Bool, true, false, cond}
+use mathlib.Core.Bool.{Bool, cond, _||_}
 use mathlib.Core.List.{List}
 use lib.Dec.{eqb}
 use lib.ListN.{length, getD}
@@ -9,13 +10,13 @@ use Rattle.checks.specs.declared.counting.Count.{Count}
 use Rattle.checks.specs.declared.counting.Count.the-variants as count
 use Rattle.checks.specs.declared.making.Made.{Made}
 use Rattle.checks.specs.Backlog.{backlogOf}
-use Rattle.image.specs.Image.{imageLength, imageOf, recordOf}
+use Rattle.checks.specs.Making.{outside}
+use Rattle.image.specs.Image.{imageLength, imageOf, queueIn, isImage}
 use Rattle.record.specs.declared.queues.Queue.{Queue}
+use Rattle.record.specs.Limits.{maxProcessors, maxEntries}
 use Rattle.record.specs.Report.{Report}
-use Rattle.rules.specs.declared.answers.Answer.{Answer}
-use Rattle.rules.specs.declared.answers.Answer.the-variants as ans
 use Rattle.rules.specs.declared.answers.Outcome.{Outcome}
-use Rattle.rules.specs.Answers.{reported, refused}
+use Rattle.rules.specs.Answers.{reported, refused, isRefused}
 use Rattle.entries.specs.declared.replies.Reply.{Reply}
 
 -- an answer as four numbers: its number, its values, and 0 for a value that it has not
@@ -30,35 +31,29 @@ replyOf r = record {
 abbrev pub replyTo : Outcome → Reply
 replyTo o = replyOf (reported (o .answer))
 
-abbrev pub isRefusal : Answer → Bool
-isRefusal (ans.Refused n) = true
-isRefusal (ans.Began t) = false
-isRefusal ans.Moved = false
-isRefusal ans.Waits = false
-isRefusal ans.Empty = false
-isRefusal (ans.Marked e) = false
-isRefusal (ans.Inserted e) = false
-isRefusal (ans.HandedOut e) = false
-
 -- the outcome of a call on lent bytes
 unfoldable pub onBytes : List ℕ → (Queue → Outcome) → Outcome
-onBytes b call = cond (recordOf b .ok) (call (recordOf b .queue)) (refused (recordOf b .queue) 21)
+onBytes b call = cond (isImage b) (call (queueIn b)) (refused (queueIn b) 21)
 
 -- the bytes after a call with this outcome
 unfoldable pub bytesAfter : List ℕ → Outcome → List ℕ
-bytesAfter b o = cond (isRefusal (o .answer)) b (imageOf (o .queue))
+bytesAfter b o = cond (isRefused (o .answer)) b (imageOf (o .queue))
 
 -- Backlog on lent bytes
 unfoldable pub countOn : List ℕ → Count
-countOn b = cond (recordOf b .ok) (backlogOf (recordOf b .queue)) (count.Refused 21)
+countOn b = cond (isImage b) (backlogOf (queueIn b)) (count.Refused 21)
 
--- whether a queue is made in these bytes
-abbrev pub isMade : List ℕ → Made → Bool
-isMade b m = cond (eqb (m .refusal) 0) (eqb (length b) imageLength) false
+-- how long the image of a queue of these sizes is, or 0 where no queue has them
+unfoldable pub lengthFor : ℕ → ℕ → ℕ
+lengthFor p n = cond (outside p maxProcessors || outside n maxEntries) 0 (imageLength p n)
 
--- making a queue in lent bytes: 11, 12, 13, then 21 where the bytes are not as long as an image
+-- the bytes are as long as the image of this record
+abbrev pub fitsQueue : List ℕ → Queue → Bool
+fitsQueue b q = eqb (length b) (imageLength (q .processors) (q .entries))
+
+-- making a queue in lent bytes: 11, 12, 13, then 21 where the bytes are not as long as its image
 unfoldable pub makeCode : List ℕ → Made → ℕ
-makeCode b m = cond (eqb (m .refusal) 0) (cond (eqb (length b) imageLength) 0 21) (m .refusal)
+makeCode b m = cond (eqb (m .refusal) 0) (cond (fitsQueue b (m .queue)) 0 21) (m .refusal)
 
 unfoldable pub bytesMade : List ℕ → Made → List ℕ
-bytesMade b m = cond (isMade b m) (imageOf (m .queue)) b
+bytesMade b m = cond (eqb (makeCode b m) 0) (imageOf (m .queue)) b

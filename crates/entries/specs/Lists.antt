@@ -4,15 +4,16 @@ use mathlib.Core.Path.{_≡_}
 use mathlib.Core.Bool.{true, false}
 use mathlib.Core.List.{List, [], _∷_}
 use Rattle.checks.specs.Backlog.{reportedCount}
-use Rattle.image.specs.Image.{imageOf, recordOf}
+use Rattle.image.specs.Image.{imageOf, queueIn, isImage}
 use Rattle.record.specs.declared.queues.Queue.{Queue}
 use Rattle.record.specs.Queues.{freshQueue}
 use Rattle.rules.specs.declared.answers.Outcome.{Outcome}
-use Rattle.rules.specs.Answers.{reported}
+use Rattle.rules.specs.Answers.{reported, isRefused}
 use Rattle.rules.specs.Calls.{beginInsert, beginDelete, step}
+use Rattle.rules.specs.Demand3.{InRange}
 use Rattle.rules.specs.Runs.{Call, insert, deleteMin, steps, backlog, Reply as Replied, answered, counted, reply, afterAll}
 use Rattle.entries.specs.declared.replies.Reply.{Reply}
-use Rattle.entries.specs.Entries.{replyOf, replyTo, isRefusal, onBytes, bytesAfter, countOn}
+use Rattle.entries.specs.Entries.{replyOf, replyTo, onBytes, bytesAfter, countOn}
 
 -- the bytes that an entry leaves, and its reply
 abbrev pub bytesAfterCall : List ℕ → Call → List ℕ
@@ -37,17 +38,25 @@ abbrev pub inNumbers : Replied → Reply
 inNumbers (answered a) = replyOf (reported a)
 inNumbers (counted k) = replyOf (reportedCount k)
 
--- A call on any bytes, if it is accepted, leaves bytes that are read as the defined record.
+-- A call on any bytes, if it is accepted, leaves the image of the defined record, and bytes that are
+-- read as it.
 abbrev pub AcceptedIsRead : (Queue → Outcome) → Type 0
 AcceptedIsRead call =
-    (b : List ℕ) → isRefusal (onBytes b call .answer) ≡ false → recordOf (bytesAfter b (onBytes b call)) ≡ record { ok = true; queue = onBytes b call .queue }
+    (b : List ℕ) → isRefused (onBytes b call .answer) ≡ false →
+    (bytesAfter b (onBytes b call) ≡ imageOf (onBytes b call .queue))
+    × ((isImage (bytesAfter b (onBytes b call)) ≡ true)
+    × (queueIn (bytesAfter b (onBytes b call)) ≡ onBytes b call .queue))
 
--- Calls on bytes are the calls of the theorem of demand 3: after every list of calls on the image of a queue that was just made, the bytes are the
--- image of the record after these calls, are read as this record, and the reply to the next call is that of the record, in numbers.
+-- Calls on bytes are the calls of the theorem of demand 3: after every list of calls on the image of
+-- a queue that was just made, the bytes are the image of the record after these calls, are read as
+-- this record, and the reply to the next call is that of the record, in numbers.
 pub record SameRun (q : Queue) (b : List ℕ) (cs : List Call) : Type 0 where
   pub bytes : bytesAfterAll b cs ≡ imageOf (afterAll q cs)
-  pub read : recordOf (bytesAfterAll b cs) ≡ record { ok = true; queue = afterAll q cs }
+  pub image : isImage (bytesAfterAll b cs) ≡ true
+  pub read : queueIn (bytesAfterAll b cs) ≡ afterAll q cs
   pub next : (c : Call) → replyToCall (bytesAfterAll b cs) c ≡ inNumbers (reply (afterAll q cs) c)
 
 abbrev pub BytesAreTheRecord : Type 0
-BytesAreTheRecord = (P N L : ℕ) (cs : List Call) → SameRun (freshQueue P N L) (imageOf (freshQueue P N L)) cs
+BytesAreTheRecord =
+    (P N L : ℕ) → InRange P N L → (cs : List Call) →
+    SameRun (freshQueue P N L) (imageOf (freshQueue P N L)) cs

@@ -4,25 +4,22 @@ ghost use Rattle.checks.specs.Backlog.{reportedCount};
 ghost use Rattle.checks.specs.Due.{minutesOf, reportedMinutes};
 ghost use Rattle.entries.specs.Entries.{replyOf, countOn};
 use crate::replies::Reply;
-use crate::replies::count_reply;
+use crate::replies::accepted;
 use crate::replies::minutes_reply;
 use crate::replies::refusal;
-use checks::backlog;
 use checks::due_from_seconds;
-use image::decode;
+use image_check::passes;
+use image_check::pending;
 
 // Backlog: 0 and how many entries are answered and not marked, or 21.
 #[no_mangle]
 pub extern "C" fn darthog_backlog(image: &[u8]) -> Reply
     ensures { λ r. ⌜ r ≡ replyOf (reportedCount (countOn (now (image .entry)))) ⌝ }
 {
-    let d = decode(image);
-    if !d.ok {
+    if !passes(image) {
         return refusal(21);
     }
-    let q = d.queue;
-    let c = backlog(q);
-    count_reply(c)
+    accepted(pending(image) as u32)
 }
 
 // A due minute from seconds: 0 and the minute, or 35.

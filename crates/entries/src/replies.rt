@@ -1,12 +1,10 @@
 // What an entry gives back: document 01's number of the answer, and its values or 0.
 ghost use mathlib.Core.Path.{_≡_};
 ghost use mathlib.Core.List.{[], _∷_};
-ghost use Rattle.checks.specs.Backlog.{reportedCount};
 ghost use Rattle.checks.specs.Due.{reportedMinutes};
 ghost use Rattle.record.specs.Report.{report};
 ghost use Rattle.rules.specs.Answers.{reported};
-ghost use Rattle.entries.specs.Entries.{replyOf, isRefusal};
-use checks::Count;
+ghost use Rattle.entries.specs.Entries.{replyOf};
 use checks::Minutes;
 use lists::runs::numbers_of;
 use rules::Answer;
@@ -56,35 +54,11 @@ pub(crate) fn answer_reply(a: Answer) -> Reply
     }
 }
 
-pub(crate) fn count_reply(c: Count) -> Reply
-    ensures { λ r. ⌜ r ≡ replyOf (reportedCount c) ⌝ }
-{
-    match c {
-        Count::Refused(n) => refusal(n as u32),
-        Count::Pending(k) => accepted(k as u32),
-    }
-}
-
 pub(crate) fn minutes_reply(m: Minutes) -> Reply
     ensures { λ r. ⌜ r ≡ replyOf (reportedMinutes m) ⌝ }
 {
     match m {
         Minutes::Refused(n) => refusal(n as u32),
         Minutes::Due(d) => accepted(d),
-    }
-}
-
-pub(crate) fn is_refusal(a: Answer) -> bool
-    ensures { λ r. ⌜ r ≡ isRefusal a ⌝ }
-{
-    match a {
-        Answer::Refused(_) => true,
-        Answer::Began(_) => false,
-        Answer::Moved => false,
-        Answer::Waits => false,
-        Answer::Empty => false,
-        Answer::Marked(_) => false,
-        Answer::Inserted(_) => false,
-        Answer::HandedOut(_) => false,
     }
 }

@@ -1,7 +1,12 @@
+pub mod Enums
 pub mod Places
 pub mod Lists
-pub mod Loops
+pub mod Lengths
 pub mod Bytes
 pub mod Sides
 pub mod Parts
+pub mod Puts
+pub mod Whole
+pub mod Fields
+pub mod Sizes
 pub mod Inverse

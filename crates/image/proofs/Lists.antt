@@ -15,7 +15,8 @@ module _ (f : ℕ → List ℕ) (w : ℕ) (each : (k : ℕ) → length (f k) ≡
   pub length-joined : (n : ℕ) → length (joined f n) ≡ w * n
   unfolding joined
   length-joined zero = omega arith
-  length-joined (suc n) = length-append (joined f n) (f n) ∙ rw (length-joined n, each n) (sym (mul-suc w n))
+  length-joined (suc n) =
+      length-append (joined f n) (f n) ∙ rw (length-joined n, each n) (sym (mul-suc w n))
 
   -- a loop that stores piece i where the pieces before it end, from place j on
   pub joined-next :
@@ -24,7 +25,8 @@ module _ (f : ℕ → List ℕ) (w : ℕ) (each : (k : ℕ) → length (f k) ≡
       l ≡ written a j (joined f i) →
       m ≡ written a j (joined f (i + 1))
   unfolding joined
-  joined-next j i a l m e h = rw add-one (next a j l m (w * i) (joined f i) (f i) e h (length-joined i))
+  joined-next j i a l m e h =
+      rw add-one (next a j l m (w * i) (joined f i) (f i) e h (length-joined i))
 
 module _ {A : Type 0} (f : ℕ → A) where
   pub length-listed : (n : ℕ) → length (listed f n) ≡ n
@@ -34,11 +36,14 @@ module _ {A : Type 0} (f : ℕ → A) where
 
   -- a loop that stores element i
   pub listed-next :
-      (i : ℕ) (a l : List A) (v : A) → v ≡ f i → l ≡ written a 0 (listed f i) → set l i v ≡ written a 0 (listed f (i + 1))
+      (i : ℕ) (a l : List A) (v : A) → v ≡ f i → l ≡ written a 0 (listed f i) → set l i v
+      ≡ written a 0 (listed f (i + 1))
   unfolding listed
   listed-next i a l v e h =
       let z : 0 + i ≡ i = omega arith in
-      rw (add-one, e) (next a 0 l (set l i (f i)) i (listed f i) (f i ∷ []) (rw z (written-one l i (f i))) h (length-listed i))
+      rw (add-one, e)
+      (next a 0 l (set l i (f i)) i (listed f i) (f i ∷ []) (rw z (written-one l i (f i))) h
+      (length-listed i))
 
 pub none-joined : (f : ℕ → List ℕ) → joined f 0 ≡ []
 unfolding joined
@@ -53,6 +58,7 @@ unfolding allBelow
 none-below f = refl
 
 pub all-next :
-    (f : ℕ → Bool) (i : ℕ) (a b r : Bool) → r ≡ (a && b) → a ≡ allBelow f i → b ≡ f i → r ≡ allBelow f (i + 1)
+    (f : ℕ → Bool) (i : ℕ) (a b r : Bool) → r ≡ (a && b) → a ≡ allBelow f i → b ≡ f i → r
+    ≡ allBelow f (i + 1)
 unfolding allBelow
 all-next f i a b r h k l = every-next f i a b r h k l

@@ -9,7 +9,8 @@ use Rattle.image.specs.Lists.{written}
 
 module _ {A : Type 0} where
   -- ys stored right after xs
-  pub sets-more : (l : List A) (i k : ℕ) (xs ys : List A) → length xs ≡ k → sets (sets l i xs) (i + k) ys ≡ sets l i (xs ++ ys)
+  pub sets-more : (l : List A) (i k : ℕ) (xs ys : List A) → length xs ≡ k →
+      sets (sets l i xs) (i + k) ys ≡ sets l i (xs ++ ys)
   sets-more l i k [] ys h = let e : i + k ≡ i = omega arith in rw e
   sets-more l i k (x ∷ xs) ys h =
       let e : i + k ≡ suc i + length xs = omega arith in
@@ -18,7 +19,9 @@ module _ {A : Type 0} where
   -- as many as the list is long, from its start
   pub sets-whole : (l vs : List A) → length vs ≡ length l → sets l 0 vs ≡ vs
   sets-whole l vs h =
-      sets-eq vs l 0 (omega arith) ∙ ap (λ (r : List A). vs ++ r) (drop-of-length-le l {i = 0 + length vs} (omega arith)) ∙ append-nil vs
+      sets-eq vs l 0 (omega arith)
+      ∙ ap (λ (r : List A). vs ++ r) (drop-of-length-le l {i = 0 + length vs} (omega arith))
+      ∙ append-nil vs
 
   -- what stores ys at the place where xs end, after what stored xs
   pub next :

@@ -9,14 +9,20 @@ use Rattle.laws.proofs.Counting.{and-left, and-right}
 use Rattle.record.specs.declared.nodes.Node.{Node}
 use Rattle.record.specs.declared.queues.Processor.{Processor}
 use Rattle.image.specs.Numbers.{eight}
-use Rattle.codes.specs.Tags.{stampTimed, stampOf, stampTaken, useTimed, useOf, useTaken, stageCode, stageOf}
-use Rattle.image.specs.Pieces.{timedBytes, timedAt, codeBytes, codeAt, nodeImage, readNode, processorImage, readProcessor}
-use Rattle.image.proofs.Bytes.{Bytes, number-back, four-back, from-whole, eight-back}
-use Rattle.codes.proofs.Enums.{mark-back, mark-low, mark-kept, timed-eq, stamp-back, stamp-taken, use-back, use-taken, code-eq, stage-back, stage-taken}
+use Rattle.image.specs.Tags.{stampTimed, stampOf, stampTaken, useTimed, useOf, useTaken}
+use Rattle.image.specs.Tags.{stageCode, stageOf}
+use Rattle.image.specs.Pieces.{timedBytes, timedAt, codeBytes, codeAt, nodeImage, readNode}
+use Rattle.image.specs.Pieces.{processorImage, readProcessor}
+use Rattle.image.specs.OneToOne.{Bytes}
+use Rattle.image.proofs.Bytes.{number-back, four-back, from-whole, eight-back}
+use Rattle.image.proofs.Enums.{mark-back, mark-low, mark-kept, timed-eq, stamp-back}
+use Rattle.image.proofs.Enums.{stamp-taken, use-back, use-taken, code-eq, stage-back}
+use Rattle.image.proofs.Enums.{stage-taken}
 
 -- what is read of what is written
 pub node-back :
-    (n : Node) → length (n .forward) ≡ 8 → length (n .locks) ≡ 8 → readNode (nodeImage n) ≡ record { ok = true; node = n }
+    (n : Node) → length (n .forward) ≡ 8 → length (n .locks) ≡ 8 → readNode (nodeImage n)
+    ≡ record { ok = true; node = n }
 unfolding nodeImage readNode
 node-back n forward locks =
     rw (
@@ -37,19 +43,28 @@ node-back n forward locks =
     refl
 
 pub processor-back :
-    (c : Processor) → length (c .saved) ≡ 8 → readProcessor (processorImage c) ≡ record { ok = true; processor = c }
+    (c : Processor) → length (c .saved) ≡ 8 → readProcessor (processorImage c)
+    ≡ record { ok = true; processor = c }
 unfolding processorImage readProcessor
 processor-back c saved =
-    rw (number-back (c .begin), stage-taken (c .stage), stage-back (c .stage), eight-back (c .saved) saved) refl
+    rw (
+      number-back (c .begin),
+      stage-taken (c .stage),
+      stage-back (c .stage),
+      eight-back
+          (c .saved) saved,
+    ) refl
 
 -- what is written of what is read and taken: the bytes of a node, but for the pieces that are not single bytes
 glued : List ℕ → ℕ → List ℕ → List ℕ → List ℕ → List ℕ → List ℕ → List ℕ
 glued b m s d t i u =
-    (eight b 0 ++ eight b 8 ++ (getD b 16 0 ∷ []) ++ (m ∷ [])) ++ (s ++ d ++ t ++ i ++ (getD b 35 0 ∷ []) ++ u)
+    (eight b 0 ++ eight b 8 ++ (getD b 16 0 ∷ []) ++ (m ∷ [])) ++
+    (s ++ d ++ t ++ i ++ (getD b 35 0 ∷ []) ++ u)
 
 module _ (b : List ℕ) (m m′ : ℕ) (s s′ d d′ t t′ i i′ u u′ : List ℕ) where
   glued-same :
-      m ≡ m′ → s ≡ s′ → d ≡ d′ → t ≡ t′ → i ≡ i′ → u ≡ u′ → glued b m s d t i u ≡ glued b m′ s′ d′ t′ i′ u′
+      m ≡ m′ → s ≡ s′ → d ≡ d′ → t ≡ t′ → i ≡ i′ → u ≡ u′ → glued b m s d t i u
+      ≡ glued b m′ s′ d′ t′ i′ u′
   glued-same em es ed et ei eu = rw (em, es, ed, et, ei, eu) refl
 
 module _ (b : List ℕ) (low : Bytes b) where
@@ -61,8 +76,10 @@ module _ (b : List ℕ) (low : Bytes b) where
       let used = useTaken (timedAt b 36) in
       let rest = and-right marked (stamped && used) ok in
       let m = mark-kept (getD b 17 0) (and-left marked (stamped && used) ok) in
-      let s = timed-eq (stampTimed (stampOf (timedAt b 18))) (timedAt b 18) (and-left stamped used rest) in
-      let u = timed-eq (useTimed (useOf (timedAt b 36))) (timedAt b 36) (and-right stamped used rest) in
+      let s = timed-eq (stampTimed (stampOf (timedAt b 18))) (timedAt b 18)
+      (and-left stamped used rest) in
+      let u = timed-eq (useTimed (useOf (timedAt b 36))) (timedAt b 36)
+      (and-right stamped used rest) in
       glued-same b _ _ _ _ _ _ _ _ _ _ _ _ m
       (ap timedBytes s ∙ ap (λ (r : List ℕ). getD b 18 0 ∷ r) (four-back b low 19))
       (four-back b low 23)
@@ -71,9 +88,11 @@ module _ (b : List ℕ) (low : Bytes b) where
       (ap timedBytes u ∙ ap (λ (r : List ℕ). getD b 36 0 ∷ r) (four-back b low 37))
       ∙ from-whole b 41 long
 
-  pub processor-kept : length b ≡ 17 → readProcessor b .ok ≡ true → processorImage (readProcessor b .processor) ≡ b
+  pub processor-kept : length b ≡ 17 → readProcessor b .ok ≡ true →
+      processorImage (readProcessor b .processor) ≡ b
   unfolding processorImage readProcessor
   processor-kept long ok =
       let e = code-eq (stageCode (stageOf (codeAt b 5))) (codeAt b 5) ok in
-      ap (λ (r : List ℕ). r ++ (getD b 4 0 ∷ []) ++ codeBytes (stageCode (stageOf (codeAt b 5))) ++ eight (eight b 9) 0) (four-back b low 0)
+      ap (λ (r : List ℕ). r ++ (getD b 4 0 ∷ []) ++ codeBytes (stageCode (stageOf (codeAt b 5))) ++
+      eight (eight b 9) 0) (four-back b low 0)
       ∙ rw e (from-whole b 17 long)

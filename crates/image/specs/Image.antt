@@ -1,86 +1,102 @@
--- The record as bytes. Numbers of four bytes have the lowest byte first.
+-- The record as bytes, as many as its sizes ask for. Numbers of four bytes have the lowest byte
+-- first.
 --
---      0  P, N and L               1 byte each
---      3  clock                    4 bytes
---      7  node 0 to node 201       41 bytes each, specs/Pieces.antt
---   8289  processor 0 to 15        17 bytes each
---   8561  the length
+--              0  P, N and L               1 byte each
+--              3  clock                    4 bytes
+--              7  processor 0 to P - 1     17 bytes each, specs/Pieces.antt
+--   7 + 17 * P    node 0 to node N + 1     41 bytes each
 --
--- Every record has one image, and bytes are taken only where they are the image of the record that they are read as.
-use Prim.Native.Nat.{ℕ, _+_, _*_}
-use mathlib.Core.Bool.{Bool, false, cond, _&&_}
+-- Slots past P and N + 1 are not in the bytes: the record that bytes are read as has them as they
+-- are made. Bytes are an image only where they are that of the record that they are read as.
+use mathlib.Core.Path.{_≡_}
+use mathlib.Core.Bool.{Bool, true, cond, _&&_}
 use mathlib.Core.List.{List, _∷_, _++_}
-use lib.Dec.{eqb}
+use Prim.Native.Nat.{ℕ, _+_, _*_}
+use lib.Dec.{eqb, leb, ltb}
 use lib.ListN.{length, getD, take, drop}
 use Rattle.record.specs.declared.nodes.Node.{Node}
 use Rattle.record.specs.declared.queues.Processor.{Processor}
 use Rattle.record.specs.declared.queues.Queue.{Queue}
 use Rattle.record.specs.Limits.{maxProcessors, nodeSlots}
-use Rattle.record.specs.Queues.{freshQueue, nodeAt, processorAt}
-use Rattle.image.specs.declared.whole.Decoded.{Decoded}
+use Rattle.record.specs.Nodes.{freshNode}
+use Rattle.record.specs.Queues.{freshProcessor, nodeAt, processorAt}
+use Rattle.checks.specs.Check.{valid}
 use Rattle.image.specs.Lists.{joined, listed, allBelow}
 use Rattle.image.specs.Numbers.{bytesOf32, number32}
 use Rattle.image.specs.Pieces.{nodeImage, readNode, processorImage, readProcessor}
 
-abbrev pub imageLength : ℕ
-imageLength = 8561
+-- how many bytes the image of a queue for p processors and n nodes has
+abbrev pub imageLength : ℕ → ℕ → ℕ
+imageLength p n = 7 + 17 * p + 41 * (n + 2)
 
 abbrev pub headerImage : ℕ → ℕ → ℕ → ℕ → List ℕ
 headerImage p n l clock = p ∷ n ∷ l ∷ bytesOf32 clock
 
-abbrev pub nodesImage : Queue → ℕ → List ℕ
-nodesImage q k = joined (λ i. nodeImage (nodeAt q i)) k
-
 abbrev pub callersImage : Queue → ℕ → List ℕ
 callersImage q k = joined (λ p. processorImage (processorAt q p)) k
+
+abbrev pub nodesImage : Queue → ℕ → List ℕ
+nodesImage q k = joined (λ i. nodeImage (nodeAt q i)) k
 
 abbrev pub imageOf : Queue → List ℕ
 imageOf q =
     headerImage (q .processors) (q .entries) (q .levels) (q .clock)
-    ++ nodesImage q nodeSlots
-    ++ callersImage q maxProcessors
+    ++ callersImage q (q .processors)
+    ++ nodesImage q (q .entries + 2)
 
--- an area that a record is written to: another length than the image's is left as it was
-abbrev pub areaAfter : Queue → List ℕ → List ℕ
-areaAfter q area = cond (eqb (length area) imageLength) (imageOf q) area
+-- how long the bytes are, and where the nodes start, by the sizes that stand in them
+abbrev pub lengthOf : List ℕ → ℕ
+lengthOf b = imageLength (getD b 0 0) (getD b 1 0)
 
--- the bytes of node i and of processor p
-abbrev pub nodePart : List ℕ → ℕ → List ℕ
-nodePart b i = take 41 (drop (7 + 41 * i) b)
+abbrev pub startOf : List ℕ → ℕ
+startOf b = 7 + 17 * getD b 0 0
 
+-- the bytes of processor p and of node x
 abbrev pub callerPart : List ℕ → ℕ → List ℕ
-callerPart b p = take 17 (drop (8289 + 17 * p) b)
+callerPart b p = take 17 (drop (7 + 17 * p) b)
 
--- nodes 0 to k - 1 and processors 0 to k - 1, and whether their bytes are taken
-abbrev pub nodesRead : List ℕ → ℕ → List Node
-nodesRead b k = listed (λ i. readNode (nodePart b i) .node) k
+abbrev pub nodePart : List ℕ → ℕ → List ℕ
+nodePart b x = take 41 (drop (startOf b + 41 * x) b)
 
-abbrev pub nodesTaken : List ℕ → ℕ → Bool
-nodesTaken b k = allBelow (λ i. readNode (nodePart b i) .ok) k
+-- processor p and node x, as they are made where the bytes have none
+abbrev pub callerIn : List ℕ → ℕ → Processor
+callerIn b p =
+    cond (ltb p (getD b 0 0)) (readProcessor (callerPart b p) .processor) freshProcessor
 
-abbrev pub callersRead : List ℕ → ℕ → List Processor
-callersRead b k = listed (λ p. readProcessor (callerPart b p) .processor) k
+abbrev pub nodeIn : List ℕ → ℕ → Node
+nodeIn b x =
+    cond (ltb x (getD b 1 0 + 2)) (readNode (nodePart b x) .node) (freshNode (getD b 1 0 + 1))
 
-abbrev pub callersTaken : List ℕ → ℕ → Bool
-callersTaken b k = allBelow (λ p. readProcessor (callerPart b p) .ok) k
-
-abbrev pub queueRead : List ℕ → Queue
-queueRead b = record {
+-- the record that the bytes are read as
+unfoldable pub queueIn : List ℕ → Queue
+queueIn b = record {
   processors = getD b 0 0;
   entries = getD b 1 0;
   levels = getD b 2 0;
   clock = number32 b 3;
-  nodes = nodesRead b nodeSlots;
-  callers = callersRead b maxProcessors;
+  nodes = listed (nodeIn b) nodeSlots;
+  callers = listed (callerIn b) maxProcessors;
 }
 
--- bytes of another length are no record
-abbrev pub noRecord : Decoded
-noRecord = record { ok = false; queue = freshQueue 0 0 0 }
+-- a record has room for so many processors and nodes, and the bytes are as many as these ask for
+abbrev pub hasRoom : List ℕ → Bool
+hasRoom b = leb (getD b 0 0) maxProcessors && leb (getD b 1 0 + 2) nodeSlots
 
--- whether bytes are taken, and the record that they are read as
-abbrev pub recordOf : List ℕ → Decoded
-recordOf b =
-    cond (eqb (length b) imageLength)
-    (record { ok = nodesTaken b nodeSlots && callersTaken b maxProcessors; queue = queueRead b })
-    noRecord
+abbrev pub fits : List ℕ → Bool
+fits b = hasRoom b && eqb (length b) (lengthOf b)
+
+-- the bytes are the image of a record: every tag, mark and unused number is one that is written
+unfoldable pub isImage : List ℕ → Bool
+isImage b =
+    fits b
+    && allBelow (λ p. readProcessor (callerPart b p) .ok) (getD b 0 0)
+    && allBelow (λ x. readNode (nodePart b x) .ok) (getD b 1 0 + 2)
+
+-- and this record passes check 21
+unfoldable pub passesOf : List ℕ → Bool
+passesOf b = isImage b && valid (queueIn b)
+
+pub record Sound (b : List ℕ) : Type 0 where
+  pub long : length b ≡ lengthOf b
+  pub image : imageOf (queueIn b) ≡ b
+  pub passes : valid (queueIn b) ≡ true

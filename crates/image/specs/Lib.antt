@@ -1,4 +1,7 @@
+pub mod Tags
 pub mod Lists
 pub mod Numbers
 pub mod Pieces
 pub mod Image
+pub mod OneToOne
+pub mod Puts

@@ -14,18 +14,23 @@
 --     36  use: tag                1
 --     37       time               4
 use Prim.Native.Nat.{ℕ, _+_}
-use mathlib.Core.Bool.{_&&_}
+use mathlib.Core.Bool.{Bool, _&&_}
 use mathlib.Core.List.{List, [], _∷_, _++_}
 use lib.Dec.{eqb, leb}
 use lib.ListN.{getD}
 use Rattle.record.specs.declared.nodes.Node.{Node}
 use Rattle.record.specs.declared.queues.Processor.{Processor}
-use Rattle.codes.specs.declared.tags.Timed.{Timed}
-use Rattle.codes.specs.declared.stages.Code.{Code}
-use Rattle.image.specs.declared.nodes.NodeRead.{NodeRead}
-use Rattle.image.specs.declared.processors.ProcessorRead.{ProcessorRead}
 use Rattle.image.specs.Numbers.{bytesOf32, number32, eight}
-use Rattle.codes.specs.Tags.{markByte, timed, stampTimed, stampOf, stampTaken, useTimed, useOf, useTaken, code, stageCode, stageOf, stageTaken}
+use Rattle.image.specs.Tags.{Timed, Code, markByte, timed, stampTimed, stampOf, stampTaken, useTimed, useOf, useTaken, code, stageCode, stageOf, stageTaken}
+
+-- what bytes are read as, and whether they are the ones that are written for it
+pub record NodeRead : Type 0 where
+  pub ok : Bool
+  pub node : Node
+
+pub record ProcessorRead : Type 0 where
+  pub ok : Bool
+  pub processor : Processor
 
 abbrev pub timedBytes : Timed → List ℕ
 timedBytes x = x .tag ∷ bytesOf32 (x .time)

@@ -1,29 +1,12 @@
-// Bytes, numbers of 32 bits and arrays of eight bytes, written to a place of an area and read from one.
+// Numbers of four bytes, and the clock.
 ghost use mathlib.Core.Path.{_≡_};
-ghost use mathlib.Core.List.{[], _∷_};
+ghost use mathlib.Core.List.{[], _∷_, _++_};
 ghost use Prim.Native.Nat.{ℕ, _+_, _≤_, _<_};
 ghost use lib.ListN.{length};
-ghost use Rattle.image.specs.Lists.{written};
-ghost use Rattle.image.specs.Numbers.{bytesOf32, number32, eight};
+ghost use Rattle.image.specs.Numbers.{number32};
+ghost use Rattle.image.specs.Puts.{puts, four, clears, rests};
 
-pub(crate) fn put_byte(area: &mut [u8], at: usize, v: u8)
-    requires { ⌜ at < length (now area) ⌝ }
-    ensures { λ _. ⌜ now (area .exit) ≡ written (now (area .entry)) at (v ∷ []) ⌝ }
-{
-    area[at] = v;
-}
-
-pub(crate) fn put_number(area: &mut [u8], at: usize, v: u32)
-    requires { ⌜ at + 4 ≤ length (now area) ⌝ }
-    ensures { λ _. ⌜ now (area .exit) ≡ written (now (area .entry)) at (bytesOf32 v) ⌝ }
-{
-    area[at] = (v % 256) as u8;
-    area[at + 1] = (v / 256 % 256) as u8;
-    area[at + 2] = (v / 65536 % 256) as u8;
-    area[at + 3] = (v / 16777216) as u8;
-}
-
-pub(crate) fn number_from(b: &[u8], at: usize) -> u32
+pub fn number_from(b: &[u8], at: usize) -> u32
     requires { ⌜ at + 4 ≤ length (now b) ⌝ }
     ensures { λ r. ⌜ r ≡ number32 (now (b .entry)) at ⌝ }
 {
@@ -32,32 +15,46 @@ pub(crate) fn number_from(b: &[u8], at: usize) -> u32
     low + high + 16777216 * (b[at + 3] as u32)
 }
 
-pub(crate) fn put_eight(area: &mut [u8], at: usize, a: [u8; 8])
-    requires { ⌜ at + 8 ≤ length (now area) ⌝ }
-    ensures { λ _. ⌜ now (area .exit) ≡ written (now (area .entry)) at (eight a 0) ⌝ }
+// The clock ticks.
+pub fn tick(b: &mut [u8])
+    requires { ⌜ (7 ≤ length (now b)) × (number32 (now b) 3 < 999999) ⌝ }
+    ensures { λ _. ⌜ now (b .exit) ≡ puts (now (b .entry)) 0 (four 3 (number32 (now (b .entry)) 3 + 1)) ⌝ }
 {
-    area[at] = a[0];
-    area[at + 1] = a[1];
-    area[at + 2] = a[2];
-    area[at + 3] = a[3];
-    area[at + 4] = a[4];
-    area[at + 5] = a[5];
-    area[at + 6] = a[6];
-    area[at + 7] = a[7];
+    let t = number_from(b, 3) + 1;
+    b[3] = (t % 256) as u8;
+    b[4] = (t / 256 % 256) as u8;
+    b[5] = (t / 65536 % 256) as u8;
+    b[6] = (t / 16777216) as u8;
 }
 
-pub(crate) fn eight_from(b: &[u8], at: usize) -> [u8; 8]
-    requires { ⌜ at + 8 ≤ length (now b) ⌝ }
-    ensures { λ r. ⌜ r ≡ eight (now (b .entry)) at ⌝ }
+// A number of four bytes, at a place after a start.
+pub fn put_number(b: &mut [u8], o: usize, j: usize, v: u32)
+    requires { ⌜ (o + (j + 3) < length (now b)) × (length (now b) ≤ 8561) ⌝ }
+    ensures { λ _. ⌜ now (b .exit) ≡ puts (now (b .entry)) o (four j v) ⌝ }
 {
-    [
-        b[at],
-        b[at + 1],
-        b[at + 2],
-        b[at + 3],
-        b[at + 4],
-        b[at + 5],
-        b[at + 6],
-        b[at + 7],
-    ]
+    b[o + j] = (v % 256) as u8;
+    b[o + (j + 1)] = (v / 256 % 256) as u8;
+    b[o + (j + 2)] = (v / 65536 % 256) as u8;
+    b[o + (j + 3)] = (v / 16777216) as u8;
+}
+
+// An idle processor's bytes; the saved nodes of the levels past l stay.
+pub fn clear(b: &mut [u8], o: usize, l: usize)
+    requires { ⌜ (o + 17 ≤ length (now b)) × (length (now b) ≤ 8561) × (l ≤ 8) ⌝ }
+    ensures { λ _. ⌜ now (b .exit) ≡ puts (now (b .entry)) o (clears l ++ rests) ⌝ }
+{
+    let mut k: usize = 0;
+    while k < l {
+        b[o + (9 + k)] = 0;
+        k = k + 1;
+    }
+    b[o] = 0;
+    b[o + 1] = 0;
+    b[o + 2] = 0;
+    b[o + 3] = 0;
+    b[o + 4] = 0;
+    b[o + 5] = 0;
+    b[o + 6] = 0;
+    b[o + 7] = 0;
+    b[o + 8] = 0;
 }

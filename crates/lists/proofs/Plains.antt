@@ -1,55 +1,76 @@
 -- Lists of calls as plain numbers: one call more, and that the whole agrees with the book. Assumes nothing.
 use mathlib.Core.Path.{_≡_, refl, sym, ap, _∙_}
-use mathlib.Core.Bool.{Bool, true, false, cond, _||_}
+use mathlib.Core.Bool.{true, false}
 use mathlib.Core.List.{List, [], _∷_, _++_}
-use Prim.Native.Nat.{ℕ, zero, suc, _+_, _*_, _/_, _≤_, _<_}
+use Prim.Native.Nat.{ℕ, zero, suc, _+_, _*_, _/_, _≤_}
 use native.Mathlib.Numerals.{add-one}
 use native.Mathlib.Omega.{arith}
-use lib.Dec.{ltb, eqb}
-use lib.ListN.{length, getD, set, length-set}
+use lib.Dec.{ltb}
+use lib.ListN.{length, length-set}
 use borrow.Author.Tests.{eq-eqb, ne-eqb, ltb-true, ltb-false}
-use Rattle.laws.proofs.Booleans.{cond-cases, or-left, or-right}
-use Rattle.checks.specs.declared.making.Made.{Made}
+use Rattle.laws.proofs.Booleans.{cond-cases}
 use Rattle.record.specs.declared.queues.Queue.{Queue}
-use Rattle.checks.specs.Check.{valid}
-use Rattle.record.specs.Limits.{maxProcessors, maxEntries, maxLevels}
-use Rattle.checks.specs.Making.{outside, notMade, made}
 use Rattle.record.specs.Queues.{freshQueue}
 use Rattle.rules.specs.declared.answers.Answer.{Answer}
 use Rattle.rules.specs.declared.answers.Outcome.{Outcome}
-use Rattle.rules.specs.Book.{Book, emptyBook, Verdict, agrees, judged}
+use Rattle.rules.specs.Book.{agrees}
 use Rattle.rules.specs.Calls.{beginInsertValid, beginDeleteValid, stepValid}
-use Rattle.rules.specs.Runs.{Call, insert, deleteMin, steps, after, Reply, answered, counted, reply, afterAll}
+use Rattle.rules.specs.Runs.{Call, insert, deleteMin, steps, after, answered, reply, afterAll}
 use Rattle.rules.proofs.Demand3.{demand-three}
-use Rattle.rules.proofs.Valid.{fresh-valid}
 use Rattle.lists.specs.declared.runs.Asked.{Asked}
 use Rattle.lists.specs.declared.runs.Told.{Told}
-use Rattle.lists.specs.Plain.{askedAt, callOf, callAt, callsTo, recordTo, told, toldBy, put, writtenTo, smaller, turns, answersOn, Agreed}
-use Rattle.queue.proofs.Steps.{step-inner}
-use Rattle.queue.proofs.Begun.{insert-inner, delete-inner}
-
-abbrev pub Turned : Queue → Asked → Outcome → Type 0
-Turned q a r = (r .queue ≡ after q (callOf a)) × (answered (r .answer) ≡ reply q (callOf a)) × (valid (r .queue) ≡ true)
+use Rattle.lists.specs.Plain.{askedAt, callOf, callAt, callsTo, recordTo, told, toldBy, put}
+use Rattle.lists.specs.Plain.{writtenTo, smaller, turns}
+use Rattle.lists.specs.InPlace.{Turned, listCode, bytesAfterList, answersAfterList, Agreed}
+use Rattle.image.specs.Image.{imageOf, queueIn, passesOf, Sound}
+use Rattle.image.specs.Numbers.{number32}
+use Rattle.image_parts.specs.Given.{Gives}
+use Rattle.image_parts.proofs.Reached.{reached-read}
+use Rattle.image_parts.proofs.Sounds.{queue-after, insert-is, delete-is, step-is}
+use Rattle.rules.proofs.Inner.{step-inner}
+use Rattle.rules.proofs.Inner.{insert-inner, delete-inner}
 
 -- each kind of call
-module _ (q : Queue) (a : Asked) (r : Outcome) (v : valid q ≡ true) (w : valid (r .queue) ≡ true) where
-  pub turned-insert : a .kind ≡ 1 → r ≡ beginInsertValid q (a .processor) (a .due) (a .item) (a .height) → Turned q a r
-  turned-insert k e =
-      let f = e ∙ sym (insert-inner q (a .processor) (a .due) (a .item) (a .height) v) in
-      let is : callOf a ≡ insert (a .processor) (a .due) (a .item) (a .height) = simp (eq-eqb (a .kind) 1 k) in
-      (ap (λ (o : Outcome). o .queue) f ∙ ap (λ (c : Call). after q c) (sym is), ap (λ (o : Outcome). answered (o .answer)) f ∙ ap (λ (c : Call). reply q c) (sym is), w)
+module _ (b : List ℕ) (a : Asked) (c : List ℕ) (r : Answer) (s : Sound b) (k : Call)
+    (is : callOf a ≡ k) where
+  turned : (o : Outcome) → o .queue ≡ after (queueIn b) k → answered (o .answer)
+      ≡ reply (queueIn b) k → Gives o c r × Sound c → Turned b a c r
+  turned o e f g = record {
+    sound = g .1;
+    queue = queue-after b s k o e c r (g .0) ∙ e ∙ ap (after (queueIn b)) (sym is);
+    answer = ap told (g .0 .answer) ∙ ap toldBy f
+        ∙ ap (λ (x : Call). toldBy (reply (queueIn b) x)) (sym is);
+  }
 
-  pub turned-delete : (a .kind ≡ 1 → ⊥) → a .kind ≡ 2 → r ≡ beginDeleteValid q (a .processor) → Turned q a r
-  turned-delete j k e =
-      let f = e ∙ sym (delete-inner q (a .processor) v) in
-      let is : callOf a ≡ deleteMin (a .processor) = simp (ne-eqb (a .kind) 1 j, eq-eqb (a .kind) 2 k) in
-      (ap (λ (o : Outcome). o .queue) f ∙ ap (λ (c : Call). after q c) (sym is), ap (λ (o : Outcome). answered (o .answer)) f ∙ ap (λ (c : Call). reply q c) (sym is), w)
+module _ (b : List ℕ) (a : Asked) (c : List ℕ) (r : Answer) (s : Sound b) where
+  pub turned-insert : a .kind ≡ 1 →
+      Gives (beginInsertValid (queueIn b) (a .processor) (a .due) (a .item) (a .height)) c r ×
+      Sound c → Turned b a c r
+  turned-insert k =
+      turned b a c r s (insert (a .processor) (a .due) (a .item) (a .height))
+      (simp (eq-eqb (a .kind) 1 k))
+      (beginInsertValid (queueIn b) (a .processor) (a .due) (a .item) (a .height))
+      (insert-is b s (a .processor) (a .due) (a .item) (a .height))
+      (ap (λ (o : Outcome). answered (o .answer))
+      (sym (insert-inner (queueIn b) (a .processor) (a .due) (a .item) (a .height)
+      (s .passes))))
 
-  pub turned-step : (a .kind ≡ 1 → ⊥) → (a .kind ≡ 2 → ⊥) → r ≡ stepValid q (a .processor) → Turned q a r
-  turned-step j k e =
-      let f = e ∙ sym (step-inner q (a .processor) v) in
-      let is : callOf a ≡ steps (a .processor) = simp (ne-eqb (a .kind) 1 j, ne-eqb (a .kind) 2 k) in
-      (ap (λ (o : Outcome). o .queue) f ∙ ap (λ (c : Call). after q c) (sym is), ap (λ (o : Outcome). answered (o .answer)) f ∙ ap (λ (c : Call). reply q c) (sym is), w)
+  pub turned-delete : (a .kind ≡ 1 → ⊥) → a .kind ≡ 2 →
+      Gives (beginDeleteValid (queueIn b) (a .processor)) c r × Sound c → Turned b a c r
+  turned-delete j k =
+      turned b a c r s (deleteMin (a .processor))
+      (simp (ne-eqb (a .kind) 1 j, eq-eqb (a .kind) 2 k))
+      (beginDeleteValid (queueIn b) (a .processor)) (delete-is b s (a .processor))
+      (ap (λ (o : Outcome). answered (o .answer))
+      (sym (delete-inner (queueIn b) (a .processor) (s .passes))))
+
+  pub turned-step : (a .kind ≡ 1 → ⊥) → (a .kind ≡ 2 → ⊥) →
+      Gives (stepValid (queueIn b) (a .processor)) c r × Sound c → Turned b a c r
+  turned-step j k =
+      turned b a c r s (steps (a .processor)) (simp (ne-eqb (a .kind) 1 j, ne-eqb (a .kind) 2 k))
+      (stepValid (queueIn b) (a .processor)) (step-is b s (a .processor))
+      (ap (λ (o : Outcome). answered (o .answer))
+      (sym (step-inner (queueIn b) (a .processor) (s .passes))))
 
 -- one call more
 module _ (q : Queue) (l : List ℕ) (k : ℕ) where
@@ -59,7 +80,9 @@ module _ (q : Queue) (l : List ℕ) (k : ℕ) where
 
   pub written-more :
       (a : List ℕ) →
-      writtenTo q l a (k + 1) ≡ put (writtenTo q l a k) (k * 5) (toldBy (reply (recordTo q l k) (callAt l k))) (after (recordTo q l k) (callAt l k) .clock)
+      writtenTo q l a (k + 1)
+      ≡ put (writtenTo q l a k) (k * 5) (toldBy (reply (recordTo q l k) (callAt l k)))
+      (after (recordTo q l k) (callAt l k) .clock)
   unfolding recordTo writtenTo
   written-more a = rw add-one
 
@@ -72,37 +95,50 @@ pub written-none : (q : Queue) (l a : List ℕ) → a ≡ writtenTo q l a 0
 unfolding writtenTo
 written-none q l a = refl
 
--- a turn of the loop: r and a are the record and the answers before it, x the call, o what it gave
-module _ (q : Queue) (l : List ℕ) (k : ℕ) (r : Queue) (x : Asked) (o : Outcome) (er : r ≡ recordTo q l k) (ex : x ≡ askedAt l (k * 5)) (T : Turned r x o) where
-  call-is : after r (callOf x) ≡ after (recordTo q l k) (callAt l k)
-  call-is = simp (er, ex)
+-- a turn of the loop: from the bytes b to c, with the answer r to the call x
+clock-is : (b : List ℕ) → number32 b 3 ≡ queueIn b .clock
+unfolding queueIn
+clock-is b = refl
 
-  reply-is : reply r (callOf x) ≡ reply (recordTo q l k) (callAt l k)
-  reply-is = simp (er, ex)
+module _ (q : Queue) (l w : List ℕ) (i : ℕ) (b c : List ℕ) (x : Asked) (r : Answer)
+    (h : queueIn b ≡ recordTo q l i) (is : x ≡ askedAt l (i * 5)) (t : Turned b x c r) where
+  same-after : after (queueIn b) (callOf x) ≡ after (recordTo q l i) (callAt l i)
+  same-after = simp (h, is)
 
-  pub record-next : o .queue ≡ recordTo q l (k + 1)
-  record-next = T .0 ∙ (call-is ∙ sym (record-more q l k))
+  same-reply : reply (queueIn b) (callOf x) ≡ reply (recordTo q l i) (callAt l i)
+  same-reply = simp (h, is)
+
+  pub queue-next : queueIn c ≡ recordTo q l (i + 1)
+  queue-next = t .queue ∙ same-after ∙ sym (record-more q l i)
 
   pub written-next :
-      (f a b : List ℕ) (t : Told) →
-      a ≡ writtenTo q l f k →
-      t ≡ told (o .answer) →
-      b ≡ put a (k * 5) t (o .queue .clock) →
-      b ≡ writtenTo q l f (k + 1)
-  written-next f a b t ea et eb =
-      let u : t ≡ toldBy (reply (recordTo q l k) (callAt l k)) = et ∙ ap toldBy (T .1 ∙ reply-is) in
-      let w : o .queue .clock ≡ after (recordTo q l k) (callAt l k) .clock = ap (λ (z : Queue). z .clock) (T .0 ∙ call-is) in
-      eb ∙ (rw (ea, u, w) refl ∙ sym (written-more q l k f))
+      (v v′ : List ℕ) (y : Told) (clock : ℕ) → v ≡ writtenTo q l w i → y ≡ told r → clock
+      ≡ number32 c 3 → v′ ≡ put v (i * 5) y clock → v′ ≡ writtenTo q l w (i + 1)
+  written-next v v′ y clock e f g k =
+      k ∙ rw (
+        e,
+        f ∙ t .answer ∙ ap toldBy same-reply,
+        g ∙ clock-is c
+            ∙ ap (λ (u : Queue). u .clock) (t .queue ∙ same-after),
+      ) (sym (written-more q l i w))
 
-pub put-length : (a b : List ℕ) (i clock n : ℕ) (t : Told) → b ≡ put a i t clock → length a ≡ n → length b ≡ n
+pub image-at : (q : Queue) (l : List ℕ) (n : ℕ) (b : List ℕ) → Sound b → queueIn b
+    ≡ recordTo q l n → b ≡ imageOf (recordTo q l n)
+image-at q l n b s h = sym (s .image) ∙ ap imageOf h
+
+pub put-length : (a b : List ℕ) (i clock n : ℕ) (t : Told) → b ≡ put a i t clock → length a ≡ n →
+    length b ≡ n
 put-length a b i clock n t e h = ap length e ∙ (simp length-set refl ∙ h)
 
 -- how many calls are run
 smaller-left : (x y : ℕ) → smaller x y ≤ x
-smaller-left x y = cond-cases (λ (z : ℕ). z ≤ x) (ltb x y) x y (λ h. omega arith) (λ h. ltb-false x y h)
+smaller-left x y =
+    cond-cases (λ (z : ℕ). z ≤ x) (ltb x y) x y (λ h. omega arith) (λ h. ltb-false x y h)
 
 smaller-right : (x y : ℕ) → smaller x y ≤ y
-smaller-right x y = cond-cases (λ (z : ℕ). z ≤ y) (ltb x y) x y (λ h. omega (arith, ltb-true x y h)) (λ h. omega arith)
+smaller-right x y =
+    cond-cases (λ (z : ℕ). z ≤ y) (ltb x y) x y (λ h. omega (arith, ltb-true x y h))
+    (λ h. omega arith)
 
 pub turns-calls : (e x y : ℕ) → e ≡ smaller (x / 5) (y / 5) → e * 5 ≤ x
 turns-calls e x y h = omega (arith, smaller-left (x / 5) (y / 5))
@@ -110,51 +146,50 @@ turns-calls e x y h = omega (arith, smaller-left (x / 5) (y / 5))
 pub turns-answers : (e x y : ℕ) → e ≡ smaller (x / 5) (y / 5) → e * 5 ≤ y
 turns-answers e x y h = omega (arith, smaller-right (x / 5) (y / 5))
 
--- the list of answers where no queue is made, and where one is
-pub answers-none : (m : Made) (l a : List ℕ) → 0 < m .refusal → a ≡ answersOn m l a
-answers-none m l a h = let z : (m .refusal ≡ 0 → ⊥) = λ e. omega arith in simp (ne-eqb (m .refusal) 0 z)
+-- the whole list
+module _ (b l a : List ℕ) where
+  pub turned-down : passesOf b ≡ false →
+      (21 ≡ listCode b) × ((b ≡ bytesAfterList b l a) × (a ≡ answersAfterList b l a))
+  unfolding listCode bytesAfterList answersAfterList
+  turned-down h = (rw h refl, (rw h refl, rw h refl))
 
-pub answers-all : (m : Made) (l a b : List ℕ) → m .refusal ≡ 0 → b ≡ writtenTo (m .queue) l a (turns l a) → b ≡ answersOn m l a
-answers-all m l a b h e = e ∙ simp (eq-eqb (m .refusal) 0 h)
-
--- the records that make gives are fresh, of sizes in range
-pub data IsFresh : Queue → Type 0 where
-  fresh : (P N L : ℕ) → 1 ≤ P → P ≤ maxProcessors → 1 ≤ N → N ≤ maxEntries → 1 ≤ L → L ≤ maxLevels → IsFresh (freshQueue P N L)
-
-least : (n : ℕ) → IsFresh (notMade n .queue)
-least n = fresh 1 1 1 (omega arith) (omega arith) (omega arith) (omega arith) (omega arith) (omega arith)
-
-pub made-fresh : (p n l : ℕ) → IsFresh (made p n l .queue)
-made-fresh p n l =
-    cond-cases (λ (m : Made). IsFresh (m .queue)) (outside p maxProcessors) _ _ (λ h. least 11)
-    (λ x. cond-cases (λ (m : Made). IsFresh (m .queue)) (outside n maxEntries) _ _ (λ h. least 12)
-    (λ y. cond-cases (λ (m : Made). IsFresh (m .queue)) (outside l maxLevels) _ _ (λ h. least 13)
-    (λ z. fresh p n l (ltb-false p 1 (or-left _ _ x)) (ltb-false maxProcessors p (or-right (ltb p 1) (ltb maxProcessors p) x))
-    (ltb-false n 1 (or-left _ _ y)) (ltb-false maxEntries n (or-right (ltb n 1) (ltb maxEntries n) y))
-    (ltb-false l 1 (or-left _ _ z)) (ltb-false maxLevels l (or-right (ltb l 1) (ltb maxLevels l) z)))))
-
-pub fresh-passes : (q : Queue) → IsFresh q → valid q ≡ true
-fresh-passes q (fresh P N L a b c d e f) = fresh-valid P N L a b c d e f
-
-fresh-judged : (q : Queue) → IsFresh q → (cs : List Call) → (b : Book) × (judged emptyBook q cs ≡ agrees b)
-fresh-judged q (fresh P N L a b c d e f) cs =
-    demand-three P N L (record { processors-low = a; processors-high = b; entries-low = c; entries-high = d; levels-low = e; levels-high = f }) cs
-
-pub agreed : (p n l : ℕ) (calls answers : List ℕ) → Agreed (made p n l) calls answers
-agreed p n l calls answers =
-    let j = fresh-judged (made p n l .queue) (made-fresh p n l) (callsTo calls (turns calls answers)) in
-    record { book = j .0; judges = j .1 }
-
-pub made-passes : (p n l : ℕ) (m : Made) → m ≡ made p n l → valid (m .queue) ≡ true
-made-passes p n l m e = ap (λ (x : Made). valid (x .queue)) e ∙ fresh-passes (made p n l .queue) (made-fresh p n l)
+  pub all-run : (c w : List ℕ) → passesOf b ≡ true → c
+      ≡ imageOf (recordTo (queueIn b) l (turns l a)) → w ≡ writtenTo (queueIn b) l a (turns l a) →
+      (0 ≡ listCode b) × ((c ≡ bytesAfterList b l a) × (w ≡ answersAfterList b l a))
+  unfolding listCode bytesAfterList answersAfterList
+  all-run c w h e f = (rw h refl, (e ∙ rw h refl, f ∙ rw h refl))
 
 -- the calls of the list, as the book is fed them, lead to the same record
-after-one : (q : Queue) (cs : List Call) (c : Call) → afterAll q (cs ++ (c ∷ [])) ≡ after (afterAll q cs) c
+after-one : (q : Queue) (cs : List Call) (c : Call) → afterAll q (cs ++ (c ∷ []))
+    ≡ after (afterAll q cs) c
 unfolding afterAll
 after-one q [] c = refl
 after-one q (d ∷ cs) c = after-one (after q d) cs c
 
-pub record-all : (q : Queue) (l : List ℕ) (k : ℕ) → recordTo q l k ≡ afterAll q (callsTo l k)
+record-all : (q : Queue) (l : List ℕ) (k : ℕ) → recordTo q l k ≡ afterAll q (callsTo l k)
 unfolding recordTo callsTo afterAll
 record-all q l zero = refl
-record-all q l (suc k) = ap (λ (z : Queue). after z (callAt l k)) (record-all q l k) ∙ sym (after-one q (callsTo l k) (callAt l k))
+record-all q l (suc k) =
+    ap (λ (z : Queue). after z (callAt l k)) (record-all q l k)
+    ∙ sym (after-one q (callsTo l k) (callAt l k))
+
+after-both :
+    (q : Queue) (cs ds : List Call) → afterAll q (cs ++ ds) ≡ afterAll (afterAll q cs) ds
+unfolding afterAll
+after-both q [] ds = refl
+after-both q (c ∷ cs) ds = after-both (after q c) cs ds
+
+pub agreed : (b l a : List ℕ) → Agreed b l a
+agreed b l a P N L R cs e =
+    let j = demand-three P N L R (cs ++ callsTo l (turns l a)) in
+    let r = reached-read P N L (R .processors-high) (R .entries-high) cs in
+    let h = ap queueIn e ∙ r in
+    record {
+      read = h;
+      led = λ k.
+          record-all (queueIn b) l k
+          ∙ ap (λ (q : Queue). afterAll q (callsTo l k)) h
+          ∙ sym (after-both (freshQueue P N L) cs (callsTo l k));
+      book = j .0;
+      judges = j .1;
+    }

@@ -1,16 +1,13 @@
 -- Calls and answers as plain numbers, five for each: of a call its kind, processor, due, item and height; of an answer its number, three
 -- values and the clock after the call. Kind 1 begins an Insert, kind 2 begins a Delete_Min, every other kind is a step.
-use mathlib.Core.Path.{_≡_}
 use Prim.Native.Nat.{ℕ, zero, suc, _+_, _*_, _/_}
 use mathlib.Core.Bool.{cond}
 use mathlib.Core.List.{List, [], _∷_, _++_}
 use lib.Dec.{ltb, eqb}
 use lib.ListN.{length, getD, set}
-use Rattle.checks.specs.declared.making.Made.{Made}
 use Rattle.record.specs.declared.queues.Queue.{Queue}
 use Rattle.rules.specs.declared.answers.Answer.{Answer}
 use Rattle.rules.specs.Answers.{reported}
-use Rattle.rules.specs.Book.{Book, emptyBook, agrees, judged}
 use Rattle.rules.specs.Runs.{Call, insert, deleteMin, steps, after, Reply, answered, counted, reply}
 use Rattle.lists.specs.declared.runs.Asked.{Asked}
 use Rattle.lists.specs.declared.runs.Told.{Told}
@@ -65,12 +62,3 @@ smaller x y = cond (ltb x y) x y
 -- how many calls are run: those that both lists have five numbers for
 abbrev pub turns : List ℕ → List ℕ → ℕ
 turns l a = smaller (length l / 5) (length a / 5)
-
--- the list of answers after a run: as it was where no queue is made
-abbrev pub answersOn : Made → List ℕ → List ℕ → List ℕ
-answersOn m l a = cond (eqb (m .refusal) 0) (writtenTo (m .queue) l a (turns l a)) a
-
--- the book agrees with what the definitions give back, call by call; the answers written are the numbers of the same replies
-pub record Agreed (m : Made) (l a : List ℕ) : Type 0 where
-  pub book : Book
-  pub judges : judged emptyBook (m .queue) (callsTo l (turns l a)) ≡ agrees book

@@ -1,20 +1,18 @@
-// A list of calls, lent as plain numbers, run on a fresh queue; the answers are written as plain numbers. specs/Plain.antt has the numbers.
+// A list of calls, lent as plain numbers, in place on the bytes of a record that passes check 21;
+// the answers are written as plain numbers. specs/Plain.antt has the numbers.
 ghost use mathlib.Core.Path.{_≡_};
-ghost use mathlib.Core.Bool.{true};
 ghost use Prim.Native.Nat.{ℕ, _+_, _*_, _/_, _≤_, _<_};
 ghost use lib.ListN.{length};
-ghost use Rattle.checks.specs.Check.{valid as validOf};
-ghost use Rattle.checks.specs.Making.{made};
-ghost use Rattle.rules.specs.Runs.{after, reply, answered};
-ghost use Rattle.lists.specs.Plain.{tell, askedAt, callOf, told, put as putOf, smaller as smallerOf, answersOn, Agreed};
-use checks::make;
-use queue::deleting::begin_delete_valid;
-use queue::inserting::begin_insert_valid;
-use queue::stepping::step_valid;
-use record::Queue;
+ghost use Rattle.image.specs.Image.{imageOf, queueIn, Sound};
+ghost use Rattle.lists.specs.InPlace.{Turned};
+ghost use Rattle.lists.specs.Plain.{tell, askedAt, told, put as putOf, smaller as smallerOf};
+ghost use Rattle.lists.specs.Plain.{recordTo, writtenTo, turns};
+use image::numbers::number_from;
+use image_begin::begin_delete_at;
+use image_begin::begin_insert_at;
+use image_step::step_at;
 use rules::Answer;
 use rules::Entry;
-use rules::Outcome;
 
 // A call: kind 1 begins an Insert, 2 a Delete_Min, every other is a step.
 pub struct Asked {
@@ -94,18 +92,18 @@ fn put(answers: &mut [u32], i: usize, r: Told, clock: u32)
     answers[i + 4] = clock;
 }
 
-// One call, on a record that passes check 21.
-fn turn(q: Queue, a: Asked) -> Outcome
-    requires { ⌜ validOf q ≡ true ⌝ }
-    ensures { λ r. ⌜ (r .queue ≡ after q (callOf a)) × (answered (r .answer) ≡ reply q (callOf a)) × (validOf (r .queue) ≡ true) ⌝ }
+// One call.
+fn turn(image: &mut [u8], a: Asked) -> Answer
+    requires { ⌜ Sound (now image) ⌝ }
+    ensures { λ r. ⌜ Turned (now (image .entry)) a (now (image .exit)) r ⌝ }
 {
     if a.kind == 1 {
-        return begin_insert_valid(q, a.processor, a.due, a.item, a.height);
+        return begin_insert_at(image, a.processor, a.due, a.item, a.height);
     }
     if a.kind == 2 {
-        return begin_delete_valid(q, a.processor);
+        return begin_delete_at(image, a.processor);
     }
-    step_valid(q, a.processor)
+    step_at(image, a.processor)
 }
 
 fn smaller(x: usize, y: usize) -> usize
@@ -114,29 +112,23 @@ fn smaller(x: usize, y: usize) -> usize
     if x < y { x } else { y }
 }
 
-// Runs the calls of a list on a fresh queue for p processors, n nodes and l levels, and writes the answers; gives the number of the
-// refusal if the queue is not made, and 0 otherwise. The answers are those of the definitions, and they agree with the book.
-pub fn run(p: u32, n: u32, l: u32, calls: &[u32], answers: &mut [u32]) -> u8
-    ensures { λ r. ⌜ r ≡ made p n l .refusal ⌝ }
-    ensures { λ _. ⌜ now (answers .exit) ≡ answersOn (made p n l) (now (calls .entry)) (now (answers .entry)) ⌝ }
-    ensures { λ _. ⌜ Agreed (made p n l) (now (calls .entry)) (now (answers .entry)) ⌝ }
+// Every call of the list that both lists have five numbers for, one after the other.
+pub fn run_calls(image: &mut [u8], calls: &[u32], answers: &mut [u32])
+    requires { ⌜ Sound (now image) ⌝ }
+    ensures { λ _.
+        ⌜ now (image .exit)
+        ≡ imageOf (recordTo (queueIn (now (image .entry))) (now (calls .entry)) (turns (now (calls .entry)) (now (answers .entry)))) ⌝ }
+    ensures { λ _.
+        ⌜ now (answers .exit)
+        ≡ writtenTo (queueIn (now (image .entry))) (now (calls .entry)) (now (answers .entry)) (turns (now (calls .entry)) (now (answers .entry))) ⌝ }
 {
-    let m = make(p, n, l);
-    let refusal = m.refusal;
-    if 0 < refusal {
-        return refusal;
-    }
-    let mut q = m.queue;
     let end = smaller(calls.len() / 5, answers.len() / 5);
     let mut i: usize = 0;
     while i < end {
         let from = i * 5;
         let a = asked_at(calls, from);
-        let o = turn(q, a);
-        let answer = o.answer;
-        q = o.queue;
-        put(answers, from, numbers_of(answer), q.clock);
+        let r = turn(image, a);
+        put(answers, from, numbers_of(r), number_from(image, 3));
         i = i + 1;
     }
-    0
 }

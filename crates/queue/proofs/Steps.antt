@@ -1,27 +1,20 @@
 -- The parts of a call, each over variables: what the code holds is what the definition says. Assumes nothing.
-use mathlib.Core.Path.{_≡_, refl, sym, ap, _∙_}
-use mathlib.Core.Bool.{Bool, true, false, cond}
-use Prim.Native.Nat.{ℕ, _+_, _≤_, _<_}
+use mathlib.Core.Path.{_≡_, _∙_}
+use Prim.Native.Nat.{ℕ, _+_}
 use lib.ListN.{set}
-use borrow.Author.Tests.{lt-leb}
 use Rattle.record.specs.declared.nodes.Node.{Node}
 use Rattle.record.specs.declared.queues.Processor.{Processor}
 use Rattle.record.specs.declared.queues.Queue.{Queue}
 use Rattle.record.specs.declared.stages.Place.{Place}
-use Rattle.checks.specs.Check.{valid}
-use Rattle.record.specs.Limits.{maxNumber}
 use Rattle.record.specs.Nodes.{forwardAt}
 use Rattle.record.specs.Queues.{nodeAt, processorAt}
-use Rattle.record.specs.Stages.{isIdle}
 use Rattle.rules.specs.declared.answers.Outcome.{Outcome}
 use Rattle.rules.specs.declared.decisions.Decision.{Decision}
 use Rattle.rules.specs.declared.decisions.Sight.{Sight}
-use Rattle.rules.specs.Answers.{refused}
-use Rattle.rules.specs.Calls.{readingPlace, stepDecision, stepValid, step}
+use Rattle.rules.specs.Calls.{readingPlace, stepDecision}
 use Rattle.rules.specs.Decide.{decide}
 use Rattle.rules.specs.Effects.{nodeOf, changed, processorAfter, accepted}
-use Rattle.rules.specs.Runs.{Call, steps, after}
-use Rattle.rules.proofs.Valid.{kept-valid}
+use Rattle.rules.specs.Runs.{after}
 use Rattle.parts.specs.From.{sightFrom}
 
 -- the record and the answer after a decision that processor p takes: node w becomes m, the processor after
@@ -57,17 +50,3 @@ module _ (q : Queue) (p : ℕ) where
       after ≡ processorAfter (q .levels) (q .clock + 1) c d →
       stored q p (q .clock + 1) w m after d ≡ accepted q p f
   changes d f c w n m after ed ec ew en em ea = simp (ea, em, en, ew, ec, ed)
-
-  -- a step that is not refused
-  pub step-accepted : q .clock < maxNumber → p < q .processors → isIdle (processorAt q p .stage) ≡ false → stepValid q p ≡ accepted q p (stepDecision q (processorAt q p))
-  step-accepted c h b = simp (lt-leb _ _ c, lt-leb _ _ h, b)
-
-  -- the inner form and the public form
-  pub step-inner : valid q ≡ true → step q p ≡ stepValid q p
-  step-inner v = ap (λ (b : Bool). cond b (stepValid q p) (refused q 21)) v
-
-  pub step-refused : valid q ≡ false → step q p ≡ refused q 21
-  step-refused v = ap (λ (b : Bool). cond b (stepValid q p) (refused q 21)) v
-
-  pub step-kept : (r : Outcome) → valid q ≡ true → r ≡ stepValid q p → (r ≡ stepValid q p) × (valid (r .queue) ≡ true)
-  step-kept r v e = (e, ap (λ (o : Outcome). valid (o .queue)) (e ∙ sym (step-inner v)) ∙ kept-valid q (steps p) v)

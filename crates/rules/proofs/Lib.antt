@@ -38,6 +38,7 @@ pub mod ValidFacts
 pub mod ValidDecisions
 pub mod Untouched
 pub mod Valid
+pub mod Inner
 pub mod Demand3
 pub mod BookLaws
 pub mod Meaning

@@ -1,6 +1,7 @@
 -- Answers. "An accepted begin returns its time. A step reports moved, waits, EMPTY, or, each with due, item and ticket, marked, inserted or
 -- handed out." "A refusal returns its number."
 use Prim.Native.Nat.{ℕ}
+use mathlib.Core.Bool.{Bool, true, false}
 use mathlib.Core.List.{List, [], _∷_}
 use Rattle.record.specs.declared.queues.Queue.{Queue}
 use Rattle.record.specs.Report.{Report, report}
@@ -26,3 +27,13 @@ reported (ans.HandedOut e) = report 6 (entryValues e)
 -- "A refusal returns its number and leaves everything lent untouched; the clock doesn't tick."
 abbrev pub refused : Queue → ℕ → Outcome
 refused q n = record { queue = q; answer = ans.Refused n }
+
+abbrev pub isRefused : Answer → Bool
+isRefused (ans.Refused n) = true
+isRefused (ans.Began t) = false
+isRefused ans.Moved = false
+isRefused ans.Waits = false
+isRefused ans.Empty = false
+isRefused (ans.Marked e) = false
+isRefused (ans.Inserted e) = false
+isRefused (ans.HandedOut e) = false

@@ -14,7 +14,7 @@ use Rattle.sheet.specs.Lines.{lineCount}
 use Rattle.sheet.specs.Scans.{roomAt, withEvent}
 use Rattle.sheet.specs.Sheets.{runLines, history, atFront}
 use Rattle.sheet.proofs.Written.{length-history, history-append}
-use Rattle.calling.proofs.States.{Written, Longer, filled, no-room}
+use Rattle.runner.proofs.States.{Written, Longer, filled, no-room}
 use Rattle.runner.specs.Area.{wholeBytes, wholeLines, areaWith}
 
 -- some lines of 37 bytes that have room

@@ -1,2 +1,5 @@
 pub mod Areas
-pub mod Waits
+pub mod Called
+pub mod Histories
+pub mod States
+pub mod Waited

@@ -7,6 +7,7 @@ use mathlib.Core.List.{List, [], _∷_, _++_}
 use Rattle.record.specs.declared.queues.Queue.{Queue}
 use Rattle.rules.specs.declared.answers.Answer.{Answer}
 use Rattle.rules.specs.declared.answers.Answer.the-variants as ans
+use Rattle.rules.specs.Answers.{isRefused}
 use Rattle.rules.specs.declared.answers.Entry.{Entry}
 use Rattle.rules.specs.declared.answers.Outcome.{Outcome}
 use Rattle.rules.specs.Calls.{step}
@@ -55,16 +56,6 @@ stepEvents time p ans.Empty = event letterE time p 0 0 0 ∷ []
 stepEvents time p (ans.Marked e) = entryEvent letterM time p e ∷ []
 stepEvents time p (ans.Inserted e) = entryEvent letterA time p e ∷ []
 stepEvents time p (ans.HandedOut e) = entryEvent letterT time p e ∷ []
-
-abbrev pub isRefused : Answer → Bool
-isRefused (ans.Refused n) = true
-isRefused (ans.Began t) = false
-isRefused ans.Moved = false
-isRefused ans.Waits = false
-isRefused ans.Empty = false
-isRefused (ans.Marked e) = false
-isRefused (ans.Inserted e) = false
-isRefused (ans.HandedOut e) = false
 
 -- a record, and the history so far
 pub record Running : Type 0 where

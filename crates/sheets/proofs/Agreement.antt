@@ -3,23 +3,26 @@ use mathlib.Core.Path.{_≡_, refl, sym, ap, _∙_}
 use mathlib.Core.Bool.{Bool, true, false, cond}
 use mathlib.Core.List.{List, [], _∷_, _++_, append-nil, append-assoc}
 use Prim.Native.Nat.{ℕ, zero, suc, _+_, _-_}
+use native.Mathlib.Omega.{arith}
 use lib.Dec.{eqb}
 use Rattle.laws.proofs.Booleans.{cond-elim}
 use Rattle.record.specs.declared.queues.Queue.{Queue}
 use Rattle.rules.specs.declared.answers.Outcome.{Outcome}
-use Rattle.rules.specs.Calls.{beginInsert, beginDelete, step}
-use Rattle.rules.specs.Runs.{Call, insert, deleteMin, steps, backlog, after, afterAll}
+use Rattle.rules.specs.Answers.{isRefused}
+use Rattle.rules.specs.Calls.{step}
+use Rattle.rules.specs.Runs.{Call, insert, deleteMin, steps, after, afterAll}
 use Rattle.rules.specs.Book.{Book, emptyBook, agrees, judged}
 use Rattle.rules.proofs.Demand3.{demand-three}
-use Rattle.lists.proofs.Plains.{IsFresh, fresh, made-fresh}
+use Rattle.checks.specs.Making.{made}
+use Rattle.checks.proofs.Made.{made-sizes, made-fresh, made-not}
 use Rattle.sheet.specs.declared.events.Event.{Event}
 use Rattle.sheet.specs.declared.lines.Line.{Line}
-use Rattle.sheet.specs.Events.{Running, running, isRefused, insertLine, deleteLine, stepOnce, stepsLine, historyBytes}
+use Rattle.sheet.specs.Events.{Running, running, stepOnce, stepsLine, historyBytes}
 use Rattle.sheet.specs.Letters.{letterD, letterI}
 use Rattle.sheet.specs.Lines.{lineOf, partAt, lineCount}
 use Rattle.sheet.specs.Sheets.{runLine, runLines}
 use Rattle.sheets.specs.Agreement.{callMade, outcomeMade, lineCalls, sheetCalls, callPrints, callsPrint, allCalls, madeBy, SheetAgrees}
-use Rattle.calling.specs.Calls.{byLetter, callsOf}
+use Rattle.runner.specs.Calls.{callsOf}
 
 -- a record and a history after a list of calls
 abbrev runCalls : Running → List Call → Running
@@ -95,15 +98,30 @@ lines-run s q (suc k) =
     ∙ line-run (lineOf (partAt s (k + 2))) (runCalls (running q []) (sheetCalls s q k))
     ∙ sym (append-run (sheetCalls s q k) (lineCalls (afterAll q (sheetCalls s q k)) (lineOf (partAt s (k + 2))) (callsOf (lineOf (partAt s (k + 2))))) (running q []))
 
-fresh-judged : (q : Queue) → IsFresh q → (cs : List Call) → (b : Book) × (judged emptyBook q cs ≡ agrees b)
-fresh-judged q (fresh P N L a b c d e f) cs =
-    demand-three P N L (record { processors-low = a; processors-high = b; entries-low = c; entries-high = d; levels-low = e; levels-high = f }) cs
+-- the book agrees, also on the smallest queue, which stands for one that is not made
+made-judged :
+    (p n l : ℕ) (cs : List Call) →
+    (b : Book) × (judged emptyBook (made p n l .queue) cs ≡ agrees b)
+made-judged p n l cs = at (made p n l .refusal) refl
+  where
+    at : (r : ℕ) → made p n l .refusal ≡ r → (b : Book) × (judged emptyBook (made p n l .queue) cs ≡ agrees b)
+    at zero e =
+        let s = made-sizes p n l e in
+        rw (made-fresh p n l e)
+        (demand-three p n l
+        (record { processors-low = s .processors-low; processors-high = s .processors-high; entries-low = s .entries-low; entries-high = s .entries-high; levels-low = s .levels-low; levels-high = s .levels-high })
+        cs)
+    at (suc k) e =
+        rw (sym (made-not p n l (omega arith)))
+        (demand-three 1 1 1
+        (record { processors-low = omega arith; processors-high = omega arith; entries-low = omega arith; entries-high = omega arith; levels-low = omega arith; levels-high = omega arith })
+        cs)
 
 pub sheet-agrees : (s : List ℕ) → SheetAgrees s
 sheet-agrees s =
     let l = lineOf (partAt s 1) in
     let q = madeBy l in
-    let j = fresh-judged q (made-fresh (l .first) (l .second) (l .third)) (allCalls s q) in
+    let j = made-judged (l .first) (l .second) (l .third) (allCalls s q) in
     record {
       prints = ap (λ (r : Running). historyBytes (r .events)) (lines-run s q (lineCount s - 1));
       book = j .0;

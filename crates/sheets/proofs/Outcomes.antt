@@ -1,12 +1,11 @@
 -- The outcome of a sheet, one refusal after the other. Assumes nothing.
 use mathlib.Core.Path.{_≡_, refl, sym, ap, _∙_}
 use mathlib.Core.Bool.{Bool, true, false, cond}
-use mathlib.Core.List.{List, [], _∷_, _++_, append-assoc}
+use mathlib.Core.List.{List, [], _∷_, _++_}
 use Prim.Native.Nat.{ℕ, _+_, _≤_, _<_}
 use native.Mathlib.Omega.{arith}
 use lib.Dec.{ltb, eqb}
-use lib.ListN.{length, take, drop, length-append}
-use lib.Seq.{take-at}
+use lib.ListN.{length, drop}
 use borrow.Author.Tests.{lt-ltb, le-ltb, ltb-false, eq-eqb, ne-eqb}
 use Rattle.checks.specs.declared.making.Made.{Made}
 use Rattle.checks.specs.Making.{made}
@@ -14,7 +13,6 @@ use Rattle.record.specs.declared.queues.Queue.{Queue}
 use Rattle.record.specs.Report.{Report, report}
 use Rattle.sheet.specs.declared.events.Ran.{Ran}
 use Rattle.sheet.specs.declared.events.Ran.the-variants as ran
-use Rattle.sheet.specs.declared.lines.Line.{Line}
 use Rattle.sheet.specs.Lines.{lineOf, partAt, firstOutOfForm, firstMisplaced}
 use Rattle.sheet.specs.Sheets.{history, historyOf, fitted, ranSheet, atFront, written, areaAfter}
 use Rattle.sheet.specs.Sheets.{fittedOutcome, queueOutcome, outcome, ranOf, reportedRun}
@@ -95,14 +93,6 @@ length-fits h room n e = ltb-false room (length h) (at (ltb room (length h)) (sy
     at true k = k
     at false k = refl
 
-abbrev length-of : Ran → ℕ
-length-of (ran.Refused n k) = 0
-length-of (ran.Length n) = n
-
--- and its length
-pub length-told : (h : List ℕ) (room n : ℕ) → ran.Length n ≡ fitted h room → n ≡ length h
-length-told h room n e = ap length-of (e ∙ fits-length h room (length-fits h room n e))
-
 -- written in place, by a run after one that left the area as it was
 pub written-whole :
     (h area b a : List ℕ) (r : Ran) →
@@ -115,32 +105,6 @@ written-whole h area b a r f e i k =
     k
     ∙ ap (λ (x : List ℕ). h ++ drop (length h) x) e
     ∙ sym (ap (written h area) (i ∙ ap (λ (x : List ℕ). fitted h (length x)) e ∙ fits-length h (length area) f))
-
--- written aside, to the front of a longer list, and copied from there
-pub copied-whole :
-    (h area part rest a : List ℕ) (room n : ℕ) →
-    ran.Length n ≡ fitted h room →
-    part ≡ atFront h rest →
-    (more : List ℕ) →
-    a ≡ take n (part ++ more) ++ drop n area →
-    a ≡ written h area (ran.Length n)
-copied-whole h area part rest a room n e p more k =
-    k
-    ∙ ap (λ (x : List ℕ). x ++ drop n area)
-    (ap (λ (x : List ℕ). take n (x ++ more)) p ∙ ap (take n) (append-assoc h (drop (length h) rest) more) ∙ take-at h (drop (length h) rest ++ more) n (sym (length-told h room n e)))
-
-pub copied-within :
-    (h part rest : List ℕ) (room n : ℕ) →
-    ran.Length n ≡ fitted h room →
-    part ≡ atFront h rest →
-    (more : List ℕ) →
-    n ≤ length (part ++ more)
-copied-within h part rest room n e p more =
-    let a = length-append part more in
-    let b = ap length p in
-    let d = length-append h (drop (length h) rest) in
-    let m = length-told h room n e in
-    omega (arith, a, b, d, m)
 
 -- the outcome of the lines, as the outcome of the sheet
 pub sheet-written :

@@ -6,16 +6,17 @@ use mathlib.Core.List.{List, [], _∷_, _++_}
 use Rattle.checks.specs.Making.{made}
 use Rattle.record.specs.declared.queues.Queue.{Queue}
 use Rattle.rules.specs.declared.answers.Outcome.{Outcome}
+use Rattle.rules.specs.Answers.{isRefused}
 use Rattle.rules.specs.Book.{Book, emptyBook, agrees, judged}
 use Rattle.rules.specs.Calls.{beginInsert, beginDelete, step}
 use Rattle.rules.specs.Runs.{Call, insert, deleteMin, steps, backlog, after, afterAll}
 use Rattle.sheet.specs.declared.events.Event.{Event}
 use Rattle.sheet.specs.declared.lines.Line.{Line}
-use Rattle.sheet.specs.Events.{event, beginEvents, stepEvents, historyBytes, isRefused}
+use Rattle.sheet.specs.Events.{event, beginEvents, stepEvents, historyBytes}
 use Rattle.sheet.specs.Letters.{letterD, letterI}
 use Rattle.sheet.specs.Lines.{lineOf, partAt, lineCount}
 use Rattle.sheet.specs.Sheets.{historyOf}
-use Rattle.calling.specs.Calls.{byLetter, callsOf}
+use Rattle.runner.specs.Calls.{byLetter, callsOf}
 
 -- the call that a line makes, once or, an S line, so many times
 abbrev pub callMade : Line → Call

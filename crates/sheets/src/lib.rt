@@ -6,10 +6,8 @@ ghost use lib.ListN.{length};
 ghost use Rattle.sheet.specs.Kept.{keptTo, linesInForm};
 ghost use Rattle.sheet.specs.Sheets.{outcome, ranSheet, reportedRun, areaAfter};
 ghost use Rattle.sheets.specs.Agreement.{SheetAgrees};
-use crate::runs::run_once;
-use crate::runs::run_twice;
-use checks::Made;
-use checks::make;
+use crate::runs::run_made;
+use checks::making::making_refusal;
 use sheet::Line;
 use sheet::Ran;
 use sheet::forms::first_misplaced;
@@ -17,9 +15,6 @@ use sheet::forms::first_out_of_form;
 use sheet::kept::NUMBERS;
 use sheet::letters::LINE;
 use sheet::lines::line_at;
-
-// An area of at most this many bytes takes one run of the lines; a longer one takes two.
-const ONE_RUN: usize = 65536;
 
 // The numbers of so many lines are kept for the run: those that 64 KiB have whole. The lines behind
 // them are read again. A short sheet has a short list, which is filled more quickly.
@@ -47,15 +42,11 @@ fn run_keeping(sheet: &[u8], history: &mut [u8], kept: &mut [u32]) -> Ran
         return Ran::Refused(42, misplaced);
     }
     let l = line_at(sheet);
-    let m = make(l.first, l.second, l.third);
-    if 0 < m.refusal {
-        return Ran::Refused(m.refusal, 1);
+    let refusal = making_refusal(l.first, l.second, l.third);
+    if 0 < refusal {
+        return Ran::Refused(refusal, 1);
     }
-    let q = m.queue;
-    if history.len() <= ONE_RUN {
-        return run_once(sheet, q, history, kept);
-    }
-    run_twice(sheet, q, history, kept)
+    run_made(sheet, l, history, kept)
 }
 
 // Runs a sheet and writes its history: its length in bytes, or the refusal with its line (41, 42,

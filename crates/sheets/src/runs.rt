@@ -1,65 +1,68 @@
 // The run of a sheet's lines into an area that 43 leaves as it was.
 ghost use mathlib.Core.Path.{_≡_};
-ghost use mathlib.Core.Bool.{true};
-ghost use mathlib.Core.List.{_++_};
 ghost use Prim.Native.Nat.{_≤_};
-ghost use lib.ListN.{length, take, drop};
-ghost use Rattle.checks.specs.Check.{valid as validOf};
+ghost use lib.ListN.{length};
+ghost use Rattle.checks.specs.Making.{made};
+ghost use Rattle.image.specs.Image.{imageLength};
+ghost use Rattle.record.specs.Queues.{freshQueue};
 ghost use Rattle.sheet.specs.Kept.{IsKept};
 ghost use Rattle.sheet.specs.Sheets.{history as historyOf, fitted, written};
-use record::Queue;
+use image_make::make_at;
 use runner::run_lines;
+use sheet::Line;
 use sheet::Ran;
 
-// The first n bytes of one list, in place of the first n of another.
-fn copy_front(from: &[u8], to: &mut [u8], n: usize)
-    requires { ⌜ (n ≤ length (now from)) × (n ≤ length (now to)) ⌝ }
-    ensures { λ _. ⌜ now (to .exit) ≡ take n (now (from .entry)) ++ drop n (now (to .entry)) ⌝ }
-{
-    let mut k: usize = 0;
-    while k < n {
-        to[k] = from[k];
-        k = k + 1;
-    }
-}
+// The image of a queue with the most processors and nodes has so many bytes.
+const LONGEST: usize = 8561;
 
-// One run, whose history is written aside, and to the area if it fits.
-fn run_aside(sheet: &[u8], q: Queue, aside: &mut [u8], area: &mut [u8], kept: &[u32]) -> Ran
-    requires { ⌜ (validOf q ≡ true) × (length (now area) ≤ length (now aside)) ⌝ }
+// Two runs on a queue that is made anew for each, in the bytes lent: the first counts the history,
+// the second writes it.
+fn run_twice(
+    sheet: &[u8],
+    image: &mut [u8],
+    p: u8,
+    n: u8,
+    l: u8,
+    area: &mut [u8],
+    kept: &[u32],
+) -> Ran
+    requires { ⌜ length (now image) ≡ imageLength p n ⌝ }
+    requires { ⌜ (1 ≤ p) × (p ≤ 16) × (1 ≤ n) × (n ≤ 200) × (1 ≤ l) × (l ≤ 8) ⌝ }
     requires { ⌜ IsKept (now sheet) (now kept) ⌝ }
-    ensures { λ r. ⌜ r ≡ fitted (historyOf (now (sheet .entry)) q) (length (now (area .entry))) ⌝ }
-    ensures { λ r. ⌜ now (area .exit) ≡ written (historyOf (now (sheet .entry)) q) (now (area .entry)) r ⌝ }
+    ensures { λ r.
+        ⌜ r
+        ≡ fitted (historyOf (now (sheet .entry)) (freshQueue p n l)) (length (now (area .entry))) ⌝ }
+    ensures { λ r.
+        ⌜ now (area .exit)
+        ≡ written (historyOf (now (sheet .entry)) (freshQueue p n l)) (now (area .entry)) r ⌝ }
 {
-    let room = area.len();
-    let part = &mut aside[..room];
-    match run_lines(sheet, q, part, true, kept) {
+    make_at(image, p, n, l);
+    match run_lines(sheet, image, area, false, kept) {
         Ran::Refused(number, line) => Ran::Refused(number, line),
-        Ran::Length(bytes) => {
-            copy_front(aside, area, bytes);
-            Ran::Length(bytes)
+        Ran::Length(_) => {
+            make_at(image, p, n, l);
+            run_lines(sheet, image, area, true, kept)
         }
     }
 }
 
-// The same with an array of its own, for an area of at most 64 KiB.
-pub(crate) fn run_once(sheet: &[u8], q: Queue, area: &mut [u8], kept: &[u32]) -> Ran
-    requires { ⌜ (validOf q ≡ true) × (length (now area) ≤ 65536) ⌝ }
+// The lines behind a Q line that is not refused, run with an image of its own.
+pub(crate) fn run_made(sheet: &[u8], l: Line, area: &mut [u8], kept: &[u32]) -> Ran
+    requires { ⌜ made (l .first) (l .second) (l .third) .refusal ≡ 0 ⌝ }
     requires { ⌜ IsKept (now sheet) (now kept) ⌝ }
-    ensures { λ r. ⌜ r ≡ fitted (historyOf (now (sheet .entry)) q) (length (now (area .entry))) ⌝ }
-    ensures { λ r. ⌜ now (area .exit) ≡ written (historyOf (now (sheet .entry)) q) (now (area .entry)) r ⌝ }
+    ensures { λ r.
+        ⌜ r
+        ≡ fitted (historyOf (now (sheet .entry)) (made (l .first) (l .second) (l .third) .queue))
+        (length (now (area .entry))) ⌝ }
+    ensures { λ r.
+        ⌜ now (area .exit)
+        ≡ written (historyOf (now (sheet .entry)) (made (l .first) (l .second) (l .third) .queue))
+        (now (area .entry)) r ⌝ }
 {
-    let mut aside = [0; 65536];
-    run_aside(sheet, q, &mut aside, area, kept)
-}
-
-// Two runs: the first counts the history, the second writes it.
-pub(crate) fn run_twice(sheet: &[u8], q: Queue, area: &mut [u8], kept: &[u32]) -> Ran
-    requires { ⌜ (validOf q ≡ true) × IsKept (now sheet) (now kept) ⌝ }
-    ensures { λ r. ⌜ r ≡ fitted (historyOf (now (sheet .entry)) q) (length (now (area .entry))) ⌝ }
-    ensures { λ r. ⌜ now (area .exit) ≡ written (historyOf (now (sheet .entry)) q) (now (area .entry)) r ⌝ }
-{
-    match run_lines(sheet, q, area, false, kept) {
-        Ran::Refused(number, line) => Ran::Refused(number, line),
-        Ran::Length(_) => run_lines(sheet, q, area, true, kept),
-    }
+    let mut store: [u8; LONGEST] = [0; LONGEST];
+    let p = l.first as u8;
+    let n = l.second as u8;
+    let end = 7 + 17 * (p as usize) + 41 * ((n as usize) + 2);
+    let image = &mut store[..end];
+    run_twice(sheet, image, p, n, l.third as u8, area, kept)
 }

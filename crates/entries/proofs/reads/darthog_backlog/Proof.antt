@@ -1,36 +1,53 @@
+use mathlib.Core.Path.{_≡_, sym, _∙_}
+use native.Mathlib.Omega.{arith}
 use borrow.Author.Tests.{not-true, not-false}
-use Rattle.entries.proofs.Stored.{none-counted, counted}
+use Rattle.image_check.proofs.Tests.{passes-sound}
+use Rattle.entries.proofs.Stored.{not-counted, counted}
 use borrow.Author.Needs.{needs}
 use Rattle.entries.proofs.reads.darthog_backlog.Statement.{statement}
 use Rattle.entries.proofs.reads.darthog_backlog.Tie as tie
 
-decode-requires : tie.Need-decode-requires
-decode-requires c κs = search needs
+passes-requires : tie.Need-passes-requires
+passes-requires c κs = search needs
 
 refusal-requires : tie.Need-refusal-requires
 refusal-requires c κs = search needs
 
 returns : tie.Need-returns
 returns c =
-    none-counted _ _ _ (c .before .before .before .decode .ensures) (not-true _ (c .before .if1 .taken)) (c .refusal .ensures)
+    let s = c .before .before .before .before in
+    not-counted (s .args .image .now) _
+    (sym (c .before .before .passes .ensures) ∙ not-true _ (c .before .if1 .taken))
+    (c .refusal .ensures)
 
-backlog-requires : tie.Need-backlog-requires
-backlog-requires c κs = search needs
+pending-requires : tie.Need-pending-requires
+pending-requires c κs =
+    let b = c .before .before .before .args .image .now in
+    passes-sound b (λ k. omega (arith, c .before .before .shared-slice-known .given k))
+    (sym (c .before .passes .ensures) ∙ not-false _ (c .if1 .left))
 
-count-reply-requires : tie.Need-count-reply-requires
-count-reply-requires c κs = search needs
+cast-accepted : tie.Need-cast-accepted
+cast-accepted c = search needs
+
+accepted-requires : tie.Need-accepted-requires
+accepted-requires c κs = search needs
 
 returns-2 : tie.Need-returns-2
 returns-2 c =
-    counted _ _ _ _ (c .before .before .before .before .before .decode .ensures) (not-false _ (c .before .before .before .if1 .left)) (c .before .backlog .ensures .0) (c .count-reply .ensures)
+    let b = c .before .before .before .before .before .args .image .now in
+    counted b _
+    (sym (c .before .before .before .passes .ensures)
+    ∙ not-false _ (c .before .before .if1 .left)) _ (c .before .pending .ensures)
+    (c .accepted .ensures)
 
 pub darthog-backlog-spec : {M : Type 1} → statement M
 darthog-backlog-spec =
     tie.close
     (tie.spec
-    decode-requires
+    passes-requires
     refusal-requires
     returns
-    backlog-requires
-    count-reply-requires
+    pending-requires
+    cast-accepted
+    accepted-requires
     returns-2)

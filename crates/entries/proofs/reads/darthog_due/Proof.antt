@@ -13,7 +13,9 @@ minutes-reply-requires : tie.Need-minutes-reply-requires
 minutes-reply-requires c κs = search needs
 
 returns : tie.Need-returns
-returns c = c .minutes-reply .ensures ∙ ap (λ (m : Minutes). replyOf (reportedMinutes m)) (c .before .due-from-seconds .ensures .0)
+returns c =
+    c .minutes-reply .ensures
+    ∙ ap (λ (m : Minutes). replyOf (reportedMinutes m)) (c .before .due-from-seconds .ensures .0)
 
 pub darthog-due-spec : {M : Type 1} → statement M
 darthog-due-spec = tie.close (tie.spec due-from-seconds-requires minutes-reply-requires returns)

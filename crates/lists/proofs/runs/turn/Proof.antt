@@ -3,37 +3,56 @@ use borrow.Author.Needs.{needs}
 use Rattle.lists.proofs.runs.turn.Statement.{statement}
 use Rattle.lists.proofs.runs.turn.Tie as tie
 
-begin-insert-valid-requires : tie.Need-begin-insert-valid-requires
-begin-insert-valid-requires c κs = search needs
+begin-insert-at-requires : tie.Need-begin-insert-at-requires
+begin-insert-at-requires c κs = search needs
+
+same-length : tie.Need-same-length
+same-length c = search needs
 
 returns : tie.Need-returns
 returns c =
-    let x = c .before .before .before in
-    turned-insert (x .args .q) (x .args .a) _ (x .pre) (c .begin-insert-valid .ensures .1) (c .before .if1 .taken) (c .begin-insert-valid .ensures .0)
+    let s = c .before .before .before .before .before .before .before in
+    turned-insert (s .args .image .now) (s .args .a) _ _ (s .pre)
+    (c .before .before .before .before .if1 .taken)
+    (c .before .before .begin-insert-at .ensures)
 
-begin-delete-valid-requires : tie.Need-begin-delete-valid-requires
-begin-delete-valid-requires c κs = search needs
+begin-delete-at-requires : tie.Need-begin-delete-at-requires
+begin-delete-at-requires c κs = search needs
+
+same-length-2 : tie.Need-same-length-2
+same-length-2 c = search needs
 
 returns-2 : tie.Need-returns-2
 returns-2 c =
-    let x = c .before .before .before .before .before in
-    turned-delete (x .args .q) (x .args .a) _ (x .pre) (c .begin-delete-valid .ensures .1) (c .before .before .before .if1 .left) (c .before .if2 .taken) (c .begin-delete-valid .ensures .0)
+    let s = c .before .before .before .before .before .before .before .before .before in
+    turned-delete (s .args .image .now) (s .args .a) _ _ (s .pre)
+    (c .before .before .before .before .before .before .if1 .left)
+    (c .before .before .before .before .if2 .taken)
+    (c .before .before .begin-delete-at .ensures)
 
-step-valid-requires : tie.Need-step-valid-requires
-step-valid-requires c κs = search needs
+step-at-requires : tie.Need-step-at-requires
+step-at-requires c κs = search needs
+
+same-length-3 : tie.Need-same-length-3
+same-length-3 c = search needs
 
 returns-3 : tie.Need-returns-3
 returns-3 c =
-    let x = c .before .before .before .before .before in
-    turned-step (x .args .q) (x .args .a) _ (x .pre) (c .step-valid .ensures .1) (c .before .before .before .if1 .left) (c .before .if2 .left) (c .step-valid .ensures .0)
+    let s = c .before .before .before .before .before .before .before .before .before in
+    turned-step (s .args .image .now) (s .args .a) _ _ (s .pre)
+    (c .before .before .before .before .before .before .if1 .left)
+    (c .before .before .before .before .if2 .left) (c .before .before .step-at .ensures)
 
 pub turn-spec : {M : Type 1} → statement M
 turn-spec =
     tie.close
     (tie.spec
-    begin-insert-valid-requires
+    begin-insert-at-requires
+    same-length
     returns
-    begin-delete-valid-requires
+    begin-delete-at-requires
+    same-length-2
     returns-2
-    step-valid-requires
+    step-at-requires
+    same-length-3
     returns-3)

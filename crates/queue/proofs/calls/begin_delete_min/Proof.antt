@@ -3,7 +3,7 @@ use borrow.Author.Needs.{needs}
 use borrow.Author.Tests.{not-true, not-false}
 use Rattle.rules.specs.declared.answers.Outcome.{Outcome}
 use Rattle.rules.specs.Answers.{reported}
-use Rattle.queue.proofs.Begun.{delete-inner, delete-refused}
+use Rattle.rules.proofs.Inner.{delete-inner, delete-refused}
 use Rattle.queue.proofs.calls.begin_delete_min.Statement.{statement}
 use Rattle.queue.proofs.calls.begin_delete_min.Tie as tie
 

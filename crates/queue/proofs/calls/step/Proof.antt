@@ -3,7 +3,7 @@ use borrow.Author.Needs.{needs}
 use borrow.Author.Tests.{not-true, not-false}
 use Rattle.rules.specs.declared.answers.Outcome.{Outcome}
 use Rattle.rules.specs.Answers.{reported}
-use Rattle.queue.proofs.Steps.{step-inner, step-refused}
+use Rattle.rules.proofs.Inner.{step-inner, step-refused}
 use Rattle.queue.proofs.calls.step.Statement.{statement}
 use Rattle.queue.proofs.calls.step.Tie as tie
 

@@ -9,7 +9,8 @@ use Rattle.record.specs.Queues.{processorAt}
 use Rattle.record.specs.Stages.{isIdle}
 use Rattle.checks.proofs.Reading.{node-read, processor-read}
 use Rattle.choosing.proofs.Bounds.{nodes-long, callers-long, processor-low}
-use Rattle.queue.proofs.Begun.{delete-changes, delete-accepted, delete-kept}
+use Rattle.queue.proofs.Begun.{delete-changes}
+use Rattle.rules.proofs.Inner.{delete-accepted, delete-kept}
 use Rattle.queue.proofs.deleting.begin_delete_valid.Statement.{statement}
 use Rattle.queue.proofs.deleting.begin_delete_valid.Tie as tie
 

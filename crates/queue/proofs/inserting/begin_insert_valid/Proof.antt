@@ -15,8 +15,10 @@ use Rattle.choosing.specs.Begins.{numbersRefusal}
 use Rattle.choosing.proofs.Bounds.{nodes-long, callers-long, entries-high, processor-low}
 use Rattle.choosing.proofs.Numbers.{height-taken}
 use Rattle.queue.proofs.Steps.{changes}
-use Rattle.queue.proofs.Begun.{chosen-low, height-high, insert-decided, insert-takes}
-use Rattle.queue.proofs.Begun.{insert-told, insert-without, insert-accepted, insert-kept}
+use Rattle.queue.proofs.Begun.{chosen-low, insert-decided, insert-takes}
+use Rattle.choosing.proofs.Inserts.{height-high}
+use Rattle.rules.proofs.Inner.{insert-kept}
+use Rattle.choosing.proofs.Inserts.{insert-told, insert-without, insert-accepted}
 use Rattle.queue.proofs.inserting.begin_insert_valid.Statement.{statement}
 use Rattle.queue.proofs.inserting.begin_insert_valid.Tie as tie
 

@@ -15,7 +15,8 @@ use Rattle.record.specs.Stages.{isIdle}
 use Rattle.checks.proofs.Reading.{noProcessor, node-read, processor-read}
 use Rattle.rules.specs.Calls.{readingPlace, nextOf}
 use Rattle.choosing.proofs.Bounds.{nodes-long, callers-long, entries-high, processor-low, place-low, own-low, next-low, changed-low}
-use Rattle.queue.proofs.Steps.{decided, changes, step-accepted, step-kept}
+use Rattle.queue.proofs.Steps.{decided, changes}
+use Rattle.rules.proofs.Inner.{step-accepted, step-kept}
 use Rattle.queue.proofs.stepping.step_valid.Statement.{statement}
 use Rattle.queue.proofs.stepping.step_valid.Tie as tie
 

@@ -1,0 +1,49 @@
+-- One step more, and all of them. Assumes nothing.
+use mathlib.Core.Path.{_≡_, refl, sym, ap, _∙_}
+use mathlib.Core.Bool.{true, false}
+use mathlib.Core.List.{List}
+use Prim.Native.Nat.{ℕ, _+_}
+use native.Mathlib.Numerals.{add-one}
+use lib.ListN.{length, getD}
+use Rattle.record.specs.declared.queues.Queue.{Queue}
+use Rattle.rules.specs.declared.answers.Answer.{Answer}
+use Rattle.rules.specs.Calls.{stepValid}
+use Rattle.rules.specs.Runs.{steps}
+use Rattle.image.specs.Image.{imageOf, queueIn, passesOf, Sound}
+use Rattle.image_parts.specs.Given.{Stepped}
+use Rattle.image_parts.proofs.Sounds.{queue-after, step-is}
+use Rattle.bench.specs.Turns.{steppedTo, readyCode, bytesStepped}
+
+pub none-stepped : (q : Queue) (l : List ℕ) → q ≡ steppedTo q l 0
+unfolding steppedTo
+none-stepped q l = refl
+
+step-more : (q : Queue) (l : List ℕ) (i : ℕ) → steppedTo q l (i + 1)
+    ≡ stepValid (steppedTo q l i) (getD l i 0) .queue
+unfolding steppedTo
+step-more q l i = ap (steppedTo q l) (add-one i)
+
+pub one-stepped :
+    (q : Queue) (l : List ℕ) (i : ℕ) (b c : List ℕ) (r : Answer) → Sound b →
+    queueIn b ≡ steppedTo q l i → Stepped b (getD l i 0) c r → queueIn c ≡ steppedTo q l (i + 1)
+one-stepped q l i b c r s h g =
+    let p = getD l i 0 in
+    queue-after b s (steps p) (stepValid (queueIn b) p) (step-is b s p) c r g
+    ∙ ap (λ (u : Queue). stepValid u p .queue) h
+    ∙ sym (step-more q l i)
+
+pub all-stepped :
+    (q : Queue) (l : List ℕ) (n : ℕ) (b : List ℕ) → Sound b → queueIn b ≡ steppedTo q l n →
+    n ≡ length l → b ≡ imageOf (steppedTo q l (length l))
+all-stepped q l n b s h e = sym (s .image) ∙ ap imageOf (h ∙ ap (steppedTo q l) e)
+
+module _ (b l : List ℕ) where
+  pub not-ready : passesOf b ≡ false → (21 ≡ readyCode b) × (b ≡ bytesStepped b l)
+  unfolding readyCode bytesStepped
+  not-ready h = (rw h refl, rw h refl)
+
+  pub was-ready :
+      (c : List ℕ) → passesOf b ≡ true → c ≡ imageOf (steppedTo (queueIn b) l (length l)) →
+      (0 ≡ readyCode b) × (c ≡ bytesStepped b l)
+  unfolding readyCode bytesStepped
+  was-ready c h e = (rw h refl, e ∙ rw h refl)

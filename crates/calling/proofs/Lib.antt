@@ -1,4 +1,0 @@
-pub mod Accepting
-pub mod Called
-pub mod Histories
-pub mod States

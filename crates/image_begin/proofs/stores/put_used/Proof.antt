@@ -1,0 +1,66 @@
+use native.Mathlib.Omega.{arith}
+use lib.ListN.{length-set}
+use borrow.Author.Needs.{needs}
+use Rattle.image_begin.proofs.stores.put_used.Statement.{statement}
+use Rattle.image_begin.proofs.stores.put_used.Tie as tie
+
+add-b : tie.Need-add-b
+add-b c = search needs
+
+slice-write-b : tie.Need-slice-write-b
+slice-write-b c = search needs
+
+add-b-2 : tie.Need-add-b-2
+add-b-2 c = search needs
+
+slice-write-b-2 : tie.Need-slice-write-b-2
+slice-write-b-2 c = simp length-set (omega arith)
+
+add-b-3 : tie.Need-add-b-3
+add-b-3 c = search needs
+
+slice-write-b-3 : tie.Need-slice-write-b-3
+slice-write-b-3 c = simp length-set (omega arith)
+
+add-b-4 : tie.Need-add-b-4
+add-b-4 c = search needs
+
+slice-write-b-4 : tie.Need-slice-write-b-4
+slice-write-b-4 c = simp length-set (omega arith)
+
+add-b-5 : tie.Need-add-b-5
+add-b-5 c = search needs
+
+slice-write-b-5 : tie.Need-slice-write-b-5
+slice-write-b-5 c = simp length-set (omega arith)
+
+add-b-6 : tie.Need-add-b-6
+add-b-6 c = search needs
+
+slice-write-b-6 : tie.Need-slice-write-b-6
+slice-write-b-6 c = simp length-set (omega arith)
+
+same-length : tie.Need-same-length
+same-length c = search needs
+
+returns : tie.Need-returns
+returns c = search needs
+
+pub put-used-spec : {M : Type 1} → statement M
+put-used-spec =
+    tie.close
+    (tie.spec
+    add-b
+    slice-write-b
+    add-b-2
+    slice-write-b-2
+    add-b-3
+    slice-write-b-3
+    add-b-4
+    slice-write-b-4
+    add-b-5
+    slice-write-b-5
+    add-b-6
+    slice-write-b-6
+    same-length
+    returns)

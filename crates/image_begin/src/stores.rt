@@ -1,0 +1,94 @@
+// The stores of a begin.
+ghost use mathlib.Core.Path.{_≡_};
+ghost use mathlib.Core.List.{_++_};
+ghost use Prim.Native.Nat.{ℕ, _+_, _≤_, _<_};
+ghost use lib.ListN.{length};
+ghost use Rattle.image.specs.Puts.{puts, four};
+ghost use Rattle.image_begin.specs.Stores.{levels, unmarked, used, fills, begun};
+use image::numbers::put_number;
+
+fn put_levels(b: &mut [u8], o: usize, j: usize, l: usize, v: u8)
+    requires { ⌜ (o + (j + 8) ≤ length (now b)) × (length (now b) ≤ 8561) × (l ≤ 8) ⌝ }
+    ensures { λ _. ⌜ now (b .exit) ≡ puts (now (b .entry)) o (levels j l v) ⌝ }
+{
+    let mut k: usize = 0;
+    while k < l {
+        b[o + (j + k)] = v;
+        k = k + 1;
+    }
+}
+
+fn put_links(b: &mut [u8], o: usize, l: usize, tail: u8)
+    requires { ⌜ (o + 41 ≤ length (now b)) × (length (now b) ≤ 8561) × (l ≤ 8) ⌝ }
+    ensures { λ _. ⌜ now (b .exit) ≡ puts (now (b .entry)) o (levels 0 l tail ++ levels 8 l 0) ⌝ }
+{
+    put_levels(b, o, 0, l, tail);
+    put_levels(b, o, 8, l, 0);
+}
+
+// Held by h, unmarked and unstamped.
+fn put_unmarked(b: &mut [u8], o: usize, h: u8)
+    requires { ⌜ (o + 41 ≤ length (now b)) × (length (now b) ≤ 8561) ⌝ }
+    ensures { λ _. ⌜ now (b .exit) ≡ puts (now (b .entry)) o (unmarked h) ⌝ }
+{
+    b[o + 16] = h;
+    b[o + 17] = 0;
+    b[o + 18] = 0;
+    b[o + 19] = 0;
+    b[o + 20] = 0;
+    b[o + 21] = 0;
+    b[o + 22] = 0;
+}
+
+fn put_entry(b: &mut [u8], o: usize, t: u32, due: u32, item: u32)
+    requires { ⌜ (o + 41 ≤ length (now b)) × (length (now b) ≤ 8561) ⌝ }
+    ensures { λ _. ⌜ now (b .exit) ≡ puts (puts (puts (now (b .entry)) o (four 23 due)) o (four 27 t)) o (four 31 item) ⌝ }
+{
+    put_number(b, o, 23, due);
+    put_number(b, o, 27, t);
+    put_number(b, o, 31, item);
+}
+
+fn put_used(b: &mut [u8], o: usize, height: u8)
+    requires { ⌜ (o + 41 ≤ length (now b)) × (length (now b) ≤ 8561) ⌝ }
+    ensures { λ _. ⌜ now (b .exit) ≡ puts (now (b .entry)) o (used height) ⌝ }
+{
+    b[o + 35] = height;
+    b[o + 36] = 1;
+    b[o + 37] = 0;
+    b[o + 38] = 0;
+    b[o + 39] = 0;
+    b[o + 40] = 0;
+}
+
+// The node that starts at o is filled in.
+pub(crate) fn fill(
+    b: &mut [u8],
+    o: usize,
+    l: usize,
+    tail: u8,
+    h: u8,
+    t: u32,
+    due: u32,
+    item: u32,
+    height: u8,
+)
+    requires { ⌜ (o + 41 ≤ length (now b)) × (length (now b) ≤ 8561) × (l ≤ 8) ⌝ }
+    ensures { λ _. ⌜ now (b .exit) ≡ puts (now (b .entry)) o (fills l tail h t due item height) ⌝ }
+{
+    put_links(b, o, l, tail);
+    put_unmarked(b, o, h);
+    put_entry(b, o, t, due, item);
+    put_used(b, o, height);
+}
+
+// The processor that starts at o begins.
+pub(crate) fn begin(b: &mut [u8], o: usize, t: u32, own: u8, tag: u8, level: u8)
+    requires { ⌜ (o + 17 ≤ length (now b)) × (length (now b) ≤ 8561) ⌝ }
+    ensures { λ _. ⌜ now (b .exit) ≡ puts (now (b .entry)) o (begun t own tag level) ⌝ }
+{
+    put_number(b, o, 0, t);
+    b[o + 4] = own;
+    b[o + 5] = tag;
+    b[o + 7] = level;
+}

@@ -1,0 +1,254 @@
+-- The tests of a node's, of a processor's and of all bytes. Assumes nothing.
+use mathlib.Core.Path.{_≡_, refl, sym, _∙_, ap}
+use mathlib.Core.Bool.{Bool, true, false, _&&_}
+use mathlib.Core.List.{List}
+use Prim.Native.Nat.{ℕ, zero, suc, _+_, _*_, _≤_, _<_}
+use native.Mathlib.Omega.{arith}
+use lib.Dec.{leb}
+use lib.ListN.{length, getD}
+use borrow.Author.Tests.{eq-eqb, ne-eqb, le-leb, lt-leb}
+use Rattle.laws.specs.Every.{everyBelow, allAtMost}
+use Rattle.laws.proofs.Counting.{and-left, and-right}
+use Rattle.checks.specs.Check.{within, stampValid, useValid, sizesOf, sizesValid, nodeValid}
+use Rattle.checks.specs.Check.{processorValid, valid}
+use Rattle.image.specs.Tags.{timed, stampOf, stampTaken, useOf, useTaken, code, stageTaken}
+use Rattle.record.specs.declared.nodes.Node.{Node}
+use Rattle.record.specs.declared.queues.Processor.{Processor}
+use Rattle.record.specs.Queues.{nodeAt, processorAt}
+use Rattle.image.specs.Lists.{allBelow}
+use Rattle.image.specs.Numbers.{number32}
+use Rattle.image.specs.Pieces.{readNode, readProcessor}
+use Rattle.image.specs.OneToOne.{Bytes}
+use Rattle.image.specs.Puts.{piece}
+use Rattle.image.specs.Image.{startOf, lengthOf, callerPart, nodePart, queueIn, hasRoom, isImage}
+use Rattle.image.specs.Image.{passesOf, Sound}
+use Rattle.image.proofs.Fields.{number, eightFrom, nodeFrom, callerFrom, part-bytes, node-is}
+use Rattle.image.proofs.Fields.{caller-is, eight-at, number-at}
+use Rattle.image.proofs.Inverse.{image-facts, read-is-written}
+use Rattle.image_check.specs.Kinds.{kinds, kindTest}
+use Rattle.image_check.specs.Tests.{sizes, nodeOk, callerOk}
+use Rattle.image_check.proofs.Stages.{and-false, stage-tests}
+
+levels-same : (f : ℕ → ℕ) (j l top : ℕ) → l ≤ 8 → allAtMost (eightFrom f j) l top
+    ≡ everyBelow (λ (k : ℕ). leb (f (j + k)) top) l
+levels-same f j zero top h = refl
+levels-same f j (suc l) top h =
+    rw (levels-same f j l top (omega arith), eight-at f j l (omega arith)) refl
+
+abbrev nodeTaken : (ℕ → ℕ) → Bool
+nodeTaken f =
+    leb (f 17) 1 &&
+    (stampTaken (timed (f 18) (number f 19)) && useTaken (timed (f 36) (number f 37)))
+
+abbrev callerTaken : (ℕ → ℕ) → Bool
+callerTaken f = stageTaken (code (f 5) (f 6) (f 7) (f 8))
+
+node-ok : (b : List ℕ) → readNode b .ok ≡ nodeTaken (λ (j : ℕ). getD b j 0)
+unfolding readNode
+node-ok b = refl
+
+caller-ok : (b : List ℕ) → readProcessor b .ok ≡ callerTaken (λ (j : ℕ). getD b j 0)
+unfolding readProcessor
+caller-ok b = refl
+
+spread : (m s u l e sv uv : Bool) → ((((m && l) && e) && (s && sv)) && (u && uv))
+    ≡ ((m && (s && u)) && (((l && e) && sv) && uv))
+spread false s u l e sv uv = refl
+spread true false u l e sv uv = rw (and-false (l && e)) refl
+spread true true false l e sv uv = and-false ((l && e) && sv)
+spread true true true l e sv uv = refl
+
+-- node x, in the order of the code
+module _ (b : List ℕ) (x : ℕ) (low : x ≤ getD b 1 0 + 1) (short : getD b 1 0 ≤ 200)
+    (few : getD b 2 0 ≤ 8) where
+  pub node-tests :
+      ((((leb (getD b (startOf b + 41 * x + 17) 0) 1
+      && (everyBelow (λ (k : ℕ). leb (piece b (startOf b + 41 * x) (0 + k)) (getD b 1 0 + 1))
+      (getD b 2 0)
+      && everyBelow (λ (k : ℕ). leb (piece b (startOf b + 41 * x) (8 + k)) (getD b 0 0))
+      (getD b 2 0)
+      && leb (getD b (startOf b + 41 * x + 16) 0) (getD b 0 0)))
+      && (leb (number32 b (startOf b + 41 * x + 23)) 999999
+      && leb (number32 b (startOf b + 41 * x + 31)) 999999
+      && leb (number32 b (startOf b + 41 * x + 27)) (number32 b 3)
+      && within (getD b (startOf b + 41 * x + 35) 0) (getD b 2 0)))
+      && (stampTaken
+      (timed (getD b (startOf b + 41 * x + 18) 0) (number32 b (startOf b + 41 * x + 19)))
+      && stampValid
+      (stampOf
+      (timed (getD b (startOf b + 41 * x + 18) 0) (number32 b (startOf b + 41 * x + 19))))
+      (within x (getD b 1 0)) (number32 b 3)))
+      && (useTaken
+      (timed (getD b (startOf b + 41 * x + 36) 0) (number32 b (startOf b + 41 * x + 37)))
+      && useValid
+      (useOf
+      (timed (getD b (startOf b + 41 * x + 36) 0) (number32 b (startOf b + 41 * x + 37))))
+      (number32 b 3)))
+      ≡ nodeOk b x
+  unfolding queueIn nodeOk
+  node-tests =
+      let o = startOf b + 41 * x in
+      let f = piece b o in
+      let n = nodeFrom f in
+      let g = number32 b 3 in
+      let e : readNode (nodePart b x) .ok ≡ nodeTaken f =
+      node-ok (nodePart b x) ∙ ap nodeTaken (part-bytes b 41 o) in
+      rw (
+        number-at b o 23,
+        number-at b o 31,
+        number-at b o 27,
+        number-at b o 19,
+        number-at b o 37,
+        sym (levels-same f 0 (getD b 2 0) (getD b 1 0 + 1) few),
+        sym (levels-same f 8 (getD b 2 0) (getD b 0 0) few),
+      )
+      (spread (leb (f 17) 1) (stampTaken (timed (f 18) (number f 19)))
+      (useTaken (timed (f 36) (number f 37)))
+      (allAtMost (eightFrom f 0) (getD b 2 0) (getD b 1 0 + 1) && allAtMost (eightFrom f 8)
+      (getD b 2 0) (getD b 0 0) && leb (f 16) (getD b 0 0))
+      (leb (number f 23) 999999 && leb (number f 31) 999999 && leb (number f 27) g && within (f 35)
+      (getD b 2 0))
+      (stampValid (n .stamp) (within x (getD b 1 0)) g) (useValid (n .state) g)
+      ∙ ap (λ (t : Bool). t && nodeValid (sizesOf (queueIn b)) x n) (sym e)
+      ∙ ap (λ (m : Node). readNode (nodePart b x) .ok && nodeValid (sizesOf (queueIn b)) x m)
+      (sym (node-is b (startOf b) refl short x (omega arith))))
+
+swap : (e t v : Bool) → (e && (t && v)) ≡ (t && (e && v))
+swap true t v = refl
+swap false t v = sym (and-false t)
+
+tag-past : (t a i x : ℕ) → 26 < t → stageTaken (code t a i x) ≡ false
+tag-past t a i x h =
+    rw (
+      ne-eqb t 0 (λ e. omega arith),
+      lt-leb t 10 (omega arith),
+      ne-eqb t 11 (λ e. omega arith),
+      ne-eqb t 12 (λ e. omega arith),
+      ne-eqb t 13 (λ e. omega arith),
+      ne-eqb t 14 (λ e. omega arith),
+      ne-eqb t 15 (λ e. omega arith),
+      lt-leb t 19 (omega arith),
+      ne-eqb t 20 (λ e. omega arith),
+      ne-eqb t 21 (λ e. omega arith),
+      ne-eqb t 22 (λ e. omega arith),
+      ne-eqb t 23 (λ e. omega arith),
+      ne-eqb t 24 (λ e. omega arith),
+      ne-eqb t 25 (λ e. omega arith),
+      ne-eqb 26 t (λ e. omega arith),
+    )
+    refl
+
+-- processor p
+module _ (b : List ℕ) (p : ℕ) (low : p < getD b 0 0) (many : getD b 0 0 ≤ 16)
+    (tall : 1 ≤ getD b 2 0) (few : getD b 2 0 ≤ 8) where
+  caller-taken : readProcessor (callerPart b p) .ok ≡ callerTaken (piece b (7 + 17 * p))
+  caller-taken = caller-ok (callerPart b p) ∙ ap callerTaken (part-bytes b 17 (7 + 17 * p))
+
+  pub caller-past : 26 < getD b (7 + 17 * p + 5) 0 → false ≡ callerOk b p
+  unfolding callerOk
+  caller-past h =
+      let f = piece b (7 + 17 * p) in
+      sym (ap (λ (t : Bool). t && processorValid (sizesOf (queueIn b)) (processorAt (queueIn b) p))
+      (caller-taken ∙ tag-past (f 5) (f 6) (f 7) (f 8) h))
+
+  pub caller-tests : getD b (7 + 17 * p + 5) 0 < 27 →
+      ((leb (number32 b (7 + 17 * p + 0)) (number32 b 3)
+      && everyBelow (λ (k : ℕ). leb (piece b (7 + 17 * p) (9 + k)) (getD b 1 0 + 1)) (getD b 2 0))
+      && kindTest (getD kinds (getD b (7 + 17 * p + 5) 0) 0) (getD b (7 + 17 * p + 6) 0)
+      (getD b (7 + 17 * p + 7) 0) (getD b (7 + 17 * p + 8) 0) (getD b (7 + 17 * p + 4) 0)
+      (getD b 1 0) (getD b 2 0))
+      ≡ callerOk b p
+  unfolding queueIn callerOk
+  caller-tests h =
+      let o = 7 + 17 * p in
+      let f = piece b o in
+      let s = sizesOf (queueIn b) in
+      rw (
+        number-at b o 0,
+        sym (levels-same f 9 (getD b 2 0) (getD b 1 0 + 1) few),
+        sym
+            (stage-tests s (f 6) (f 7) (f 8) (f 4) tall (f 5) h),
+      )
+      (swap (leb (number f 0) (number32 b 3) && allAtMost (eightFrom f 9) (getD b 2 0)
+      (getD b 1 0 + 1)) (callerTaken f) _
+      ∙ ap (λ (t : Bool). t && processorValid s (callerFrom f)) (sym caller-taken)
+      ∙ ap (λ (c : Processor). readProcessor (callerPart b p) .ok && processorValid s c)
+      (sym (caller-is b p many low)))
+
+-- all bytes
+every-both : (f g : ℕ → Bool) (n : ℕ) → everyBelow (λ k. f k && g k) n
+    ≡ (everyBelow f n && everyBelow g n)
+every-both f g zero = refl
+every-both f g (suc n) = rw (every-both f g n) (four (everyBelow f n) (everyBelow g n) (f n) (g n))
+  where
+    four : (a c x y : Bool) → ((a && c) && (x && y)) ≡ ((a && x) && (c && y))
+    four false c x y = refl
+    four true true x y = refl
+    four true false x y = sym (and-false x)
+
+mix : (ca vc kn vn : Bool) → ((ca && vc) && (kn && vn)) ≡ ((ca && kn) && (vn && vc))
+mix false vc kn vn = refl
+mix true vc false vn = and-false vc
+mix true true true true = refl
+mix true true true false = refl
+mix true false true true = refl
+mix true false true false = refl
+
+module _ (b : List ℕ) where
+  nodes-every : everyBelow (nodeOk b) (getD b 1 0 + 2)
+      ≡ (allBelow (λ x. readNode (nodePart b x) .ok) (getD b 1 0 + 2) && everyBelow
+      (λ x. nodeValid (sizesOf (queueIn b)) x (nodeAt (queueIn b) x)) (getD b 1 0 + 2))
+  unfolding nodeOk allBelow
+  nodes-every =
+      every-both (λ x. readNode (nodePart b x) .ok)
+      (λ x. nodeValid (sizesOf (queueIn b)) x (nodeAt (queueIn b) x)) (getD b 1 0 + 2)
+
+  callers-every : everyBelow (callerOk b) (getD b 0 0)
+      ≡ (allBelow (λ p. readProcessor (callerPart b p) .ok) (getD b 0 0) && everyBelow
+      (λ p. processorValid (sizesOf (queueIn b)) (processorAt (queueIn b) p)) (getD b 0 0))
+  unfolding callerOk allBelow
+  callers-every =
+      every-both (λ p. readProcessor (callerPart b p) .ok)
+      (λ p. processorValid (sizesOf (queueIn b)) (processorAt (queueIn b) p)) (getD b 0 0)
+
+  pub misfit : (length b ≡ lengthOf b → ⊥) → false ≡ passesOf b
+  unfolding passesOf isImage
+  misfit h = sym (rw (ne-eqb (length b) (lengthOf b) h, and-false (hasRoom b)) refl)
+
+  pub outsized : false ≡ sizesValid (sizes (getD b 0 0) (getD b 1 0) (getD b 2 0) (number32 b 3)) →
+      false ≡ passesOf b
+  unfolding passesOf queueIn
+  outsized h = sym (rw (sym h) (and-false (isImage b)))
+
+  pub all-tests : true ≡ sizesValid (sizes (getD b 0 0) (getD b 1 0) (getD b 2 0) (number32 b 3)) →
+      length b ≡ lengthOf b →
+      getD b 0 0 ≤ 16 → getD b 1 0 ≤ 200 →
+      (everyBelow (callerOk b) (getD b 0 0) && everyBelow (nodeOk b) (getD b 1 0 + 2)) ≡ passesOf b
+  unfolding passesOf isImage queueIn
+  all-tests h long few short =
+      rw (
+        sym h,
+        eq-eqb (length b) (lengthOf b) long,
+        le-leb (getD b 0 0) 16 few,
+        le-leb
+            (getD b 1 0 + 2) 202 (omega arith),
+        nodes-every,
+        callers-every,
+      ) (mix
+      (allBelow (λ p. readProcessor (callerPart b p) .ok) (getD b 0 0))
+      (everyBelow (λ p. processorValid (sizesOf (queueIn b)) (processorAt (queueIn b) p))
+      (getD b 0 0))
+      (allBelow (λ x. readNode (nodePart b x) .ok) (getD b 1 0 + 2))
+      (everyBelow (λ x. nodeValid (sizesOf (queueIn b)) x (nodeAt (queueIn b) x))
+      (getD b 1 0 + 2)))
+
+  -- bytes that pass are sound
+  pub passes-sound : Bytes b → passesOf b ≡ true → Sound b
+  unfolding passesOf
+  passes-sound low ok =
+      let t = and-left (isImage b) (valid (queueIn b)) ok in
+      record {
+        long = image-facts b t .long;
+        image = read-is-written b low t .0;
+        passes = and-right (isImage b) (valid (queueIn b)) ok;
+      }

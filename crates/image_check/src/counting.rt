@@ -1,0 +1,38 @@
+// Backlog on the bytes of a record that passes check 21.
+ghost use mathlib.Core.Path.{_≡_};
+ghost use mathlib.Core.Bool.{cond};
+ghost use Prim.Native.Nat.{ℕ, _≤_};
+ghost use lib.ListN.{getD};
+ghost use Rattle.laws.specs.HowMany.{howMany};
+ghost use Rattle.checks.specs.Backlog.{pendingAt};
+ghost use Rattle.image.specs.Image.{queueIn, Sound};
+ghost use Rattle.image_check.specs.Pending.{pendingBytes};
+use record::levels::both;
+
+// 1 for a node that is counted, and 0 for any other.
+fn counted(used: u8, stamped: u8, marked: u8) -> u8
+    ensures { λ r. ⌜ (r ≡ cond (pendingBytes used stamped marked) 1 0) × (r ≤ 1) ⌝ }
+{
+    if both(used == 1, both(stamped == 1, marked != 1)) {
+        1
+    } else {
+        0
+    }
+}
+
+// How many entries are answered and not marked.
+pub fn pending(image: &[u8]) -> u8
+    requires { ⌜ Sound (now image) ⌝ }
+    ensures { λ r. ⌜ r ≡ howMany (pendingAt (queueIn (now (image .entry)))) (getD (now (image .entry)) 1 0) ⌝ }
+{
+    let base = 7 + 17 * (image[0] as usize);
+    let end = image[1] as usize;
+    let mut count: u8 = 0;
+    let mut i: usize = 0;
+    while i < end {
+        i = i + 1;
+        let o = base + 41 * i;
+        count = count + counted(image[o + 36], image[o + 18], image[o + 17]);
+    }
+    count
+}

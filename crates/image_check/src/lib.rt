@@ -1,0 +1,8 @@
+pub mod callers;
+pub mod counting;
+pub mod levels;
+pub mod nodes;
+pub mod whole;
+
+pub use counting::pending;
+pub use whole::passes;

@@ -1,0 +1,142 @@
+use mathlib.Core.Path.{refl}
+use native.Mathlib.Omega.{arith}
+use lib.ListN.{length-set}
+use Rattle.image_delete.proofs.Steps.{holds-node, node-waits}
+use borrow.Author.Needs.{needs}
+use Rattle.image_delete.proofs.removals.hold_node.Statement.{statement}
+use Rattle.image_delete.proofs.removals.hold_node.Tie as tie
+
+mul-at : tie.Need-mul-at
+mul-at c = search needs
+
+add-at : tie.Need-add-at
+add-at c = search needs
+
+add-own : tie.Need-add-own
+add-own c = search needs
+
+slice-read-own : tie.Need-slice-read-own
+slice-read-own c = search needs
+
+cast-here : tie.Need-cast-here
+cast-here c = search needs
+
+mul-here : tie.Need-mul-here
+mul-here c = search needs
+
+add-here : tie.Need-add-here
+add-here c = search needs
+
+cast-h : tie.Need-cast-h
+cast-h c = search needs
+
+add-h : tie.Need-add-h
+add-h c = search needs
+
+add-height : tie.Need-add-height
+add-height c = search needs
+
+slice-read-height : tie.Need-slice-read-height
+slice-read-height c = search needs
+
+cast-top : tie.Need-cast-top
+cast-top c = search needs
+
+sub-top : tie.Need-sub-top
+sub-top c = search needs
+
+add-top : tie.Need-add-top
+add-top c = search needs
+
+add-top-2 : tie.Need-add-top-2
+add-top-2 c = search needs
+
+slice-read-top : tie.Need-slice-read-top
+slice-read-top c = search needs
+
+add-holder : tie.Need-add-holder
+add-holder c = search needs
+
+slice-read-holder : tie.Need-slice-read-holder
+slice-read-holder c = search needs
+
+tick-requires : tie.Need-tick-requires
+tick-requires c κs = search needs
+
+add-image : tie.Need-add-image
+add-image c = search needs
+
+slice-write-image : tie.Need-slice-write-image
+slice-write-image c = search needs
+
+add-image-2 : tie.Need-add-image-2
+add-image-2 c = search needs
+
+slice-write-image-2 : tie.Need-slice-write-image-2
+slice-write-image-2 c = simp length-set (omega arith)
+
+add-image-3 : tie.Need-add-image-3
+add-image-3 c = search needs
+
+slice-write-image-3 : tie.Need-slice-write-image-3
+slice-write-image-3 c = simp length-set (omega arith)
+
+add-image-4 : tie.Need-add-image-4
+add-image-4 c = search needs
+
+slice-write-image-4 : tie.Need-slice-write-image-4
+slice-write-image-4 c = simp length-set (omega arith)
+
+same-length : tie.Need-same-length
+same-length c = search needs
+
+returns : tie.Need-returns
+returns c =
+    let s = c .before .before .before .before .before .before .before .before .before .before in
+    holds-node (s .args .image .now) (s .args .base) (s .args .p) (s .pre) _ _ (c .if1 .taken)
+    (simp (c .before .before .before .tick .ensures)) refl
+
+same-length-2 : tie.Need-same-length-2
+same-length-2 c = search needs
+
+returns-2 : tie.Need-returns-2
+returns-2 c =
+    let s = c .before .before .before .before .before .before .before .before .before .before in
+    node-waits (s .args .image .now) (s .args .base) (s .args .p) (s .pre) _ _ (c .if1 .left)
+    (simp (c .before .before .before .tick .ensures)) refl
+
+pub hold-node-spec : {M : Type 1} → statement M
+hold-node-spec =
+    tie.close
+    (tie.spec
+    mul-at
+    add-at
+    add-own
+    slice-read-own
+    cast-here
+    mul-here
+    add-here
+    cast-h
+    add-h
+    add-height
+    slice-read-height
+    cast-top
+    sub-top
+    add-top
+    add-top-2
+    slice-read-top
+    add-holder
+    slice-read-holder
+    tick-requires
+    add-image
+    slice-write-image
+    add-image-2
+    slice-write-image-2
+    add-image-3
+    slice-write-image-3
+    add-image-4
+    slice-write-image-4
+    same-length
+    returns
+    same-length-2
+    returns-2)

@@ -1,0 +1,121 @@
+use mathlib.Core.Path.{refl}
+use Rattle.image_delete.proofs.Steps.{stamp-none, stamp-late, stamp-early}
+use borrow.Author.Needs.{needs}
+use Rattle.image_delete.proofs.walk.stamped.Statement.{statement}
+use Rattle.image_delete.proofs.walk.stamped.Tie as tie
+
+mul-at : tie.Need-mul-at
+mul-at c = search needs
+
+add-at : tie.Need-add-at
+add-at c = search needs
+
+add-a : tie.Need-add-a
+add-a c = search needs
+
+slice-read-a : tie.Need-slice-read-a
+slice-read-a c = search needs
+
+cast-here : tie.Need-cast-here
+cast-here c = search needs
+
+mul-here : tie.Need-mul-here
+mul-here c = search needs
+
+add-here : tie.Need-add-here
+add-here c = search needs
+
+add-number-from : tie.Need-add-number-from
+add-number-from c = search needs
+
+number-from-requires : tie.Need-number-from-requires
+number-from-requires c κs = search needs
+
+add-t : tie.Need-add-t
+add-t c = search needs
+
+slice-read-t : tie.Need-slice-read-t
+slice-read-t c = search needs
+
+add-number-from-2 : tie.Need-add-number-from-2
+add-number-from-2 c = search needs
+
+number-from-requires-2 : tie.Need-number-from-requires-2
+number-from-requires-2 c κs = search needs
+
+tick-requires : tie.Need-tick-requires
+tick-requires c κs = search needs
+
+add-image : tie.Need-add-image
+add-image c = search needs
+
+slice-write-image : tie.Need-slice-write-image
+slice-write-image c = search needs
+
+same-length : tie.Need-same-length
+same-length c = search needs
+
+returns : tie.Need-returns
+returns c =
+    let s = c .before .before .before .before .before .before .before .before .before .before .before .before in
+    stamp-none (s .args .image .now) (s .args .base) (s .args .p) (s .pre) _ _ (c .if1 .taken)
+    (simp (c .before .before .before .tick .ensures)) refl
+
+add-image-2 : tie.Need-add-image-2
+add-image-2 c = search needs
+
+slice-write-image-2 : tie.Need-slice-write-image-2
+slice-write-image-2 c = search needs
+
+same-length-2 : tie.Need-same-length-2
+same-length-2 c = search needs
+
+returns-2 : tie.Need-returns-2
+returns-2 c =
+    let s = c .before .before .before .before .before .before .before .before .before .before .before .before .before in
+    stamp-late (s .args .image .now) (s .args .base) (s .args .p) (s .pre) _ _ (c .before .if1 .left) (rw (c .before .before .before .before .before .before .before .before .before .number-from .ensures, c .before .before .before .before .before .before .number-from2 .ensures) at (c .if2 .taken)) (simp (c .before .before .before .before .tick .ensures)) refl
+
+add-image-3 : tie.Need-add-image-3
+add-image-3 c = search needs
+
+slice-write-image-3 : tie.Need-slice-write-image-3
+slice-write-image-3 c = search needs
+
+same-length-3 : tie.Need-same-length-3
+same-length-3 c = search needs
+
+returns-3 : tie.Need-returns-3
+returns-3 c =
+    let s = c .before .before .before .before .before .before .before .before .before .before .before .before .before in
+    stamp-early (s .args .image .now) (s .args .base) (s .args .p) (s .pre) _ _ (c .before .if1 .left) (rw (c .before .before .before .before .before .before .before .before .before .number-from .ensures, c .before .before .before .before .before .before .number-from2 .ensures) at (c .if2 .left)) (simp (c .before .before .before .before .tick .ensures)) refl
+
+pub stamped-spec : {M : Type 1} → statement M
+stamped-spec =
+    tie.close
+    (tie.spec
+    mul-at
+    add-at
+    add-a
+    slice-read-a
+    cast-here
+    mul-here
+    add-here
+    add-number-from
+    number-from-requires
+    add-t
+    slice-read-t
+    add-number-from-2
+    number-from-requires-2
+    tick-requires
+    add-image
+    slice-write-image
+    same-length
+    returns
+    add-image-2
+    slice-write-image-2
+    same-length-2
+    returns-2
+    add-image-3
+    slice-write-image-3
+    same-length-3
+    returns-3)

@@ -1,0 +1,2 @@
+// The stages of an Insert, in place.
+pub mod inserts;

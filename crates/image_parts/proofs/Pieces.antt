@@ -1,0 +1,105 @@
+-- Stores in one node's and in one processor's bytes. Assumes nothing.
+use mathlib.Core.Path.{_≡_, refl, sym, _∙_, ap}
+use mathlib.Core.List.{List, [], _∷_, _++_, append-assoc}
+use Prim.Native.Nat.{ℕ, zero, suc, _+_, _-_, _<_}
+use lib.ListN.{length, set, drop, length-set}
+use lib.Seq.{set-append-left}
+use Rattle.record.specs.declared.nodes.Node.{Node}
+use Rattle.record.specs.declared.queues.Processor.{Processor}
+use Rattle.record.specs.declared.stages.Stage.{Stage}
+use Rattle.record.specs.declared.stages.Stage.the-variants as stage
+use Rattle.laws.specs.Every.{setBelow}
+use Rattle.laws.proofs.Counting.{length-below}
+use Rattle.record.specs.Nodes.{withForward, withLock, withHolder, withStamp, withMark, retiredAt}
+use Rattle.image.specs.Tags.{stageCode}
+use Rattle.image.specs.Numbers.{bytesOf32, eight}
+use Rattle.image.specs.Pieces.{nodeImage, processorImage, codeBytes}
+use Rattle.image.proofs.Bytes.{eight-back}
+use Rattle.image.specs.Puts.{putsIn, four, clears, rests}
+use Rattle.image.proofs.Puts.{set-after}
+
+eight-set : (l : List ℕ) (k v : ℕ) → length l ≡ 8 → set (eight l 0) k v ≡ eight (set l k v) 0
+eight-set l k v h =
+    ap (λ (r : List ℕ). set r k v) (eight-back l h)
+    ∙ sym (eight-back (set l k v) (length-set l k v ∙ h))
+
+-- a forward number and a level lock, of the level i
+module _ (n : Node) (i v : ℕ) (low : i - 1 < 8) where
+  pub put-forward : length (n .forward) ≡ 8 → putsIn (nodeImage n) ((i - 1, v) ∷ [])
+      ≡ nodeImage (withForward n i v)
+  unfolding nodeImage
+  put-forward long =
+      set-append-left (eight (n .forward) 0) (drop 8 (nodeImage n)) (i - 1) v low
+      ∙ ap (λ (r : List ℕ). r ++ drop 8 (nodeImage n)) (eight-set (n .forward) (i - 1) v long)
+
+-- a processor with another stage and other saved nodes
+abbrev pub moves : Processor → Stage → List ℕ → Processor
+moves c g saved = record { begin = c .begin; own = c .own; stage = g; saved = saved }
+
+pub put-saved :
+    (c : Processor) (k v : ℕ) (es : List (ℕ × ℕ)) → length (c .saved) ≡ 8 →
+    putsIn (processorImage c) ((9 + k, v) ∷ es)
+    ≡ putsIn (processorImage (moves c (c .stage) (set (c .saved) k v))) es
+unfolding processorImage
+put-saved c k v es long =
+    let h = (bytesOf32 (c .begin) ++ (c .own ∷ [])) ++ codeBytes (stageCode (c .stage)) in
+    ap (λ (l : List ℕ). putsIn l es)
+    (set-after h (eight (c .saved) 0) (9 + k) k v refl
+    ∙ ap (λ (r : List ℕ). h ++ r) (eight-set (c .saved) k v long))
+
+-- the stage's bytes: what is stored gives the new stage's code
+pub put-stage :
+    (c : Processor) (f g : Stage) (es : List (ℕ × ℕ)) → c .stage ≡ f →
+    putsIn (processorImage (moves c f (c .saved))) es ≡ processorImage (moves c g (c .saved)) →
+    putsIn (processorImage c) es ≡ processorImage (moves c g (c .saved))
+put-stage c f g es e h = ap (λ (x : Stage). putsIn (processorImage (moves c x (c .saved))) es) e ∙ h
+
+-- a level lock
+pub put-lock : (n : Node) (i v : ℕ) → i - 1 < 8 → length (n .locks) ≡ 8 →
+    putsIn (nodeImage n) ((8 + (i - 1), v) ∷ []) ≡ nodeImage (withLock n i v)
+unfolding nodeImage
+put-lock n i v low long =
+    set-after (eight (n .forward) 0) (drop 8 (nodeImage n)) (8 + (i - 1)) (i - 1) v refl
+    ∙ ap (λ (r : List ℕ). eight (n .forward) 0 ++ r)
+    (set-append-left (eight (n .locks) 0) (drop 16 (nodeImage n)) (i - 1) v low
+    ∙ ap (λ (r : List ℕ). r ++ drop 16 (nodeImage n)) (eight-set (n .locks) (i - 1) v long))
+
+-- the node lock, and a stamp
+pub put-holder : (n : Node) (v : ℕ) → putsIn (nodeImage n) ((16, v) ∷ [])
+    ≡ nodeImage (withHolder n v)
+unfolding nodeImage
+put-holder n v = refl
+
+pub put-stamp : (n : Node) (t : ℕ) → putsIn (nodeImage n) ((18, 1) ∷ four 19 t)
+    ≡ nodeImage (withStamp n t)
+unfolding nodeImage
+put-stamp n t = refl
+
+-- an idle processor
+put-clears :
+    (c : Processor) (l : ℕ) (es : List (ℕ × ℕ)) → length (c .saved) ≡ 8 →
+    putsIn (processorImage c) (clears l ++ es)
+    ≡ putsIn (processorImage (moves c (c .stage) (setBelow (c .saved) l 0))) es
+put-clears c zero es long = refl
+put-clears c (suc k) es long =
+    ap (putsIn (processorImage c)) (append-assoc (clears k) ((9 + k, 0) ∷ []) es)
+    ∙ put-clears c k ((9 + k, 0) ∷ es) long
+    ∙ put-saved (moves c (c .stage) (setBelow (c .saved) k 0)) k 0 es
+    (length-below (c .saved) k 0 ∙ long)
+
+pub put-idle :
+    (c : Processor) (l : ℕ) → length (c .saved) ≡ 8 →
+    putsIn (processorImage c) (clears l ++ rests)
+    ≡ processorImage
+    (record { begin = 0; own = 0; stage = stage.Idle; saved = setBelow (c .saved) l 0 })
+unfolding processorImage
+put-idle c l long = put-clears c l rests long
+
+pub put-mark : (n : Node) → putsIn (nodeImage n) ((17, 1) ∷ []) ≡ nodeImage (withMark n)
+unfolding nodeImage
+put-mark n = refl
+
+pub put-retired : (n : Node) (t : ℕ) → putsIn (nodeImage n) ((36, 2) ∷ four 37 t)
+    ≡ nodeImage (retiredAt n t)
+unfolding nodeImage
+put-retired n t = refl

@@ -1,0 +1,206 @@
+-- What a stage reads, by its bytes; and one law for every step, by what its stage decides and
+-- stores. Assumes nothing.
+use mathlib.Core.Path.{_≡_, refl, _∙_, ap}
+use mathlib.Core.Bool.{false}
+use mathlib.Core.List.{List, [], _∷_, _++_, append-assoc}
+use Prim.Native.Nat.{ℕ, zero, suc, _+_, _*_, _-_, _≤_, _<_}
+use native.Mathlib.Omega.{arith}
+use lib.ListN.{getD}
+use Rattle.record.specs.declared.keys.Key.{Key}
+use Rattle.record.specs.declared.nodes.Node.{Node}
+use Rattle.record.specs.declared.queues.Processor.{Processor}
+use Rattle.record.specs.declared.stages.Stage.{Stage}
+use Rattle.record.specs.Keys.{nodeKey, keyBefore}
+use Rattle.record.specs.Nodes.{keyOf, lockAt}
+use Rattle.record.specs.Queues.{nodeAt, processorAt, savedAt}
+use Rattle.record.specs.Stages.{place, isIdle}
+use Rattle.image.specs.Tags.{code, stageOf}
+use Rattle.image.specs.Numbers.{number32}
+use Rattle.image.specs.Pieces.{nodeImage, processorImage}
+use Rattle.rules.specs.declared.answers.Answer.{Answer}
+use Rattle.rules.specs.declared.answers.Entry.{Entry}
+use Rattle.rules.specs.declared.decisions.Decision.{Decision}
+use Rattle.rules.specs.Calls.{stepValid, entryOf, readingPlace, nextOf, sightOf, stepDecision}
+use Rattle.rules.specs.Effects.{nodeOf, changed, processorAfter, accepted}
+use Rattle.rules.specs.Decide.{decide}
+use Rattle.image.specs.Puts.{puts, putsIn, four, piece, clears}
+use Rattle.image.specs.Image.{startOf, queueIn, Sound}
+use Rattle.image_parts.specs.Given.{Stepped}
+use Rattle.image.proofs.Puts.{Below}
+use Rattle.image.proofs.Fields.{node-is, caller-is, eight-at, number-at}
+use Rattle.image_parts.specs.Ready.{keyIn, Placed, Owned}
+use Rattle.image_parts.proofs.Pieces.{moves}
+use Rattle.rules.proofs.Inner.{step-accepted}
+use Rattle.image_parts.proofs.Given.{gives}
+
+head-is : (b : List ℕ) (base : ℕ) → base ≡ startOf b → base ≡ 7 + 17 * queueIn b .processors
+unfolding queueIn
+head-is b base h = h
+
+tail-is : (b : List ℕ) (x : ℕ) → x < getD b 1 0 + 2 → x < queueIn b .entries + 2
+unfolding queueIn
+tail-is b x h = h
+
+low-is : (b : List ℕ) (p : ℕ) → p < getD b 0 0 → p < queueIn b .processors
+unfolding queueIn
+low-is b p h = h
+
+pub clock-is : (b : List ℕ) → queueIn b .clock ≡ number32 b 3
+unfolding queueIn
+clock-is b = refl
+
+-- the bytes of processor p, and the node after its place
+abbrev pub mine : List ℕ → ℕ → ℕ → ℕ
+mine b p j = getD b (7 + 17 * p + j) 0
+
+abbrev pub onward : List ℕ → ℕ → ℕ → ℕ
+onward b base p = getD b (base + 41 * mine b p 6 + (mine b p 7 - 1)) 0
+
+module _ (b : List ℕ) (base : ℕ) (start : base ≡ startOf b) (short : getD b 1 0 ≤ 200) where
+  pub key-is : (x : ℕ) → x ≤ getD b 1 0 + 1 → keyOf (queueIn b .entries) x (nodeAt (queueIn b) x)
+      ≡ keyIn b base x
+  unfolding queueIn
+  key-is x h =
+      ap (λ (n : Node). nodeKey (getD b 1 0) x (n .due) (n .ticket))
+      (node-is b base start short x (omega arith))
+      ∙ rw (number-at b (base + 41 * x) 23, number-at b (base + 41 * x) 27) refl
+
+  pub next-at : (p : ℕ) → mine b p 6 ≤ getD b 1 0 + 1 → 1 ≤ mine b p 7 → mine b p 7 ≤ 8 →
+      nextOf (queueIn b) (place (mine b p 6) (mine b p 7)) ≡ onward b base p
+  next-at p h l m =
+      let k = mine b p 7 - 1 in
+      let o = base + 41 * mine b p 6 in
+      let z : 0 + k ≡ k = omega arith in
+      ap (λ (n : Node). getD (n .forward) k 0)
+      (node-is b base start short (mine b p 6) (omega arith))
+      ∙ eight-at (piece b o) 0 k (omega arith) ∙ ap (piece b o) z
+
+module _ (b : List ℕ) (base p tag : ℕ) (r : Placed b base p tag) where
+  pub stage-is : processorAt (queueIn b) p .stage
+      ≡ stageOf (code tag (mine b p 6) (mine b p 7) (mine b p 8))
+  stage-is =
+      ap (λ (c : Processor). c .stage) (caller-is b p (r .processors-high) (r .low))
+      ∙ ap (λ (t : ℕ). stageOf (code t (mine b p 6) (mine b p 7) (mine b p 8))) (r .tagged)
+
+  pub own-is : processorAt (queueIn b) p .own ≡ mine b p 4
+  own-is = ap (λ (c : Processor). c .own) (caller-is b p (r .processors-high) (r .low))
+
+  pub next-is : nextOf (queueIn b) (place (mine b p 6) (mine b p 7)) ≡ onward b base p
+  next-is =
+      next-at b base (r .start) (r .entries-high) p (r .node-low) (r .level-low) (r .level-high)
+
+  pub before-is :
+      sightOf (queueIn b) (processorAt (queueIn b) p) (place (mine b p 6) (mine b p 7)) .before
+      ≡ keyBefore (keyIn b base (onward b base p)) (keyIn b base (mine b p 4))
+  before-is =
+      let q = queueIn b in
+      let k : ℕ → Key = λ y. keyOf (q .entries) y (nodeAt q y) in
+      ap (λ (y : ℕ). keyBefore (k y) (k (processorAt q p .own))) next-is
+      ∙ ap (λ (y : ℕ). keyBefore (k (onward b base p)) (k y)) own-is
+      ∙ ap (λ (y : Key). keyBefore y (k (mine b p 4)))
+      (key-is b base (r .start) (r .entries-high) (onward b base p) (r .next-low))
+      ∙ ap (λ (y : Key). keyBefore (keyIn b base (onward b base p)) y)
+      (key-is b base (r .start) (r .entries-high) (mine b p 4)
+      (omega (arith, r .own-high, r .entries-high)))
+
+-- a step at the stage g, whose bytes are read: what is decided, and what is stored in one node and in the processor
+module _ (b : List ℕ) (base p tag : ℕ) (s : Sound b) (start : base ≡ startOf b)
+    (short : getD b 1 0 ≤ 200) (many : getD b 0 0 ≤ 16) (low : p < getD b 0 0) (few : p < 16)
+    (early : number32 b 3 < 999999) (tagged : mine b p 5 ≡ tag) (g : Stage)
+    (is : stageOf (code tag (mine b p 6) (mine b p 7) (mine b p 8)) ≡ g) (busy : isIdle g ≡ false)
+    (d : Decision)
+    (decides : decide (sightOf (queueIn b) (processorAt (queueIn b) p) (readingPlace g)) g
+    ≡ d) where
+  at-stage : processorAt (queueIn b) p .stage ≡ g
+  at-stage =
+      ap (λ (c : Processor). c .stage) (caller-is b p many low)
+      ∙ ap (λ (t : ℕ). stageOf (code t (mine b p 6) (mine b p 7) (mine b p 8))) tagged
+      ∙ is
+
+  pub arm :
+      (es fs : List (ℕ × ℕ)) → nodeOf (d .effect) < getD b 1 0 + 2 → Below 41 es → Below 17 fs →
+      putsIn (nodeImage (nodeAt (queueIn b) (nodeOf (d .effect)))) es
+      ≡ nodeImage
+      (changed (queueIn b .levels) (queueIn b .entries + 1) (p + 1) (queueIn b .clock + 1)
+      (d .effect) (nodeAt (queueIn b) (nodeOf (d .effect)))) →
+      putsIn (processorImage
+      (moves (processorAt (queueIn b) p) g (processorAt (queueIn b) p .saved))) fs
+      ≡ processorImage
+      (processorAfter (queueIn b .levels) (queueIn b .clock + 1) (processorAt (queueIn b) p) d)
+      →
+      (after : List ℕ) →
+      after ≡ puts
+      (puts (puts b 0 (four 3 (number32 b 3 + 1))) (base + 41 * nodeOf (d .effect)) es)
+      (7 + 17 * p) fs →
+      (r : Answer) → r ≡ d .answer →
+      Stepped b p after r
+  arm es fs x< es< fs< node caller after e r f =
+      let q = queueIn b in
+      let c = processorAt q p in
+      let decided : stepDecision q c ≡ d =
+      ap (λ (x : Stage). decide (sightOf q c (readingPlace x)) x) at-stage ∙ decides in
+      gives b base p s (head-is b base start) (low-is b p low) d (stepValid q p)
+      (step-accepted q p (rw (clock-is b) early) (low-is b p low) (ap isIdle at-stage ∙ busy)
+      ∙ ap (accepted q p) decided)
+      es fs (tail-is b (nodeOf (d .effect)) x<) es< fs< node
+      (ap (λ (x : Stage). putsIn (processorImage (moves c x (c .saved))) fs) at-stage ∙ caller)
+      after (rw (clock-is b) e) r f
+
+-- what the stages of an Insert read besides
+module _ (b : List ℕ) (base p tag : ℕ) (r : Placed b base p tag) where
+  pub guard-is : lockAt (nodeAt (queueIn b) (mine b p 6)) (mine b p 7)
+      ≡ getD b (base + 41 * mine b p 6 + (8 + (mine b p 7 - 1))) 0
+  guard-is =
+      let k = mine b p 7 - 1 in
+      ap (λ (n : Node). getD (n .locks) k 0)
+      (node-is b base (r .start) (r .entries-high) (mine b p 6) (omega (arith, r .node-low)))
+      ∙ eight-at (piece b (base + 41 * mine b p 6)) 8 k (omega (arith, r .level-low, r .level-high))
+
+  pub height-is : nodeAt (queueIn b) (processorAt (queueIn b) p .own) .height
+      ≡ getD b (base + 41 * mine b p 4 + 35) 0
+  height-is =
+      ap (λ (x : ℕ). nodeAt (queueIn b) x .height) (own-is b base p tag r)
+      ∙ ap (λ (n : Node). n .height)
+      (node-is b base (r .start) (r .entries-high) (mine b p 4)
+      (omega (arith, r .own-high, r .entries-high)))
+
+  pub up-is : mine b p 7 < 8 → savedAt (processorAt (queueIn b) p) (mine b p 7 + 1)
+      ≡ mine b p (9 + mine b p 7)
+  up-is h =
+      let z : mine b p 7 + 1 - 1 ≡ mine b p 7 = omega arith in
+      rw z (ap (λ (c : Processor). getD (c .saved) (mine b p 7) 0)
+      (caller-is b p (r .processors-high) (r .low))
+      ∙ eight-at (piece b (7 + 17 * p)) 9 (mine b p 7) h)
+
+-- stages with no place
+pub levels-is : (b : List ℕ) → queueIn b .levels ≡ getD b 2 0
+unfolding queueIn
+levels-is b = refl
+
+pub clears-below : (l : ℕ) (es : List (ℕ × ℕ)) → l ≤ 8 → Below 17 es → Below 17 (clears l ++ es)
+clears-below zero es h k = k
+clears-below (suc l) es h k =
+    rw (append-assoc (clears l) ((9 + l, 0) ∷ []) es)
+    (clears-below l ((9 + l, 0) ∷ es) (omega arith) (omega arith, k))
+
+module _ (b : List ℕ) (base p tag : ℕ) (r : Owned b base p tag) where
+  pub mine-is : processorAt (queueIn b) p .own ≡ mine b p 4
+  mine-is = ap (λ (c : Processor). c .own) (caller-is b p (r .processors-high) (r .low))
+
+  pub own-low : mine b p 4 < getD b 1 0 + 2
+  own-low = omega (arith, r .own-high, r .entries-high)
+
+abbrev pub entryIn : List ℕ → ℕ → Entry
+entryIn b o =
+    record { due = number32 b (o + 23); item = number32 b (o + 31); ticket = number32 b (o + 27) }
+
+pub entry-is : (b : List ℕ) (base : ℕ) → base ≡ startOf b → getD b 1 0 ≤ 200 → (x : ℕ) →
+    x < getD b 1 0 + 2 → entryOf (nodeAt (queueIn b) x) ≡ entryIn b (base + 41 * x)
+entry-is b base start short x h =
+    ap entryOf (node-is b base start short x h)
+    ∙ rw (
+      number-at b (base + 41 * x) 23,
+      number-at b (base + 41 * x) 27,
+      number-at b
+          (base + 41 * x) 31,
+    ) refl

@@ -1,0 +1,29 @@
+// Keys of nodes, on the bytes.
+ghost use mathlib.Core.Path.{_≡_};
+ghost use Prim.Native.Nat.{ℕ, _+_, _*_, _≤_, _<_};
+ghost use lib.ListN.{length, getD};
+ghost use Rattle.image_parts.specs.Ready.{keyIn};
+ghost use Rattle.record.specs.Keys.{keyBefore};
+use image::numbers::number_from;
+
+// Whether node x's key is before that of node y, which is an entry's.
+pub fn before(b: &[u8], base: usize, x: u8, y: u8) -> bool
+    requires { ⌜ (length (now b) ≡ base + 41 * (getD (now b) 1 0 + 2)) × (x ≤ getD (now b) 1 0 + 1) × (1 ≤ y) × (y ≤ getD (now b) 1 0) × (getD (now b) 1 0 ≤ 200) × (7 ≤ base) × (base ≤ 279) ⌝ }
+    ensures { λ r. ⌜ r ≡ keyBefore (keyIn (now (b .entry)) base x) (keyIn (now (b .entry)) base y) ⌝ }
+{
+    if x == 0 {
+        return true;
+    }
+    let n = b[1];
+    if x - 1 == n {
+        return false;
+    }
+    let s = base + 41 * (x as usize);
+    let t = base + 41 * (y as usize);
+    let d = number_from(b, s + 23);
+    let e = number_from(b, t + 23);
+    if d != e {
+        return d < e;
+    }
+    number_from(b, s + 27) < number_from(b, t + 27)
+}

@@ -1,0 +1,2 @@
+// What the calls in place have in common: on the bytes of a record that passes check 21.
+pub mod keys;

@@ -1,0 +1,74 @@
+// A step in place: the stage's tag tells which function makes it.
+ghost use Rattle.image.specs.Image.{Sound};
+ghost use Rattle.image_parts.specs.Given.{Stepped};
+use checks::limits::NUMBER;
+use image::numbers::number_from;
+use image_delete::removals::back;
+use image_delete::removals::free_level;
+use image_delete::removals::free_node;
+use image_delete::removals::free_own;
+use image_delete::removals::hold_node;
+use image_delete::removals::hold_own;
+use image_delete::removals::retire;
+use image_delete::removals::unlink;
+use image_delete::walk::mark;
+use image_delete::walk::next;
+use image_delete::walk::stamped;
+use image_insert::inserts::copy;
+use image_insert::inserts::free_level as insert_free_level;
+use image_insert::inserts::free_node as insert_free_node;
+use image_insert::inserts::link;
+use image_insert::inserts::stamp;
+use image_walks::walks::approach;
+use image_walks::walks::confirm;
+use image_walks::walks::release;
+use image_walks::walks::search;
+use image_walks::walks::take;
+use rules::Answer;
+
+// A step of a processor, on the image of a record that passes check 21; the image that it leaves is
+// one again.
+pub fn step_at(image: &mut [u8], processor: u32) -> Answer
+    requires { ⌜ Sound (now image) ⌝ }
+    ensures { λ r. ⌜ Stepped (now (image .entry)) processor (now (image .exit)) r × Sound (now (image .exit)) ⌝ }
+{
+    if NUMBER <= number_from(image, 3) {
+        return Answer::Refused(31);
+    }
+    if (image[0] as u32) <= processor {
+        return Answer::Refused(32);
+    }
+    let p = processor as usize;
+    let base = 7 + 17 * (image[0] as usize);
+    let tag = image[7 + 17 * p + 5];
+    match tag {
+        0 => return Answer::Refused(34),
+        1 => return search(image, base, p, false),
+        2 => return approach(image, base, p, false),
+        3 => return take(image, base, p, false),
+        4 => return confirm(image, base, p, false),
+        5 => return release(image, base, p, false),
+        6 => return copy(image, base, p),
+        7 => return link(image, base, p),
+        8 => return insert_free_level(image, base, p),
+        9 => return insert_free_node(image, base, p),
+        10 => return stamp(image, base, p),
+        11 => return next(image, base, p),
+        12 => return stamped(image, base, p),
+        13 => return mark(image, base, p),
+        14 => return search(image, base, p, true),
+        15 => return hold_node(image, base, p),
+        16 => return approach(image, base, p, true),
+        17 => return take(image, base, p, true),
+        18 => return confirm(image, base, p, true),
+        19 => return release(image, base, p, true),
+        20 => return hold_own(image, base, p),
+        21 => return unlink(image, base, p),
+        22 => return back(image, base, p),
+        23 => return free_own(image, base, p),
+        24 => return free_level(image, base, p),
+        25 => return free_node(image, base, p),
+        26 => return retire(image, base, p),
+        _ => return Answer::Waits,
+    }
+}

@@ -1,0 +1,146 @@
+use mathlib.Core.Path.{refl, sym, _∙_}
+use native.Mathlib.Omega.{arith}
+use lib.ListN.{length-set}
+use Rattle.image_walks.proofs.Steps.{takes, take-waits}
+use borrow.Author.Needs.{needs}
+use Rattle.image_walks.proofs.walks.take.Statement.{statement}
+use Rattle.image_walks.proofs.walks.take.Tie as tie
+
+mul-at : tie.Need-mul-at
+mul-at c = search needs
+
+add-at : tie.Need-add-at
+add-at c = search needs
+
+add-a : tie.Need-add-a
+add-a c = search needs
+
+slice-read-a : tie.Need-slice-read-a
+slice-read-a c = search needs
+
+add-i : tie.Need-add-i
+add-i c = search needs
+
+slice-read-i : tie.Need-slice-read-i
+slice-read-i c = search needs
+
+cast-k : tie.Need-cast-k
+cast-k c = search needs
+
+sub-k : tie.Need-sub-k
+sub-k c = search needs
+
+cast-h : tie.Need-cast-h
+cast-h c = search needs
+
+add-h : tie.Need-add-h
+add-h c = search needs
+
+cast-guard : tie.Need-cast-guard
+cast-guard c = search needs
+
+mul-guard : tie.Need-mul-guard
+mul-guard c = search needs
+
+add-guard : tie.Need-add-guard
+add-guard c = search needs
+
+add-guard-2 : tie.Need-add-guard-2
+add-guard-2 c = search needs
+
+add-guard-3 : tie.Need-add-guard-3
+add-guard-3 c = search needs
+
+slice-read-guard : tie.Need-slice-read-guard
+slice-read-guard c = search needs
+
+seek-tag-requires : tie.Need-seek-tag-requires
+seek-tag-requires c κs = search needs
+
+tick-requires : tie.Need-tick-requires
+tick-requires c κs = search needs
+
+cast-image : tie.Need-cast-image
+cast-image c = search needs
+
+mul-image : tie.Need-mul-image
+mul-image c = search needs
+
+add-image : tie.Need-add-image
+add-image c = search needs
+
+add-image-2 : tie.Need-add-image-2
+add-image-2 c = search needs
+
+add-image-3 : tie.Need-add-image-3
+add-image-3 c = search needs
+
+slice-write-image : tie.Need-slice-write-image
+slice-write-image c = search needs
+
+add-image-4 : tie.Need-add-image-4
+add-image-4 c = search needs
+
+add-image-5 : tie.Need-add-image-5
+add-image-5 c = search needs
+
+slice-write-image-2 : tie.Need-slice-write-image-2
+slice-write-image-2 c = simp length-set (omega arith)
+
+same-length : tie.Need-same-length
+same-length c = search needs
+
+returns : tie.Need-returns
+returns c =
+    let s = c .before .before .before .before .before .before .before .before .before .before in
+    takes (s .args .removal) (s .args .image .now) (s .args .base) (s .args .p) (s .pre) _ _
+    (c .if1 .taken)
+    (simp (
+      c .before .before .before .tick .ensures,
+      c .before .before .before .before .before .seek-tag .ensures .0,
+    )) refl
+
+same-length-2 : tie.Need-same-length-2
+same-length-2 c = search needs
+
+returns-2 : tie.Need-returns-2
+returns-2 c =
+    let s = c .before .before .before .before .before .before .before .before .before .before in
+    take-waits (s .args .removal) (s .args .image .now) (s .args .base) (s .args .p) (s .pre) _ _
+    (c .if1 .left) (simp (c .before .before .before .tick .ensures)) refl
+
+pub take-spec : {M : Type 1} → statement M
+take-spec =
+    tie.close
+    (tie.spec
+    mul-at
+    add-at
+    add-a
+    slice-read-a
+    add-i
+    slice-read-i
+    cast-k
+    sub-k
+    cast-h
+    add-h
+    cast-guard
+    mul-guard
+    add-guard
+    add-guard-2
+    add-guard-3
+    slice-read-guard
+    seek-tag-requires
+    tick-requires
+    cast-image
+    mul-image
+    add-image
+    add-image-2
+    add-image-3
+    slice-write-image
+    add-image-4
+    add-image-5
+    slice-write-image-2
+    same-length
+    returns
+    same-length-2
+    returns-2)

@@ -1,0 +1,361 @@
+-- After a step that waits, the next steps of the same line wait too: nothing but the clock changed.
+-- Assumes nothing.
+use mathlib.Core.Path.{_≡_, refl, sym, ap, _∙_, subst}
+use mathlib.Core.Bool.{Bool, true, false, cond, _||_, false≢true}
+use mathlib.Core.List.{List, append-nil}
+use Prim.Native.Nat.{ℕ, zero, suc, _+_, _-_, _≤_, _<_}
+use native.Mathlib.Omega.{arith}
+use lib.Dec.{ltb, leb, eqb}
+use lib.ListN.{length, set}
+use lib.Seq.{set-getD}
+use borrow.Author.Tests.{lt-leb, lt-ltb, le-ltb, leb-false, ltb-true, ltb-false}
+use Rattle.laws.proofs.Booleans.{cond-elim, cond-cases}
+use Rattle.checks.specs.Check.{valid}
+use Rattle.record.specs.declared.nodes.Node.{Node}
+use Rattle.record.specs.declared.queues.Processor.{Processor}
+use Rattle.record.specs.declared.queues.Queue.{Queue}
+use Rattle.record.specs.declared.stages.Place.{Place}
+use Rattle.record.specs.declared.stages.Seek.{Seek}
+use Rattle.record.specs.declared.stages.Seek.the-variants as seek
+use Rattle.record.specs.declared.stages.Insert.{Insert}
+use Rattle.record.specs.declared.stages.Insert.the-variants as ins
+use Rattle.record.specs.declared.stages.Removal.{Removal}
+use Rattle.record.specs.declared.stages.Removal.the-variants as rem
+use Rattle.record.specs.declared.stages.Delete.{Delete}
+use Rattle.record.specs.declared.stages.Delete.the-variants as del
+use Rattle.record.specs.declared.stages.Stage.{Stage}
+use Rattle.record.specs.declared.stages.Stage.the-variants as stage
+use Rattle.record.specs.Limits.{maxNumber}
+use Rattle.record.specs.Queues.{processorAt}
+use Rattle.record.specs.Stages.{isIdle}
+use Rattle.rules.specs.declared.answers.Answer.{Answer}
+use Rattle.rules.specs.declared.answers.Answer.the-variants as ans
+use Rattle.rules.specs.declared.answers.Outcome.{Outcome}
+use Rattle.rules.specs.declared.decisions.Decision.{Decision}
+use Rattle.rules.specs.declared.decisions.Searched.{Searched}
+use Rattle.rules.specs.declared.decisions.Sight.{Sight}
+use Rattle.rules.specs.declared.decisions.Sought.{Sought}
+use Rattle.rules.specs.Answers.{refused, isRefused}
+use Rattle.rules.specs.Calls.{readingPlace, sightOf, stepDecision, beginInsertValid, beginDeleteValid, stepValid}
+use Rattle.checks.specs.Making.{outside}
+use Rattle.rules.specs.Choice.{chosen}
+use Rattle.rules.specs.Decide.{waits, searchStep, seekStep, insertSearched, insertSought, insertStep, removing, removalSearched, removalSought, removalStep, deleteStep, decide}
+use Rattle.rules.specs.Effects.{accepted}
+use Rattle.sheet.specs.declared.events.Event.{Event}
+use Rattle.sheet.specs.declared.lines.Line.{Line}
+use Rattle.sheet.specs.Events.{running}
+use Rattle.sheet.specs.Letters.{letterD, letterI}
+use Rattle.image.specs.Image.{imageOf, queueIn, lengthOf, Sound}
+use Rattle.image.specs.Numbers.{number32}
+use Rattle.image.specs.OneToOne.{Trim}
+use Rattle.image.specs.Puts.{puts, four}
+use Rattle.image.proofs.Inverse.{trim-in, read-write}
+use Rattle.image.proofs.Lengths.{length-image}
+use Rattle.image.proofs.Sizes.{sized-in}
+use Rattle.image.proofs.Whole.{withClock, put-clock}
+use Rattle.image_parts.specs.Given.{Gives}
+use Rattle.rules.proofs.ValidFacts.{valid-facts}
+use Rattle.runner.specs.Calls.{callOn, prints}
+use Rattle.runner.specs.Waiting.{isWaits, waitsLeft, later}
+use Rattle.runner.proofs.Called.{call-kept, call-queue, clock-is, clock-high}
+use Rattle.runner.proofs.Histories.{afterCall, lineFrom, from-more}
+use Rattle.runner.proofs.States.{Within, call-silent}
+
+no : {A : Type 0} → false ≡ true → A
+no {A} e = absurd (false≢true e)
+
+-- a decision that waits keeps all
+module _ (s : Sight) where
+  abbrev Same : Stage → Decision → Type 0
+  Same g d = isWaits (d .answer) ≡ true → d ≡ waits s g
+
+  insert-search : (a : Place) → Same (stage.Insert (ins.Search a)) (insertSearched s a (searchStep s a))
+  insert-search a =
+      cond-elim (λ (o : Searched). Same (stage.Insert (ins.Search a)) (insertSearched s a o)) (s .before) _ _ no
+      (cond-elim (λ (o : Searched). Same (stage.Insert (ins.Search a)) (insertSearched s a o)) (leb (a .level) 1) _ _ no no)
+
+  insert-seek : (k : Seek) → Same (stage.Insert (ins.Seek k)) (insertSought s (seekStep s k))
+  insert-seek (seek.Approach a) = cond-elim (λ (o : Sought). Same (stage.Insert (ins.Seek (seek.Approach a))) (insertSought s o)) (s .before) _ _ no no
+  insert-seek (seek.Take a) = cond-elim (λ (o : Sought). Same (stage.Insert (ins.Seek (seek.Take a))) (insertSought s o)) (eqb (s .guard) 0) _ _ no (λ _. refl)
+  insert-seek (seek.Confirm a) = cond-elim (λ (o : Sought). Same (stage.Insert (ins.Seek (seek.Confirm a))) (insertSought s o)) (s .before) _ _ no no
+  insert-seek (seek.Release a b) = no
+
+  insert-same : (i : Insert) → Same (stage.Insert i) (insertStep s i)
+  insert-same (ins.Search a) = insert-search a
+  insert-same (ins.Seek k) = insert-seek k
+  insert-same (ins.Copy a) = no
+  insert-same (ins.Link a) = no
+  insert-same (ins.FreeLevel a) = cond-elim (Same (stage.Insert (ins.FreeLevel a))) (ltb (a .level) (s .height)) _ _ no no
+  insert-same ins.FreeNode = no
+  insert-same ins.Stamp = no
+
+  removal-search : (a : Place) → Same (removing (rem.Search a)) (removalSearched s a (searchStep s a))
+  removal-search a =
+      cond-elim (λ (o : Searched). Same (removing (rem.Search a)) (removalSearched s a o)) (s .before) _ _ no
+      (cond-elim (λ (o : Searched). Same (removing (rem.Search a)) (removalSearched s a o)) (leb (a .level) 1) _ _ no no)
+
+  removal-seek : (k : Seek) → Same (removing (rem.Seek k)) (removalSought s (seekStep s k))
+  removal-seek (seek.Approach a) = cond-elim (λ (o : Sought). Same (removing (rem.Seek (seek.Approach a))) (removalSought s o)) (s .before) _ _ no no
+  removal-seek (seek.Take a) = cond-elim (λ (o : Sought). Same (removing (rem.Seek (seek.Take a))) (removalSought s o)) (eqb (s .guard) 0) _ _ no (λ _. refl)
+  removal-seek (seek.Confirm a) = cond-elim (λ (o : Sought). Same (removing (rem.Seek (seek.Confirm a))) (removalSought s o)) (s .before) _ _ no no
+  removal-seek (seek.Release a b) = no
+
+  removal-same : (r : Removal) → Same (removing r) (removalStep s r)
+  removal-same (rem.Search a) = removal-search a
+  removal-same rem.HoldNode = cond-elim (Same (removing rem.HoldNode)) (eqb (s .holder) 0) _ _ no (λ _. refl)
+  removal-same (rem.Seek k) = removal-seek k
+  removal-same (rem.HoldOwn a) = cond-elim (Same (removing (rem.HoldOwn a))) (eqb (s .latch) 0) _ _ no (λ _. refl)
+  removal-same (rem.Unlink a) = no
+  removal-same (rem.Back a) = no
+  removal-same (rem.FreeOwn a) = no
+  removal-same (rem.FreeLevel a) = cond-elim (Same (removing (rem.FreeLevel a))) (leb (a .level) 1) _ _ no no
+  removal-same rem.FreeNode = no
+  removal-same rem.Retire = no
+
+  delete-same : (d : Delete) → Same (stage.Delete d) (deleteStep s d)
+  delete-same (del.Next a) = cond-elim (Same (stage.Delete (del.Next a))) (s .tail) _ _ no no
+  delete-same (del.Stamped a) = cond-elim (Same (stage.Delete (del.Stamped a))) (s .stamped) _ _ no no
+  delete-same (del.Mark a) = cond-elim (Same (stage.Delete (del.Mark a))) (s .marked) _ _ no no
+  delete-same (del.Removal r) = removal-same r
+
+  waits-same : (g : Stage) → Same g (decide s g)
+  waits-same stage.Idle = λ _. refl
+  waits-same (stage.Insert i) = insert-same i
+  waits-same (stage.Delete d) = delete-same d
+
+abbrev waited : Queue → Outcome
+waited q = record { queue = later q 1; answer = ans.Waits }
+
+nothing-changes : (q : Queue) (p : ℕ) (a : Place) → accepted q p (waits (sightOf q (processorAt q p) a) (processorAt q p .stage)) ≡ waited q
+nothing-changes q p a =
+    ap (λ (ns : List Node). record { queue = record { processors = q .processors; entries = q .entries; levels = q .levels; clock = q .clock + 1; nodes = ns; callers = set (q .callers) p (processorAt q p) }; answer = ans.Waits }) (set-getD (q .nodes) 0 _)
+    ∙ ap (λ (cs : List Processor). record { queue = record { processors = q .processors; entries = q .entries; levels = q .levels; clock = q .clock + 1; nodes = q .nodes; callers = cs }; answer = ans.Waits }) (set-getD (q .callers) p _)
+
+-- the line's next call waits, whatever the clock is below its end
+pub record Waiting (l : Line) (q : Queue) : Type 0 where
+  pub no-insert : eqb (l .letter) letterI ≡ false
+  pub no-delete : eqb (l .letter) letterD ≡ false
+  pub known : leb (q .processors) (l .first) ≡ false
+  pub busy : isIdle (processorAt q (l .first) .stage) ≡ false
+  pub stands : isWaits (stepDecision q (processorAt q (l .first)) .answer) ≡ true
+
+still : (l : Line) (q : Queue) (m : ℕ) → Waiting l q → Waiting l (later q m)
+still l q m w = record { no-insert = w .no-insert; no-delete = w .no-delete; known = w .known; busy = w .busy; stands = w .stands }
+
+once : (l : Line) (q : Queue) → Waiting l q → q .clock < maxNumber → callOn l q ≡ waited q
+once l q w h =
+    rw (w .no-insert)
+    (rw (w .no-delete)
+    (rw (lt-leb maxNumber (q .clock) h)
+    (rw (w .known)
+    (rw (w .busy)
+    (ap (λ (d : Decision). accepted q (l .first) d) (waits-same (sightOf q (processorAt q (l .first)) (readingPlace (processorAt q (l .first) .stage))) (processorAt q (l .first) .stage) (w .stands))
+    ∙ nothing-changes q (l .first) (readingPlace (processorAt q (l .first) .stage)))))))
+
+quiet : (l : Line) (q : Queue) (es : List Event) → Waiting l q → afterCall l es (waited q) ≡ running (later q 1) es
+quiet l q es w = rw (w .no-insert) (rw (w .no-delete) (ap (λ (x : List Event). running (later q 1) x) (append-nil es)))
+
+-- one step of the line, and m
+turn : (l : Line) (es : List Event) (n : ℕ) (q : Queue) → Waiting l q → q .clock < maxNumber → 0 < n → lineFrom l n (running q es) ≡ lineFrom l (n - 1) (running (later q 1) es)
+turn l es n q w c h =
+    from-more l n (running q es) h
+    ∙ ap (λ (o : Outcome). cond (isRefused (o .answer)) (afterCall l es o) (lineFrom l (n - 1) (afterCall l es o))) (once l q w c)
+    ∙ ap (lineFrom l (n - 1)) (quiet l q es w)
+
+later-none : (q : Queue) → q ≡ later q 0
+later-none q =
+    let e : q .clock ≡ q .clock + 0 = omega arith in
+    ap (λ (c : ℕ). record { processors = q .processors; entries = q .entries; levels = q .levels; clock = c; nodes = q .nodes; callers = q .callers }) e
+
+same-clock : (q : Queue) (m : ℕ) → later (later q 1) m ≡ later q (suc m)
+same-clock q m =
+    let e : q .clock + 1 + m ≡ q .clock + suc m = omega arith in
+    ap (λ (c : ℕ). record { processors = q .processors; entries = q .entries; levels = q .levels; clock = c; nodes = q .nodes; callers = q .callers }) e
+
+many :
+    (l : Line) (es : List Event) (m n : ℕ) (q : Queue) →
+    Waiting l q →
+    m ≤ n →
+    q .clock + m ≤ maxNumber →
+    lineFrom l n (running q es) ≡ lineFrom l (n - m) (running (later q m) es)
+many l es zero n q w a b =
+    let e : n ≡ n - 0 = omega arith in
+    ap (λ (j : ℕ). lineFrom l j (running q es)) e ∙ ap (λ (r : Queue). lineFrom l (n - 0) (running r es)) (later-none q)
+many l es (suc m) n q w a b =
+    let e : n - 1 - m ≡ n - suc m = omega arith in
+    turn l es n q w (omega arith) (omega arith)
+    ∙ many l es m (n - 1) (later q 1) (still l q 1 w) (omega arith) (omega arith)
+    ∙ ap (λ (j : ℕ). lineFrom l j (running (later (later q 1) m) es)) e
+    ∙ ap (λ (r : Queue). lineFrom l (n - suc m) (running r es)) (same-clock q m)
+
+passes-later : (l : Line) (m : ℕ) (q : Queue) → Waiting l q → q .clock + m ≤ maxNumber → valid q ≡ true → valid (later q m) ≡ true
+passes-later l zero q w b v = ap valid (sym (later-none q)) ∙ v
+passes-later l (suc m) q w b v =
+    let one : valid (later q 1) ≡ true = ap (λ (o : Outcome). valid (o .queue)) (sym (once l q w (omega arith))) ∙ call-kept l q v in
+    ap valid (sym (same-clock q m)) ∙ passes-later l m (later q 1) (still l q 1 w) (omega arith) one
+
+-- a call that answers that it waits is a step, and one that is not refused
+abbrev Moves : Outcome → Type 0
+Moves o = isWaits (o .answer) ≡ false
+
+module _ (q : Queue) where
+  insert-moves : (p due item height : ℕ) → Moves (beginInsertValid q p due item height)
+  insert-moves p due item height =
+      cond-elim Moves (leb maxNumber (q .clock)) _ _ refl
+      (cond-elim Moves (leb (q .processors) p) _ _ refl
+      (cond-elim Moves (isIdle (processorAt q p .stage)) _ _
+      (cond-elim Moves (ltb maxNumber due || ltb maxNumber item) _ _ refl
+      (cond-elim Moves (eqb item 0) _ _ refl
+      (cond-elim Moves (outside height (q .levels)) _ _ refl
+      (cond-elim Moves (eqb (chosen q) 0) _ _ refl refl)))) refl))
+
+  delete-moves : (p : ℕ) → Moves (beginDeleteValid q p)
+  delete-moves p =
+      cond-elim Moves (leb maxNumber (q .clock)) _ _ refl
+      (cond-elim Moves (leb (q .processors) p) _ _ refl
+      (cond-elim Moves (isIdle (processorAt q p .stage)) _ _ refl refl))
+
+  waited-step :
+      (a b idle : Bool) (o : Outcome) →
+      isWaits (cond a (refused q 31) (cond b (refused q 32) (cond idle (refused q 34) o)) .answer) ≡ true →
+      (a ≡ false) × ((b ≡ false) × ((idle ≡ false) × (isWaits (o .answer) ≡ true)))
+  waited-step true b idle o e = no e
+  waited-step false true idle o e = no e
+  waited-step false false true o e = no e
+  waited-step false false false o e = (refl, (refl, (refl, e)))
+
+module _ (l : Line) (q : Queue) where
+  waiting-by :
+      (i d : Bool) → eqb (l .letter) letterI ≡ i → eqb (l .letter) letterD ≡ d →
+      isWaits
+      (cond i (beginInsertValid q (l .first) (l .second) (l .third) (l .fourth))
+      (cond d (beginDeleteValid q (l .first)) (stepValid q (l .first))) .answer)
+      ≡ true →
+      (q .clock < maxNumber) × Waiting l q
+  waiting-by true d e f h = no (sym (insert-moves q (l .first) (l .second) (l .third) (l .fourth)) ∙ h)
+  waiting-by false true e f h = no (sym (delete-moves q (l .first)) ∙ h)
+  waiting-by false false e f h =
+      let p = waited-step q (leb maxNumber (q .clock)) (leb (q .processors) (l .first)) (isIdle (processorAt q (l .first) .stage)) (accepted q (l .first) (stepDecision q (processorAt q (l .first)))) h in (
+        leb-false maxNumber (q .clock) (p .0),
+        record { no-insert = e; no-delete = f; known = p .1 .0; busy = p .1 .1 .0; stands = p .1 .1 .1 },
+      )
+
+  waiting : isWaits (callOn l q .answer) ≡ true → (q .clock < maxNumber) × Waiting l q
+  waiting = waiting-by (eqb (l .letter) letterI) (eqb (l .letter) letterD) refl refl
+
+  -- and it prints nothing
+  pub waits-silent : (a : Answer) → isWaits a ≡ true → prints (l .letter) a ≡ false
+  waits-silent (ans.Refused n) h = no h
+  waits-silent (ans.Began t) h = no h
+  waits-silent ans.Moved h = no h
+  waits-silent ans.Waits h = none (eqb (l .letter) letterI) (eqb (l .letter) letterD)
+    where
+      none : (i d : Bool) → cond i false (cond d false false) ≡ false
+      none true d = refl
+      none false true = refl
+      none false false = refl
+  waits-silent ans.Empty h = no h
+  waits-silent (ans.Marked e) h = no h
+  waits-silent (ans.Inserted e) h = no h
+  waits-silent (ans.HandedOut e) h = no h
+
+-- no more than are left, and no more than the clock takes
+pub least-left : (n k : ℕ) → (cond (ltb n k) n k ≤ n) × (cond (ltb n k) n k ≤ k)
+least-left n k = cond-cases (λ (m : ℕ). (m ≤ n) × (m ≤ k)) (ltb n k) n k
+    (λ e. let h = ltb-true n k e in (omega arith, omega (arith, h)))
+    (λ e. let h = ltb-false n k e in (omega (arith, h), omega arith))
+
+trimmed : (b : List ℕ) → Sound b → Trim (queueIn b)
+unfolding queueIn
+trimmed b s =
+    let z = valid-facts (queueIn b) (s .passes) .sizes in
+    trim-in b (z .processors .high) (z .entries .high)
+
+-- the image of a record whose clock is later is read as it
+later-read : (b : List ℕ) → Sound b → (m : ℕ) → queueIn (imageOf (later (queueIn b) m)) ≡ later (queueIn b) m
+later-read b s m =
+    let e = sized-in b in
+    let t = trimmed b s in
+    read-write (later (queueIn b) m)
+    (record { nodes-long = e .nodes-long; callers-long = e .callers-long; forward-long = e .forward-long; locks-long = e .locks-long; saved-long = e .saved-long })
+    (record { processors-high = t .processors-high; entries-high = t .entries-high; nodes = t .nodes; callers = t .callers })
+
+-- the bytes of the clock
+clock-put : (b : List ℕ) → Sound b → (t m : ℕ) → t ≡ queueIn b .clock + m → puts b 0 (four 3 t) ≡ imageOf (later (queueIn b) m)
+clock-put b s t m e =
+    ap (λ (x : List ℕ). puts x 0 (four 3 t)) (sym (s .image))
+    ∙ put-clock (queueIn b) t
+    ∙ ap (λ (j : ℕ). imageOf (withClock (queueIn b) j)) e
+
+-- the steps that wait are all that are left, or all that the clock takes
+module _ (b : List ℕ) (s : Sound b) (left t : ℕ) (e : t ≡ number32 b 3) (after : List ℕ) where
+  abbrev Passed : ℕ → Type 0
+  Passed r =
+      (r ≡ left - waitsLeft left (queueIn b .clock))
+      × (after ≡ imageOf (later (queueIn b) (waitsLeft left (queueIn b .clock))))
+
+  passed : (m : ℕ) → waitsLeft left t ≡ m → after ≡ puts b 0 (four 3 (t + m)) → Passed (left - m)
+  passed m w h =
+      let c : queueIn b .clock ≡ t = sym (e ∙ clock-is b) in
+      let k : waitsLeft left (queueIn b .clock) ≡ m = ap (waitsLeft left) c ∙ w in
+      (ap (λ (j : ℕ). left - j) (sym k), h ∙ clock-put b s (t + m) m (ap (λ (j : ℕ). j + m) (sym c)) ∙ ap (λ (j : ℕ). imageOf (later (queueIn b) j)) (sym k))
+
+  pub all-wait : left < 999999 - t → after ≡ puts b 0 (four 3 (t + left)) → Passed 0
+  all-wait h f =
+      let z : left - left ≡ 0 = omega arith in
+      subst Passed z (passed left (ap (λ (x : Bool). cond x left (maxNumber - t)) (lt-ltb left (999999 - t) h)) f)
+
+  pub some-wait : 999999 - t ≤ left → after ≡ puts b 0 (four 3 999999) → Passed (left - (999999 - t))
+  some-wait h f =
+      let high = clock-high b s in
+      let full : 999999 ≡ t + (999999 - t) = omega (arith, e, high) in
+      passed (999999 - t) (ap (λ (x : Bool). cond x left (maxNumber - t)) (le-ltb left (999999 - t) h))
+      (f ∙ ap (λ (j : ℕ). puts b 0 (four 3 j)) full)
+
+-- the state of the line after the steps that wait with the one that did
+module _ (s : List ℕ) (q₀ : Queue) (k : ℕ) (l : Line) (a₀ : List ℕ) (w : Bool) where
+  waits-on :
+      (b a : List ℕ) (at n m : ℕ) (d : List ℕ) →
+      Waiting l (queueIn b) →
+      m ≤ n →
+      queueIn b .clock + m ≤ maxNumber →
+      d ≡ imageOf (later (queueIn b) m) →
+      Within s q₀ k l n b a₀ a at w →
+      Within s q₀ k l (n - m) d a₀ a at w
+  waits-on b a at n m d v h c e i =
+      let read : queueIn d ≡ later (queueIn b) m = ap queueIn e ∙ later-read b (i .sound) m in
+      record {
+        events = i .events;
+        ran =
+            ap (λ (q : Queue). lineFrom l (n - m) (running q (i .events))) read
+            ∙ sym (many l (i .events) m n (queueIn b) v h c)
+            ∙ i .ran;
+        sound = record {
+          long = ap length e ∙ length-image (later (queueIn b) m) ∙ ap lengthOf (sym e);
+          image = ap imageOf read ∙ sym e;
+          passes = ap valid read ∙ passes-later l m (queueIn b) v c (i .sound .passes);
+        };
+        written = i .written;
+      }
+
+  pub call-waits :
+      (b a : List ℕ) (at left : ℕ) (i : Within s q₀ k l left b a₀ a at w) (some : 0 < left)
+      (c : List ℕ) (r : Answer) → Gives (callOn l (queueIn b)) c r → Sound c →
+      isWaits r ≡ true →
+      (n : ℕ) (d : List ℕ) →
+      n ≡ left - 1 - waitsLeft (left - 1) (queueIn c .clock) →
+      d ≡ imageOf (later (queueIn c) (waitsLeft (left - 1) (queueIn c .clock))) →
+      Within s q₀ k l n d a₀ a at w
+  call-waits b a at left i some c r g z y n d e f =
+      let m = waitsLeft (left - 1) (queueIn c .clock) in
+      let x = waiting l (queueIn b) (sym (ap isWaits (g .answer)) ∙ y) in
+      let early = x .0 in
+      let read : queueIn c ≡ later (queueIn b) 1 =
+      call-queue l b (i .sound) c r g ∙ ap (λ (o : Outcome). o .queue) (once l (queueIn b) (x .1) early) in
+      let v = subst (Waiting l) (sym read) (still l (queueIn b) 1 (x .1)) in
+      let t : queueIn c .clock ≡ queueIn b .clock + 1 = ap (λ (q : Queue). q .clock) read in
+      let low = least-left (left - 1) (maxNumber - queueIn c .clock) in
+      let high = low .1 in
+      subst (λ (j : ℕ). Within s q₀ k l j d a₀ a at w) (sym e)
+      (waits-on c a at (left - 1) m d v (low .0) (omega (arith, high, t, early)) f
+      (call-silent s q₀ k l a₀ w b a at left i some c r g z (waits-silent l (queueIn b) r y)))
