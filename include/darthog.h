@@ -1,9 +1,11 @@
-/* Darthog: a priority queue of timed withdrawals, advanced one step per call. The host keeps a queue as DARTHOG_IMAGE_LENGTH bytes, its image, and
- * lends them to each call; docs/IMAGE.md has their layout. Link libentries.a.
+/* Darthog: a priority queue of timed withdrawals, advanced one step per call. The host keeps a
+ * queue as bytes, its image, and lends them to each call; darthog_image_length tells how many there
+ * are, by the queue's sizes, and docs/IMAGE.md has their layout. Link libentries.a.
  *
- * An accepted call leaves the image of the record after the call in place of the bytes; a refused one leaves every byte as it was. Bytes that are no
- * image, of whatever length and whatever they hold, are refused with 21. Nothing is kept between calls but the bytes, and no call allocates: the
- * stack that a call takes is below 64 KiB.
+ * An accepted call leaves the image of the record after the call in place of the bytes; a refused
+ * one leaves every byte as it was. Bytes that are no image, of whatever length and whatever they
+ * hold, are refused with 21. Nothing is kept between calls but the bytes, and no call allocates:
+ * the stack that a call takes is below 64 KiB.
  *
  * Workers take turns. A step that waits (DARTHOG_WAITS) waits for a lock that another processor
  * holds, and only that processor's steps free it: let the others step before this one steps again.
@@ -12,8 +14,9 @@
  * that, take out what is left and file it in a new queue. 37 refuses an Insert for now: let the
  * workers step on or take entries out, and try again.
  *
- * What the host owes: image points to length readable bytes (writable ones where the pointer is not const), is not null even where length is 0, and
- * no other thread reads or writes these bytes during the call.
+ * What the host owes: image points to length readable bytes (writable ones where the pointer is not
+ * const), is not null even where length is 0, and no other thread reads or writes these bytes
+ * during the call. darthog_calls says what it asks for its lists.
  */
 #ifndef DARTHOG_H
 #define DARTHOG_H
@@ -25,10 +28,12 @@
 extern "C" {
 #endif
 
-/* How many bytes an image has. */
-#define DARTHOG_IMAGE_LENGTH 8561
+/* How many bytes the largest image has, that of 16 processors and 200 entries: room for any queue,
+ * for hosts without a heap. The calls take the bytes of an image alone, and so its own length. */
+#define DARTHOG_MAX_IMAGE_LENGTH 8561
 
-/* What a call gives back: a code, and the values that belong to it. A value that a code has not is 0; a refusal has three zeros. */
+/* What a call gives back: a code, and the values that belong to it. A value that a code has not is
+ * 0; a refusal has three zeros. */
 struct darthog_reply {
     uint32_t code;
     uint32_t first;
@@ -38,7 +43,7 @@ struct darthog_reply {
 
 /* Codes of accepted calls. */
 enum {
-    DARTHOG_ACCEPTED = 0,   /* of a begin: first is its time. Of Backlog: first is the count. Of a due minute: first is the minute */
+    DARTHOG_ACCEPTED = 0,   /* first is a begin's time, Backlog's count, or a due minute */
     DARTHOG_MOVED = 1,      /* of a step, as those below */
     DARTHOG_WAITS = 2,      /* a lock is held by another processor: let the others step first */
     DARTHOG_EMPTY = 3,
@@ -52,7 +57,8 @@ enum {
     DARTHOG_BAD_PROCESSORS = 11, /* making: processors not 1 to 16 */
     DARTHOG_BAD_ENTRIES = 12,    /* making: entries not 1 to 200 */
     DARTHOG_BAD_LEVELS = 13,     /* making: levels not 1 to 8 */
-    DARTHOG_BAD_RECORD = 21,     /* every call: no image, or a record whose numbers are out of range; making: length is not an image's */
+    DARTHOG_BAD_RECORD = 21,     /* every call: no image, or a record whose numbers are out of
+                                    range; making: length is not the image's for these sizes */
     DARTHOG_CLOCK_ENDED = 31,    /* begin and step: the clock is 999,999, its end */
     DARTHOG_NO_PROCESSOR = 32,   /* begin and step: the queue has no such processor */
     DARTHOG_BUSY = 33,           /* begin: the processor is busy */
@@ -63,18 +69,49 @@ enum {
     DARTHOG_NO_NODE = 37         /* Insert: no node that may be used now; later there may be one */
 };
 
-/* Makes a queue in these bytes, whatever they held: for processors (1 to 16), entries (1 to 200) and levels (1 to 8). 0, or 11, 12, 13 or 21. */
-uint32_t darthog_make(uint8_t *image, size_t length, uint32_t processors, uint32_t entries, uint32_t levels);
+/* Kinds of calls in a list; every kind but the first two is a step. */
+enum {
+    DARTHOG_CALL_INSERT = 1,
+    DARTHOG_CALL_DELETE_MIN = 2,
+    DARTHOG_CALL_STEP = 3
+};
+
+/* The length of an image for processors (1 to 16) and entries (1 to 200); 0 for other sizes, which
+ * no queue has. */
+size_t darthog_image_length(uint32_t processors, uint32_t entries);
+
+/* Makes a queue in these bytes, whatever they held: for processors (1 to 16), entries (1 to 200)
+ * and levels (1 to 8). 0, or 11, 12, 13, or 21 where length is not the one for these sizes. */
+uint32_t darthog_make(uint8_t *image, size_t length, uint32_t processors, uint32_t entries,
+                      uint32_t levels);
 
 /* Begins an Insert by a processor: due at most 999,999, item 1 to 999,999, height 1 to the queue's
  * levels. */
-struct darthog_reply darthog_begin_insert(uint8_t *image, size_t length, uint32_t processor, uint32_t due, uint32_t item, uint32_t height);
+struct darthog_reply darthog_begin_insert(uint8_t *image, size_t length, uint32_t processor,
+                                          uint32_t due, uint32_t item, uint32_t height);
 
 /* Begins a Delete_Min by a processor. */
 struct darthog_reply darthog_begin_delete_min(uint8_t *image, size_t length, uint32_t processor);
 
 /* The next step of a processor's operation. */
 struct darthog_reply darthog_step(uint8_t *image, size_t length, uint32_t processor);
+
+/* Makes the calls of a list, one after the other: the bytes are tested once for all of them, where
+ * single calls test them each time. calls has five numbers for each call: kind, processor, due,
+ * item, height; those that a call has not may hold anything. answers gets five numbers for each:
+ * code, first, second and third as in struct darthog_reply, and the clock after the call. A refused
+ * call is answered with its number, and the list goes on behind it.
+ *
+ * The lengths count numbers, not bytes. As many calls are made as both lists have five numbers for;
+ * calls behind that are not looked at, and answers behind it stay as they are. 0, or 21 where the
+ * bytes are not the image of a record whose numbers are in range: then nothing changes, and nothing
+ * is answered.
+ *
+ * The host owes for calls and answers what it owes for image: pointers that are not null, to so
+ * many numbers that no other thread writes, nor reads where they are answers. Neither image nor
+ * answers share memory with another of the three. */
+uint32_t darthog_calls(uint8_t *image, size_t length, const uint32_t *calls, size_t calls_length,
+                       uint32_t *answers, size_t answers_length);
 
 /* Backlog: how many entries are filed and not yet taken. An entry counts from the answer to its
  * Insert (DARTHOG_INSERTED) until a Delete_Min marks it (DARTHOG_MARKED). It keeps its node longer,

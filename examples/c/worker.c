@@ -1,7 +1,10 @@
-/* Workers of one process share a queue: they file withdrawals, then take them until the queue is empty. Each gets one step at a time, in turn.
+/* Workers of one process share a queue: they file withdrawals, then take them until the queue is
+ * empty. Each gets one step at a time, in turn: while they file, the calls of a round are one list,
+ * and while they take, each is a call of its own.
  *
- * Which entry a Delete_Min takes is decided when it marks it; unlinking it takes one worker more steps than another. So each withdrawal gets its turn
- * when it is marked, and is printed once it and all before it were handed out. */
+ * Which entry a Delete_Min takes is decided when it marks it; unlinking it takes one worker more
+ * steps than another. So each withdrawal gets its turn when it is marked, and is printed once it
+ * and all before it were handed out. */
 #include <inttypes.h>
 #include <stdio.h>
 #include <stdlib.h>
@@ -16,7 +19,8 @@ static const struct { uint64_t seconds; uint32_t item; } withdrawals[ENTRIES] = 
     {125, 107},  {3600, 108}, {60, 109}, {600, 110},  {43200, 111}, {59999969, 112},
 };
 
-/* A worker: whether it is in an operation, whether it found the queue empty, and the turn of the entry that it marked. */
+/* A worker: whether it is in an operation, whether it found the queue empty, and the turn of the
+ * entry that it marked. */
 struct worker {
     int busy;
     int ended;
@@ -30,7 +34,8 @@ struct taken {
     int out;
 };
 
-static uint8_t queue[DARTHOG_IMAGE_LENGTH];
+static uint8_t *queue;
+static size_t length;
 static struct taken taken[ENTRIES];
 
 static void stop(const char *call, uint32_t code) {
@@ -45,7 +50,7 @@ static uint32_t value(const char *call, struct darthog_reply reply) {
 }
 
 static uint32_t backlog(void) {
-    return value("backlog", darthog_backlog(queue, sizeof queue));
+    return value("backlog", darthog_backlog(queue, length));
 }
 
 /* Every second entry is linked on a second level, every fourth on a third, and so on. */
@@ -55,27 +60,55 @@ static uint32_t height_of(int number) {
     return height;
 }
 
+/* Numbers of a call in a list, and of an answer. */
+enum { NUMBERS = 5 };
+
+/* The begin of the Insert of a withdrawal, in the numbers of a list. */
+static void put_insert(uint32_t *call, uint32_t w, int number) {
+    call[0] = DARTHOG_CALL_INSERT;
+    call[1] = w;
+    call[2] = value("due", darthog_due(withdrawals[number].seconds));
+    call[3] = withdrawals[number].item;
+    call[4] = height_of(number);
+}
+
+/* A step, whose further numbers are not looked at. */
+static void put_step(uint32_t *call, uint32_t w) {
+    call[0] = DARTHOG_CALL_STEP;
+    call[1] = w;
+}
+
+/* The calls of a round: a step of each worker that is busy, and the next begin of each that is not,
+ * as long as there is one. Gives how many numbers they are. */
+static size_t ask(uint32_t *calls, const int *busy, int *begun) {
+    size_t numbers = 0;
+    for (uint32_t w = 0; w < WORKERS; w++) {
+        if (busy[w]) {
+            put_step(calls + numbers, w);
+        } else if (*begun < ENTRIES) {
+            put_insert(calls + numbers, w, (*begun)++);
+        } else {
+            continue;
+        }
+        numbers += NUMBERS;
+    }
+    return numbers;
+}
+
 /* Each worker files the next withdrawal, until all are filed. */
 static void file_all(void) {
     int busy[WORKERS] = {0};
     int begun = 0, filed = 0;
     while (filed < ENTRIES) {
-        for (uint32_t w = 0; w < WORKERS; w++) {
-            if (busy[w]) {
-                struct darthog_reply r = darthog_step(queue, sizeof queue, w);
-                if (r.code == DARTHOG_INSERTED) {
-                    busy[w] = 0;
-                    filed++;
-                } else if (r.code != DARTHOG_MOVED && r.code != DARTHOG_WAITS) {
-                    stop("step", r.code);
-                }
-            } else if (begun < ENTRIES) {
-                uint32_t due = value("due", darthog_due(withdrawals[begun].seconds));
-                value("begin_insert",
-                      darthog_begin_insert(queue, sizeof queue, w, due, withdrawals[begun].item, height_of(begun)));
-                busy[w] = 1;
-                begun++;
-            }
+        uint32_t calls[WORKERS * NUMBERS] = {0}, answers[WORKERS * NUMBERS];
+        size_t numbers = ask(calls, busy, &begun);
+        uint32_t code = darthog_calls(queue, length, calls, numbers, answers, numbers);
+        if (code != DARTHOG_ACCEPTED) stop("calls", code);
+        for (size_t at = 0; at < numbers; at += NUMBERS) {
+            int inserted = answers[at] == DARTHOG_INSERTED;
+            if (!inserted && answers[at] > DARTHOG_WAITS) stop("a call of a list", answers[at]);
+            busy[calls[at + 1]] = !inserted;
+            filed += inserted;
         }
     }
 }
@@ -83,11 +116,11 @@ static void file_all(void) {
 /* One call of a worker that takes entries. */
 static void work(struct worker *worker, uint32_t w, int *marked) {
     if (!worker->busy) {
-        value("begin_delete_min", darthog_begin_delete_min(queue, sizeof queue, w));
+        value("begin_delete_min", darthog_begin_delete_min(queue, length, w));
         worker->busy = 1;
         return;
     }
-    struct darthog_reply r = darthog_step(queue, sizeof queue, w);
+    struct darthog_reply r = darthog_step(queue, length, w);
     switch (r.code) {
     case DARTHOG_MOVED:
     case DARTHOG_WAITS:
@@ -115,7 +148,8 @@ static void work(struct worker *worker, uint32_t w, int *marked) {
 static int print_from(int turn) {
     while (turn < ENTRIES && taken[turn].out) {
         const struct darthog_reply *e = &taken[turn].entry;
-        printf("%7" PRIu32 "%7" PRIu32 "%7" PRIu32 "%7" PRIu32 "\n", e->first, e->second, e->third, taken[turn].worker);
+        printf("%7" PRIu32 "%7" PRIu32 "%7" PRIu32 "%7" PRIu32 "\n", e->first, e->second, e->third,
+               taken[turn].worker);
         if (turn > 0 && taken[turn - 1].entry.first > e->first) {
             fprintf(stderr, "not in order of due minutes\n");
             exit(1);
@@ -144,11 +178,15 @@ static void take_all(void) {
 }
 
 int main(void) {
-    uint32_t code = darthog_make(queue, sizeof queue, WORKERS, ENTRIES, LEVELS);
+    length = darthog_image_length(WORKERS, ENTRIES);
+    queue = malloc(length);
+    if (queue == NULL) stop("malloc", 0);
+    uint32_t code = darthog_make(queue, length, WORKERS, ENTRIES, LEVELS);
     if (code != DARTHOG_ACCEPTED) stop("make", code);
     file_all();
     printf("backlog %" PRIu32 "\n", backlog());
     take_all();
     printf("backlog %" PRIu32 "\n", backlog());
+    free(queue);
     return 0;
 }

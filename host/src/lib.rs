@@ -1,12 +1,13 @@
 //! Darthog for hosts in Rust: a priority queue of timed withdrawals that is
 //! advanced one step per call.
 //!
-//! A [`Queue`] owns the 8,561 bytes of its image and lends them to the calls
-//! of the proved library `libentries.a`. A refused call leaves the queue as it
-//! was. [`raw`] has the library's own functions.
+//! A [`Queue`] owns the bytes of its image, as many as its sizes take, and lends
+//! them to the calls of the proved library `libentries.a`. A refused call leaves
+//! the queue as it was. [`Queue::calls`] makes the calls of a list in one go,
+//! and [`raw`] has the library's own functions.
 //!
 //! ```
-//! use darthog_host::{due_minute, Entry, Queue, Refusal, Step};
+//! use darthog_host::{due_minute, image_length, Entry, Queue, Refusal, Step};
 //!
 //! # fn main() -> Result<(), Refusal> {
 //! // one processor, one entry, one level
@@ -35,6 +36,7 @@
 //!
 //! // the bytes are all that a host keeps over a restart
 //! let kept = queue.as_bytes().to_vec();
+//! assert_eq!(Some(kept.len()), image_length(1, 1));
 //! assert_eq!(Queue::from_bytes(&kept), Ok(queue));
 //! # Ok(())
 //! # }
@@ -43,9 +45,11 @@
 #![warn(missing_docs)]
 
 mod answers;
+mod lists;
 mod queue;
 pub mod raw;
 
 pub use answers::{Entry, Refusal, Step};
-pub use queue::{due_minute, Queue};
-pub use raw::IMAGE_LENGTH;
+pub use lists::{Answer, Call, Done};
+pub use queue::{due_minute, image_length, Queue};
+pub use raw::MAX_IMAGE_LENGTH;

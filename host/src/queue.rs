@@ -1,29 +1,30 @@
 //! A queue that owns its bytes.
 
 use crate::answers::{refusal, step, value, Refusal, Step};
-use crate::raw::{self, IMAGE_LENGTH};
+use crate::lists::{Answer, Call, NUMBERS};
+use crate::raw;
 use std::fmt;
 
 /// A queue of timed withdrawals. Its bytes always are the image of a record
-/// that passes the library's check 21; docs/IMAGE.md has the layout.
+/// that passes the library's check 21, as many as its sizes take;
+/// docs/IMAGE.md has the layout.
 #[derive(Clone, PartialEq, Eq, Hash)]
 pub struct Queue {
-    image: Box<[u8; IMAGE_LENGTH]>,
+    image: Box<[u8]>,
 }
 
 impl Queue {
     /// A fresh queue for processors (1 to 16, numbered from 0), entries (1 to
     /// 200) and levels (1 to 8).
     pub fn new(processors: u32, entries: u32, levels: u32) -> Result<Queue, Refusal> {
-        let mut image = Box::new([0; IMAGE_LENGTH]);
+        // sizes that have no length are refused before it is looked at
+        let length = image_length(processors, entries).unwrap_or(0);
+        let mut image = vec![0; length].into_boxed_slice();
         // Safe: the bytes are lent for the call, with their length.
         let code = unsafe {
             raw::darthog_make(image.as_mut_ptr(), image.len(), processors, entries, levels)
         };
-        match code {
-            raw::ACCEPTED => Ok(Queue { image }),
-            code => Err(refusal(code)),
-        }
+        accepted(code).map(|()| Queue { image })
     }
 
     /// The queue with these bytes: those of [`Queue::as_bytes`], kept. Any
@@ -32,17 +33,14 @@ impl Queue {
     pub fn from_bytes(bytes: &[u8]) -> Result<Queue, Refusal> {
         // Safe: the bytes are lent for the call, with their length; a slice's pointer is not null.
         value(unsafe { raw::darthog_backlog(bytes.as_ptr(), bytes.len()) })?;
-        match <[u8; IMAGE_LENGTH]>::try_from(bytes) {
-            Ok(image) => Ok(Queue {
-                image: Box::new(image),
-            }),
-            Err(_) => Err(Refusal::BadRecord),
-        }
+        Ok(Queue {
+            image: Box::from(bytes),
+        })
     }
 
     /// The bytes of the queue. Two queues are the same if and only if their
     /// bytes are.
-    pub fn as_bytes(&self) -> &[u8; IMAGE_LENGTH] {
+    pub fn as_bytes(&self) -> &[u8] {
         &self.image
     }
 
@@ -53,8 +51,8 @@ impl Queue {
     }
 
     /// Begins an Insert by a processor: an entry with this due minute and
-    /// item, which is not 0, linked on `height` levels. Gives the time of the call, which is
-    /// the entry's ticket.
+    /// item, which is not 0, linked on `height` levels. Gives the time of the
+    /// call, which is the entry's ticket.
     pub fn begin_insert(
         &mut self,
         processor: u32,
@@ -89,6 +87,48 @@ impl Queue {
         step(unsafe { raw::darthog_step(self.image.as_mut_ptr(), self.image.len(), processor) })
     }
 
+    /// Makes the calls of a list, one after the other, and gives an answer for
+    /// each. The library tests the bytes once for all of them, where single
+    /// calls test them each time. A refused call changes nothing, and the list
+    /// goes on behind it.
+    ///
+    /// ```
+    /// use darthog_host::{Call, Done, Queue, Refusal, Step};
+    ///
+    /// # fn main() -> Result<(), Refusal> {
+    /// let mut queue = Queue::new(2, 1, 1)?;
+    /// let answers = queue.calls(&[
+    ///     Call::insert(0, 7, 42, 1),
+    ///     Call::insert(1, 8, 43, 1),
+    ///     Call::step(0),
+    /// ])?;
+    /// assert_eq!(answers[0].done(), Ok(Done::Began(1)));
+    /// // the only node is taken, and the clock stands
+    /// assert_eq!(answers[1].done(), Err(Refusal::NoNode));
+    /// assert_eq!(answers[1].clock(), 1);
+    /// assert_eq!(answers[2].done(), Ok(Done::Stepped(Step::Moved)));
+    /// assert_eq!(answers[2].clock(), 2);
+    /// # Ok(())
+    /// # }
+    /// ```
+    pub fn calls(&mut self, calls: &[Call]) -> Result<Vec<Answer>, Refusal> {
+        let mut answers = vec![Answer::OPEN; calls.len()];
+        // Safe: bytes, calls and answers are lent for the call, with their
+        // lengths, and share no memory; a call is five numbers, and so is an
+        // answer.
+        let code = unsafe {
+            raw::darthog_calls(
+                self.image.as_mut_ptr(),
+                self.image.len(),
+                calls.as_ptr().cast(),
+                calls.len() * NUMBERS,
+                answers.as_mut_ptr().cast(),
+                answers.len() * NUMBERS,
+            )
+        };
+        accepted(code).map(|()| answers)
+    }
+
     /// How many entries are filed and not yet taken: an entry counts from the
     /// answer to its Insert ([`Step::Inserted`]) until a Delete_Min marks it
     /// ([`Step::Marked`]).
@@ -110,6 +150,24 @@ impl fmt::Debug for Queue {
             .field("levels", &self.image[2])
             .field("clock", &self.clock())
             .finish_non_exhaustive()
+    }
+}
+
+/// The length of a queue's bytes for processors (1 to 16) and entries (1 to
+/// 200); none for other sizes, which no queue has.
+pub fn image_length(processors: u32, entries: u32) -> Option<usize> {
+    // Safe: the call takes numbers and touches no memory of the host's.
+    match unsafe { raw::darthog_image_length(processors, entries) } {
+        0 => None,
+        length => Some(length),
+    }
+}
+
+/// Nothing, or the refusal of a code.
+fn accepted(code: u32) -> Result<(), Refusal> {
+    match code {
+        raw::ACCEPTED => Ok(()),
+        code => Err(refusal(code)),
     }
 }
 

@@ -2,13 +2,14 @@
 //!
 //! A test compares these declarations with the header and with the source.
 
-/// How many bytes an image has.
-pub const IMAGE_LENGTH: usize = 8561;
+/// How many bytes the largest image has, that of a queue for 16 processors and
+/// 200 entries.
+pub const MAX_IMAGE_LENGTH: usize = 8561;
 
 /// What a call gives back: a code, and the values that belong to it. A value
 /// that a code has not is 0; a refusal has three zeros.
 #[repr(C)]
-#[derive(Clone, Copy, PartialEq, Eq, Debug)]
+#[derive(Clone, Copy, PartialEq, Eq, Hash, Debug)]
 pub struct Reply {
     /// 0 to 6 for an accepted call, else the refusal's number.
     pub code: u32,
@@ -35,10 +36,24 @@ pub const INSERTED: u32 = 5;
 /// The Delete_Min ended with an entry.
 pub const HANDED_OUT: u32 = 6;
 
+/// The kind of a call in a list that begins an Insert.
+pub const CALL_INSERT: u32 = 1;
+/// The kind of a call in a list that begins a Delete_Min.
+pub const CALL_DELETE_MIN: u32 = 2;
+/// A kind that is a step, as every kind but the two above.
+pub const CALL_STEP: u32 = 3;
+
 // In every call the host owes: `image` is not null and points to `length`
 // bytes that may be read, and written where it is `*mut`; no other thread
-// reads or writes them during the call. Nothing else is asked.
+// reads or writes them during the call. The same goes for the lists of
+// `darthog_calls`, whose lengths count numbers: they are aligned, and neither
+// the image nor the answers share memory with another of the three. Nothing
+// else is asked.
 extern "C" {
+    /// The length of an image for so many processors and entries; 0 where no
+    /// queue has these sizes.
+    pub fn darthog_image_length(processors: u32, entries: u32) -> usize;
+
     /// Makes a queue in these bytes. 0, or 11, 12, 13 or 21.
     pub fn darthog_make(
         image: *mut u8,
@@ -63,6 +78,18 @@ extern "C" {
 
     /// The next step of a processor's operation.
     pub fn darthog_step(image: *mut u8, length: usize, processor: u32) -> Reply;
+
+    /// Makes the calls of a list: kind, processor, due, item and height of
+    /// each. Its answers are code, first, second and third as in [`Reply`] and
+    /// the clock after the call. 0, or 21.
+    pub fn darthog_calls(
+        image: *mut u8,
+        length: usize,
+        calls: *const u32,
+        calls_length: usize,
+        answers: *mut u32,
+        answers_length: usize,
+    ) -> u32;
 
     /// How many entries are answered and not marked.
     pub fn darthog_backlog(image: *const u8, length: usize) -> Reply;

@@ -1,5 +1,6 @@
 //! Calls on records that no run reached, with damage to some: reply and bytes
-//! are the reference's, and every code of every entry occurs.
+//! are the reference's, and every code of every entry occurs. Levels past L
+//! hold anything; slots past P and N+1 are in no image, and so as made.
 
 mod common;
 

@@ -1,6 +1,6 @@
 //! Backlog, with what is expected written by hand: which nodes it counts, and
 //! what it gives along the printed run. Through the C entries and through the
-//! crate.
+//! crate. Nodes past the tail, which do not count, are in no image at all.
 
 mod common;
 

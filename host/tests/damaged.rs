@@ -1,26 +1,25 @@
 //! Images with damage: each bit of each byte flipped, every byte value at each
-//! tag, random bytes. Those that the reference takes are taken, the others are
-//! refused with 21, and a refused call changes no byte.
+//! byte of small images and at each tag of large ones, random bytes. Those that
+//! the reference takes are taken, the others are refused with 21, and a refused
+//! call changes no byte.
 
 mod common;
 
-use common::{any_call, compare, refused, seed, Call, Counts, Lent};
+use common::{any_call, compare, junk, refused, seed, Call, Counts, Lent};
 use darthog_reference::any_record::any_record;
-use darthog_reference::image::{
-    decode, encode, IMAGE_LENGTH, NODES_AT, NODE_BYTES, PROCESSORS_AT, PROCESSOR_BYTES,
-};
-use darthog_reference::queue::{Queue, MOST_PROCESSORS, NODE_SLOTS};
+use darthog_reference::image::{decode, encode, image_length, node_at, processor_at};
+use darthog_reference::queue::Queue;
 use darthog_reference::random::Random;
 use darthog_reference::schedule::{Schedule, Sizes};
 use darthog_reference::trial::fresh_of;
 
-/// A record in the middle of some operations: of five processors the last two
-/// are idle, the others busy.
-fn reached(random: &mut Random) -> Queue {
+/// A record in the middle of some operations: of the processors the last two
+/// are idle if there are so many, up to three of the others busy.
+fn reached(processors: u64, nodes: u64, levels: u64, random: &mut Random) -> Queue {
     let sizes = Sizes {
-        processors: 5,
-        nodes: 40,
-        levels: 5,
+        processors,
+        nodes,
+        levels,
     };
     let mut record = fresh_of(sizes);
     let mut schedule = Schedule::new(random.draw(), sizes);
@@ -30,22 +29,36 @@ fn reached(random: &mut Random) -> Queue {
         schedule.note(&call, &outcome);
     }
     while record.busy().count() > 0 {
-        for p in 0..5 {
+        for p in 0..processors {
             // An idle processor's step is refused and changes nothing.
             let _ = record.step(p);
         }
     }
-    record.begin_delete_min(0).expect("it is idle");
-    record.begin_insert(1, 3, 4, 5).expect("a node is free");
-    record.begin_delete_min(2).expect("it is idle");
-    for _ in 0..12 {
-        for p in 0..3 {
+    let busy = processors.saturating_sub(2).clamp(1, 3);
+    for p in 0..busy {
+        // An Insert may find no node.
+        if p != 1 || record.begin_insert(1, 3, 4, levels).is_err() {
+            record.begin_delete_min(p).expect("it is idle");
+        }
+    }
+    for _ in 0..nodes.min(12) {
+        for p in 0..busy {
             // It may have ended.
             let _ = record.step(p);
         }
     }
     record
 }
+
+/// The sizes of the records that are damaged.
+const SIZES: [(u64, u64, u64); 6] = [
+    (1, 1, 1),
+    (2, 3, 2),
+    (5, 40, 5),
+    (16, 1, 8),
+    (1, 200, 1),
+    (16, 200, 8),
+];
 
 /// The calls that are made on damaged bytes.
 fn calls(number: usize) -> Call {
@@ -62,21 +75,24 @@ fn calls(number: usize) -> Call {
 fn flipped_bits_are_seen_as_the_reference_sees_them() {
     let mut random = Random::new(seed());
     let mut counts = Counts::default();
-    let record = reached(&mut random);
-    let image = encode(&record);
-    let mut taken = 0;
-    for at in 0..IMAGE_LENGTH {
-        // one bit of every byte; in a tenth of the bytes all eight
-        let first = random.below(8);
-        let bits = if random.one_in(10) { 8 } else { 1 };
-        for bit in first..first + bits {
-            let mut bytes = image.clone();
-            bytes[at] ^= 1 << (bit % 8);
-            taken += u64::from(decode(&bytes).is_some());
-            compare(&bytes, &calls(at + bit as usize), &mut random, &mut counts);
+    let (mut taken, mut all) = (0, 0);
+    for (p, n, l) in SIZES {
+        let image = encode(&reached(p, n, l, &mut random));
+        for at in 0..image.len() {
+            // one bit of every byte; in a tenth of the bytes all eight
+            let first = random.below(8);
+            let bits = if random.one_in(10) { 8 } else { 1 };
+            for bit in first..first + bits {
+                let mut bytes = image.clone();
+                bytes[at] ^= 1 << (bit % 8);
+                taken += u64::from(decode(&bytes).is_some());
+                compare(&bytes, &calls(at + bit as usize), &mut random, &mut counts);
+                all += 1;
+            }
         }
     }
-    println!("{taken} of the damaged images are images");
+    println!("{taken} of {all} damaged images are images");
+    assert!(all > 18_000, "only {all} damaged images");
     counts.must_have(&[
         ("backlog", &[0, 21]),
         ("step", &[1, 21]),
@@ -94,35 +110,44 @@ fn every_value_at(image: &[u8], at: usize, random: &mut Random, counts: &mut Cou
     }
 }
 
+/// Each byte of small images, sizes and clock too, with every value.
+#[test]
+fn every_value_of_every_byte_is_seen_as_the_reference_sees_it() {
+    let mut random = Random::new(seed());
+    let mut counts = Counts::default();
+    for (p, n, l) in [(1, 1, 1), (2, 3, 2)] {
+        let image = encode(&reached(p, n, l, &mut random));
+        for at in 0..image.len() {
+            every_value_at(&image, at, &mut random, &mut counts);
+        }
+    }
+    counts.must_have(&[
+        ("backlog", &[0, 21]),
+        ("step", &[1, 21, 32]),
+        ("delete_min", &[21, 33]),
+        ("insert", &[21, 33]),
+    ]);
+}
+
 #[test]
 fn every_byte_value_at_a_tag_is_seen_as_the_reference_sees_it() {
     let mut random = Random::new(seed());
     let mut counts = Counts::default();
-    let image = encode(&reached(&mut random));
-    // sizes, and each byte of the clock
-    for at in 0..7 {
-        every_value_at(&image, at, &mut random, &mut counts);
-    }
-    // mark, stamp and use of the head, of some nodes, of the tail and past it
-    for node in [0, 1, 2, 20, 40, 41, 42, NODE_SLOTS - 1] {
-        for field in [17, 18, 36] {
-            every_value_at(
-                &image,
-                NODES_AT + node * NODE_BYTES + field,
-                &mut random,
-                &mut counts,
-            );
+    for (p, n, l) in [(5, 40, 5), (16, 200, 8)] {
+        let image = encode(&reached(p, n, l, &mut random));
+        let (p, n) = (p as usize, n as usize);
+        // sizes, and each byte of the clock
+        let mut places: Vec<usize> = (0..7).collect();
+        // own node, stage, place and the node of G3
+        for processor in [0, 1, p - 2, p - 1] {
+            places.extend((4..9).map(|field| processor_at(processor) + field));
         }
-    }
-    // own node, stage, place and the node of G3, also past the last processor
-    for processor in [0, 1, 4, 5, MOST_PROCESSORS - 1] {
-        for field in 4..9 {
-            every_value_at(
-                &image,
-                PROCESSORS_AT + processor * PROCESSOR_BYTES + field,
-                &mut random,
-                &mut counts,
-            );
+        // mark, stamp and use of the head, of some nodes and of the tail
+        for node in [0, 1, 2, n / 2, n, n + 1] {
+            places.extend([17, 18, 36].map(|field| node_at(p, node) + field));
+        }
+        for at in places {
+            every_value_at(&image, at, &mut random, &mut counts);
         }
     }
     counts.must_have(&[
@@ -160,26 +185,23 @@ fn damage_at_random_places_of_any_record() {
     ]);
 }
 
+/// Random bytes, half of them with the sizes that their length is for.
 #[test]
-fn random_bytes_of_every_length_are_no_image() {
+fn random_bytes_are_no_image() {
     let mut random = Random::new(seed());
     let mut counts = Counts::default();
-    let lengths = [
-        0,
-        1,
-        2,
-        7,
-        48,
-        IMAGE_LENGTH - 1,
-        IMAGE_LENGTH,
-        IMAGE_LENGTH + 1,
-    ];
-    for number in 0..400 {
-        let length = random.among(&lengths);
-        let bytes: Vec<u8> = (0..length).map(|_| random.draw() as u8).collect();
+    for number in 0..2_000 {
+        let (p, n) = (random.between(1, 16), random.between(1, 200));
+        let right = image_length(p, n).expect("sizes in range");
+        let length = random.among(&[0, 1, 2, 7, 48, right - 1, right, right, right, right + 1]);
+        let mut bytes: Vec<u8> = (0..length).map(|_| random.draw() as u8).collect();
+        if length > 2 && random.one_in(2) {
+            bytes[..2].copy_from_slice(&[p as u8, n as u8]);
+        }
         let call = calls(number);
         let mut lent = Lent::new(&bytes, &mut random);
         assert_eq!(lent.call(&call), refused(21), "{call:?} of {length} bytes");
+        assert_eq!(lent.list(&[3, 0, 0, 0, 0], 5), (21, junk(5)));
         assert!(lent.now() == bytes, "{call:?} changed a byte");
         counts.note(call.entry(), 21);
     }

@@ -21,6 +21,21 @@ fn read(path: &str) -> String {
     fs::read_to_string(&path).unwrap_or_else(|error| panic!("{}: {error}", path.display()))
 }
 
+/// Every source of the entries.
+fn sources() -> Vec<String> {
+    let folder = "crates/entries/src";
+    let path = Path::new(env!("CARGO_MANIFEST_DIR"))
+        .join("..")
+        .join(folder);
+    let files = fs::read_dir(path).expect("the sources are there");
+    let names = files.map(|file| file.expect("a file").file_name());
+    names
+        .filter_map(|name| Some(name.to_str()?.to_string()))
+        .filter(|name| name.ends_with(".rt"))
+        .map(|name| read(&format!("{folder}/{name}")))
+        .collect()
+}
+
 /// The text without comments, a single space for each run of spaces.
 fn plain(text: &str) -> String {
     let mut words = String::new();
@@ -51,6 +66,8 @@ fn rust_type(c: &str) -> String {
     match c {
         "uint8_t *" => "*mut u8",
         "const uint8_t *" => "*const u8",
+        "uint32_t *" => "*mut u32",
+        "const uint32_t *" => "*const u32",
         "size_t" => "usize",
         "uint32_t" => "u32",
         "uint64_t" => "u64",
@@ -69,7 +86,7 @@ fn of_header(text: &str) -> BTreeMap<String, Function> {
             continue;
         }
         let (front, name) = part[..open].rsplit_once(' ').expect("a type and a name");
-        let gives = ["struct darthog_reply", "uint32_t"]
+        let gives = ["struct darthog_reply", "uint32_t", "size_t"]
             .into_iter()
             .find(|c| front.ends_with(c))
             .expect("a known type");
@@ -90,8 +107,19 @@ fn of_header(text: &str) -> BTreeMap<String, Function> {
     functions
 }
 
-/// The functions of Rust or Rattle that start with these words. A slice of
-/// bytes is a pointer and a length.
+/// A slice as the pointer that C has for it; none for another type.
+fn pointer_of(slice: &str) -> Option<&'static str> {
+    match slice {
+        "&mut [u8]" => Some("*mut u8"),
+        "&[u8]" => Some("*const u8"),
+        "&mut [u32]" => Some("*mut u32"),
+        "&[u32]" => Some("*const u32"),
+        _ => None,
+    }
+}
+
+/// The functions of Rust or Rattle that start with these words. A slice is a
+/// pointer and a length, which has the slice's name but for the image's.
 fn of_source(text: &str, start: &str) -> BTreeMap<String, Function> {
     let text = plain(text);
     let mut functions = BTreeMap::new();
@@ -107,14 +135,14 @@ fn of_source(text: &str, start: &str) -> BTreeMap<String, Function> {
         let mut parameters = Vec::new();
         for parameter in parts(&part[open + 1..close]) {
             let (name, of) = parameter.split_once(": ").expect("a name and a type");
-            let pointer = match of {
-                "&mut [u8]" => "*mut u8",
-                "&[u8]" => "*const u8",
-                other => other,
-            };
-            parameters.push((name.to_string(), pointer.to_string()));
-            if pointer != of {
-                parameters.push(("length".to_string(), "usize".to_string()));
+            let pointer = pointer_of(of);
+            parameters.push((name.to_string(), pointer.unwrap_or(of).to_string()));
+            if pointer.is_some() {
+                let length = match name {
+                    "image" => "length".to_string(),
+                    other => format!("{other}_length"),
+                };
+                parameters.push((length, "usize".to_string()));
             }
         }
         let function = Function {
@@ -129,13 +157,13 @@ fn of_source(text: &str, start: &str) -> BTreeMap<String, Function> {
 #[test]
 fn the_functions_are_those_of_the_source() {
     let header = of_header(&read("include/darthog.h"));
+    let start = "#[no_mangle] pub extern \"C\" fn ";
     let mut source = BTreeMap::new();
-    for file in ["making", "calls", "reads"] {
-        let text = read(&format!("crates/entries/src/{file}.rt"));
-        source.append(&mut of_source(&text, "#[no_mangle] pub extern \"C\" fn "));
+    for text in sources() {
+        source.append(&mut of_source(&text, start));
     }
     let host = of_source(&read("host/src/raw.rs"), "pub fn ");
-    assert_eq!(source.len(), 6);
+    assert_eq!(source.len(), 8);
     assert_eq!(header, source);
     assert_eq!(host, source);
 }
@@ -187,6 +215,9 @@ fn the_codes_are_those_of_the_header() {
         ("MARKED", raw::MARKED),
         ("INSERTED", raw::INSERTED),
         ("HANDED_OUT", raw::HANDED_OUT),
+        ("CALL_INSERT", raw::CALL_INSERT),
+        ("CALL_DELETE_MIN", raw::CALL_DELETE_MIN),
+        ("CALL_STEP", raw::CALL_STEP),
     ] {
         host.insert(format!("DARTHOG_{name}"), number);
     }
@@ -202,6 +233,7 @@ fn the_codes_are_those_of_the_header() {
         host.insert(name, refusal.number());
     }
     assert_eq!(host, header);
-    let length = format!("#define DARTHOG_IMAGE_LENGTH {}\n", raw::IMAGE_LENGTH);
-    assert!(text.contains(&length), "the header has no line {length}");
+    let most = raw::MAX_IMAGE_LENGTH;
+    let line = format!("#define DARTHOG_MAX_IMAGE_LENGTH {most}\n");
+    assert!(text.contains(&line), "the header has no line {line}");
 }

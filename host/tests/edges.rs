@@ -1,94 +1,175 @@
-//! Lengths and numbers at and past every edge.
+//! Sizes, lengths and numbers at and past every edge.
 
 mod common;
 
-use common::{compare, edge, refused, seed, Call, Counts, Lent, ALL_CODES};
-use darthog_host::raw::{darthog_due, Reply};
-use darthog_reference::image::{encode, IMAGE_LENGTH};
+use common::{compare, compare_list, edge, junk, refused, seed, Call, Counts, Lent, ALL_CODES};
+use darthog_host::raw::{darthog_due, darthog_image_length, Reply};
+use darthog_host::MAX_IMAGE_LENGTH;
+use darthog_reference::image::{encode, image_length};
 use darthog_reference::queue::{due_from_seconds, fresh, Queue, LIMIT};
 use darthog_reference::random::Random;
+use darthog_reference::stated::images::LENGTHS;
 use darthog_reference::stated::minutes::{MINUTES, TOO_MANY_SECONDS};
 
-/// Every call that an image of another length refuses, and a making.
-const CALLS: [Call; 6] = [
-    Call::Make(16, 200, 8),
-    Call::Make(0, 0, 0),
-    Call::Insert(0, 7, 42, 1),
-    Call::DeleteMin(0),
-    Call::Step(0),
-    Call::Backlog,
-];
+/// Bytes of any content.
+fn garbage(length: usize, random: &mut Random) -> Vec<u8> {
+    (0..length).map(|_| random.draw() as u8).collect()
+}
+
+fn length_of(processors: u32, entries: u32) -> usize {
+    // Safe: the call takes numbers and touches no memory.
+    unsafe { darthog_image_length(processors, entries) }
+}
+
+#[test]
+fn lengths_are_the_stated_ones_and_the_references() {
+    for (p, n, length) in LENGTHS {
+        assert_eq!(length_of(p, n), length, "{p} processors, {n} entries");
+    }
+    for p in 0..=300 {
+        for n in 0..=300 {
+            let expected = image_length(p.into(), n.into()).unwrap_or(0);
+            assert_eq!(length_of(p, n), expected, "{p} processors, {n} entries");
+        }
+    }
+    let mut random = Random::new(seed());
+    for _ in 0..3_000 {
+        let (p, n) = (edge(&mut random), edge(&mut random));
+        let expected = image_length(p.into(), n.into()).unwrap_or(0);
+        assert_eq!(length_of(p, n), expected, "{p} processors, {n} entries");
+    }
+    assert_eq!(length_of(16, 200), MAX_IMAGE_LENGTH);
+}
+
+/// A list of calls, which bytes of another length refuse.
+const LIST: [u32; 10] = [2, 0, 0, 0, 0, 3, 0, 0, 0, 0];
+
+/// Every entry on bytes that are no image by their length, nor as long as that
+/// of 2 processors and 3 entries: 21, but 11 for sizes that no queue has, and no
+/// byte changes.
+fn judge_length(bytes: &[u8], random: &mut Random, counts: &mut Counts) {
+    let length = bytes.len();
+    for call in [
+        Call::Make(2, 3, 4),
+        Call::Make(0, 0, 0),
+        Call::Insert(0, 7, 42, 1),
+        Call::DeleteMin(0),
+        Call::Step(0),
+        Call::Backlog,
+    ] {
+        let number = match call {
+            Call::Make(0, ..) => 11,
+            _ => 21,
+        };
+        let mut lent = Lent::new(bytes, random);
+        let got = lent.call(&call);
+        assert_eq!(got, refused(number), "{call:?} of {length} bytes");
+        assert!(lent.now() == bytes, "{call:?} changed a byte");
+        compare(bytes, &call, random, counts);
+    }
+    for calls in [&LIST[..], &[]] {
+        let mut lent = Lent::new(bytes, random);
+        assert_eq!(lent.list(calls, 10), (21, junk(10)), "of {length} bytes");
+        assert!(lent.now() == bytes, "a list changed a byte");
+    }
+}
 
 #[test]
 fn another_length_is_refused_and_no_byte_changes() {
     let mut random = Random::new(seed());
     let mut counts = Counts::default();
-    let image = encode(&fresh(2, 3, 4).expect("sizes in range"));
-    let mut long = image.clone();
-    long.resize(1 << 20, 0);
-    for length in [
-        0,
-        1,
-        2,
-        6,
-        7,
-        8288,
-        8289,
-        8544,
-        8560,
-        8562,
-        8578,
-        17_122,
-        65_536,
-        1 << 20,
-    ] {
-        for call in &CALLS {
-            let mut lent = Lent::new(&long[..length], &mut random);
-            let number = match call {
-                Call::Make(0, ..) => 11,
-                _ => 21,
-            };
-            assert_eq!(
-                lent.call(call),
-                refused(number),
-                "{call:?} of {length} bytes"
-            );
-            assert!(lent.now() == &long[..length], "{call:?} changed a byte");
-            compare(&long[..length], call, &mut random, &mut counts);
+    for (p, n) in [(1, 1), (1, 2), (2, 1), (2, 3), (16, 1), (1, 200), (16, 200)] {
+        let image = encode(&fresh(p, n, 4).expect("sizes in range"));
+        let right = image.len();
+        // behind the image stands more of the same: nodes as made
+        let mut long = image.clone();
+        while long.len() < 17_200 {
+            long.extend_from_within(right - 41..right);
         }
+        let far = [8_520, 8_560, 8_561, 8_562, 8_602, 17_122];
+        let near = right - 42..=right + 42;
+        for length in (0..=200).chain(near).chain(far) {
+            if length != right {
+                judge_length(&long[..length], &mut random, &mut counts);
+            }
+        }
+        compare(&image, &Call::Backlog, &mut random, &mut counts);
+        compare_list(&image, &LIST, 10, &mut random);
     }
-    for call in &CALLS {
-        compare(&image, call, &mut random, &mut counts);
-    }
+    let megabyte = vec![1; 1 << 20];
+    judge_length(&megabyte, &mut random, &mut counts);
     counts.must_have(&[
-        ("make", &[0, 11, 21]),
-        ("insert", &[0, 21]),
-        ("delete_min", &[0, 21]),
-        ("step", &[21, 34]),
+        ("make", &[11, 21]),
+        ("insert", &[21]),
+        ("delete_min", &[21]),
+        ("step", &[21]),
         ("backlog", &[0, 21]),
     ]);
+}
+
+/// Every pair of sizes, in bytes of their length that held anything, and in one
+/// byte less and one more.
+#[test]
+fn a_queue_of_every_size_is_made_in_its_own_length() {
+    let mut random = Random::new(seed());
+    let mut counts = Counts::default();
+    for p in 1..=16 {
+        for n in 1..=200 {
+            let length = length_of(p, n);
+            let held = garbage(length + 1, &mut random);
+            let l = 1 + random.below(8) as u32;
+            for (bytes, code) in [
+                (&held[..length - 1], 21),
+                (&held[..length], 0),
+                (&held[..length + 1], 21),
+            ] {
+                let call = Call::Make(p, n, l);
+                let mut lent = Lent::new(bytes, &mut random);
+                assert_eq!(lent.call(&call), refused(code), "{call:?}");
+                assert_eq!(lent.now() == bytes, code != 0, "{call:?}");
+                compare(bytes, &call, &mut random, &mut counts);
+            }
+        }
+    }
+    counts.must_have(&[("make", &[0, 21])]);
+}
+
+/// Bytes of any content, of the length for these sizes or, where no queue has
+/// them, of the largest.
+fn held_for(processors: u32, entries: u32, random: &mut Random) -> Vec<u8> {
+    match length_of(processors, entries) {
+        0 => garbage(MAX_IMAGE_LENGTH, random),
+        length => garbage(length, random),
+    }
 }
 
 #[test]
 fn making_takes_the_sizes_that_the_reference_takes() {
     let mut random = Random::new(seed());
     let mut counts = Counts::default();
-    let junk: Vec<u8> = (0..IMAGE_LENGTH).map(|_| random.draw() as u8).collect();
+    let mut judge = |p: u32, n: u32, l: u32| {
+        let mut held = held_for(p, n, &mut random);
+        let call = Call::Make(p, n, l);
+        compare(&held, &call, &mut random, &mut counts);
+        // the numbers of sizes come before the length
+        held.pop();
+        compare(&held, &call, &mut random, &mut counts);
+    };
     for p in 0..=18 {
         for l in 0..=10 {
             for n in [0, 1, 2, 100, 199, 200, 201, 255, 256] {
-                compare(&junk, &Call::Make(p, n, l), &mut random, &mut counts);
+                judge(p, n, l);
             }
         }
     }
     for n in 0..=260 {
-        compare(&junk, &Call::Make(3, n, 2), &mut random, &mut counts);
+        judge(3, n, 2);
     }
+    let mut sizes = Random::new(seed());
     for _ in 0..3_000 {
-        let call = Call::Make(edge(&mut random), edge(&mut random), edge(&mut random));
-        compare(&junk, &call, &mut random, &mut counts);
+        judge(edge(&mut sizes), edge(&mut sizes), edge(&mut sizes));
     }
-    counts.must_have(&[("make", &[0, 11, 12, 13])]);
+    counts.must_have(&[("make", &[0, 11, 12, 13, 21])]);
 }
 
 /// Some records whose calls are refused in each way, or nearly.

@@ -1,15 +1,18 @@
-//! The safe interface: the same schedules, over `Queue`.
+//! The safe interface: the same schedules, over `Queue`, one call at a time and
+//! as lists.
 
 mod common;
 
 use common::{edge, seed};
-use darthog_host::{due_minute, Entry, Queue, Refusal, Step, IMAGE_LENGTH};
+use darthog_host::{due_minute, image_length, Answer as Told, Call as Asked, Done};
+use darthog_host::{Entry, Queue, Refusal, Step, MAX_IMAGE_LENGTH};
 use darthog_reference::answer::{self, Answer};
 use darthog_reference::calls::{Call, Outcome};
 use darthog_reference::image::encode;
 use darthog_reference::queue::{due_from_seconds, fresh, LIMIT};
 use darthog_reference::random::Random;
 use darthog_reference::schedule::{Schedule, Sizes};
+use darthog_reference::stated::images::LENGTHS;
 use darthog_reference::stated::minutes::{MINUTES, TOO_MANY_SECONDS};
 use darthog_reference::trial::fresh_of;
 use std::collections::BTreeMap;
@@ -136,6 +139,107 @@ fn the_queue_does_what_the_reference_does() {
     }
 }
 
+/// A call of a schedule as one of a list; Backlog is none.
+fn asked(call: &Call) -> Option<Asked> {
+    let cut = |number: u64| u32::try_from(number).unwrap_or(u32::MAX);
+    match *call {
+        Call::Insert {
+            processor,
+            due,
+            item,
+            height,
+        } => Some(Asked::insert(
+            cut(processor),
+            cut(due),
+            cut(item),
+            cut(height),
+        )),
+        Call::DeleteMin { processor } => Some(Asked::delete_min(cut(processor))),
+        Call::Step { processor } => Some(Asked::step(cut(processor))),
+        Call::Backlog => None,
+    }
+}
+
+/// What the reference gives back for a call of a list.
+fn done(outcome: &Outcome) -> Result<Done, Refusal> {
+    match *outcome {
+        Outcome::Began(time) => Ok(Done::Began(time)),
+        Outcome::Stepped(answer) => Ok(Done::Stepped(same_step(answer))),
+        Outcome::Refused(number) => Err(Refusal::from_number(number).expect("a known number")),
+        Outcome::Count(_) => panic!("a list has no Backlog"),
+    }
+}
+
+#[test]
+fn a_list_does_what_the_reference_does_call_by_call() {
+    let mut random = Random::new(seed());
+    let mut counts: BTreeMap<String, u64> = BTreeMap::new();
+    for number in 0..60 {
+        let sizes = match number % 3 {
+            0 => Sizes::small(&mut random),
+            1 => Sizes::middle(&mut random),
+            _ => Sizes::large(&mut random),
+        };
+        let mut record = fresh_of(sizes);
+        if number % 5 == 4 {
+            record.clock = LIMIT - 400;
+        }
+        let mut queue = Queue::from_bytes(&encode(&record)).expect("an image");
+        let mut schedule = Schedule::new(random.draw(), sizes);
+        for _ in 0..20 {
+            let mut calls = Vec::new();
+            let mut expected = Vec::new();
+            for _ in 0..random.below(100) {
+                let call = schedule.next_call();
+                let Some(one) = asked(&call) else { continue };
+                let outcome = record.call(&call);
+                calls.push(one);
+                expected.push((done(&outcome), record.clock));
+                *counts.entry(word(&outcome)).or_default() += 1;
+                schedule.note(&call, &outcome);
+            }
+            let answers = queue.calls(&calls).expect("its bytes are an image");
+            let got: Vec<_> = answers
+                .iter()
+                .map(|a: &Told| (a.done(), a.clock()))
+                .collect();
+            assert_eq!(got, expected);
+            assert!(queue.as_bytes() == encode(&record));
+        }
+    }
+    println!("{counts:?}");
+    for wanted in [
+        "began",
+        "Moved",
+        "Waits",
+        "Empty",
+        "Marked",
+        "Inserted",
+        "HandedOut",
+        "31",
+        "32",
+        "33",
+        "34",
+        "35",
+        "39",
+        "36",
+        "37",
+    ] {
+        assert!(counts.contains_key(wanted), "{wanted} never occurred");
+    }
+}
+
+#[test]
+fn the_bytes_are_as_many_as_stated() {
+    for (p, n, length) in LENGTHS {
+        let stated = (length > 0).then_some(length);
+        assert_eq!(image_length(p, n), stated, "{p} processors, {n} entries");
+        let made = Queue::new(p, n, 1).map(|queue| queue.as_bytes().len());
+        assert_eq!(made.ok(), stated, "{p} processors, {n} entries");
+    }
+    assert_eq!(image_length(16, 200), Some(MAX_IMAGE_LENGTH));
+}
+
 #[test]
 fn making_is_refused_with_the_references_number() {
     let mut random = Random::new(seed());
@@ -167,11 +271,12 @@ fn bytes_that_the_library_does_not_take_make_no_queue() {
     assert_eq!(Queue::from_bytes(&bytes), Ok(queue));
     let mut long = bytes.clone();
     long.push(0);
-    for other in [&[][..], &bytes[..1], &bytes[..IMAGE_LENGTH - 1], &long] {
+    for other in [&[][..], &bytes[..1], &bytes[..bytes.len() - 1], &long] {
         assert_eq!(Queue::from_bytes(other), Err(Refusal::BadRecord));
     }
-    // no processor, an unknown stage, a mark that is neither 0 nor 1, a clock past its end
-    for (at, value) in [(0, 0), (8289 + 5, 27), (7 + 17, 2), (6, 1)] {
+    // no processor, no level, an unknown stage, a mark that is neither 0 nor 1, a clock past its
+    // end
+    for (at, value) in [(0, 0), (2, 0), (7 + 5, 27), (41 + 17, 2), (6, 1)] {
         let mut damaged = bytes.clone();
         damaged[at] = value;
         assert_eq!(Queue::from_bytes(&damaged), Err(Refusal::BadRecord));
@@ -221,6 +326,9 @@ fn the_calls_run_on_a_small_stack() {
         queue.begin_delete_min(1).expect("it is idle");
         while !matches!(queue.step(1).expect("it is busy"), Step::Empty) {}
         while !matches!(queue.step(0).expect("it is busy"), Step::Inserted(_)) {}
+        let list = [Asked::delete_min(2), Asked::step(2), Asked::step(3)];
+        let answers = queue.calls(&list).expect("its bytes are an image");
+        assert_eq!(answers[2].done(), Err(Refusal::Idle));
         queue.backlog()
     };
     let thread = std::thread::Builder::new()

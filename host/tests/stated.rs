@@ -1,17 +1,18 @@
 //! Check 21 of the compiled entries, with what is expected written by hand:
-//! each stored field at the ends of its range, slots past P, N+1 and L, the
-//! reference's single changes, tags, and the end of the clock. The reference
-//! must say the same, but no expectation comes from it alone.
+//! each stored field at the ends of its range, levels past L, the reference's
+//! single changes, tags, and the end of the clock. The reference must say the
+//! same, but no expectation comes from it alone.
+//!
+//! Slots past P and N+1 are in no image, and so as made: a record that differs
+//! there alone has the same bytes.
 
 mod common;
 
-use common::{expected, refused, seed, Call, Counts, Lent};
+use common::{compare_list, expected, refused, seed, Call, Counts, Lent};
 use darthog_host::raw::Reply;
 use darthog_reference::any_record::slots_past;
-use darthog_reference::image::{
-    decode, encode, NODES_AT, NODE_BYTES, PROCESSORS_AT, PROCESSOR_BYTES,
-};
-use darthog_reference::perturb::{bases, breaking, past, to_the_edge, Change};
+use darthog_reference::image::{decode, encode, node_at, processor_at};
+use darthog_reference::perturb::{bases, breaking, past_levels, to_the_edge, Change};
 use darthog_reference::queue::{Queue, Stage};
 use darthog_reference::random::Random;
 use darthog_reference::stated::cases::each_case;
@@ -52,8 +53,9 @@ impl Judge {
         }
     }
 
-    /// A call on bytes of its own. Not taken: 21, and no byte changes. Taken:
-    /// anything but 21. Both as the reference has it.
+    /// A call on bytes of its own, alone and as a list of one. Not taken: 21,
+    /// and no byte changes. Taken: anything but 21. Both as the reference has
+    /// it.
     fn call(&mut self, bytes: &[u8], call: &Call, taken: bool, what: &str) -> Reply {
         let mut lent = Lent::new(bytes, &mut self.random);
         let got = lent.call(call);
@@ -66,6 +68,9 @@ impl Judge {
         let (reply, after) = expected(bytes, call);
         assert_eq!(got, reply, "{what}, {call:?}: the reference differs");
         assert!(lent.now() == after, "{what}, {call:?}: other bytes");
+        if let Some(numbers) = call.numbers() {
+            compare_list(bytes, &numbers, 5, &mut self.random);
+        }
         self.counts.note(call.entry(), got.code);
         self.calls += 1;
         got
@@ -92,19 +97,30 @@ impl Judge {
 #[test]
 fn each_field_is_taken_and_refused_as_stated() {
     let mut judge = Judge::new();
-    let mut total = 0;
+    let (mut total, mut outside) = (0, 0);
     for table in &TABLES {
-        let base = format!("{:?} {:?} as it is", table.sizes, table.filling);
-        judge.case(&record(table), 0, true, &base);
+        let base = record(table);
+        let image = encode(&base);
+        let words = format!("{:?} {:?} as it is", table.sizes, table.filling);
+        judge.case(&base, 0, true, &words);
         let seen = each_case(table, |case| {
             let what = case.words(table);
-            judge.case(&case.queue, case.processor(), case.taken, &what);
+            if case.spot.stored(table.sizes) {
+                judge.case(&case.queue, case.processor(), case.taken, &what);
+            } else {
+                assert!(encode(&case.queue) == image, "{what}: it is in the image");
+                outside += 1;
+            }
         });
         seen.must_have_all(table);
         total += seen.total();
     }
-    println!("{total} cases, {} calls", judge.calls);
-    assert!(total > 45_000, "only {total} cases");
+    println!(
+        "{total} cases, {outside} of them outside, {} calls",
+        judge.calls
+    );
+    let inside = total - outside;
+    assert!(inside > 45_000, "only {inside} cases of images");
     judge.counts.must_have(&[
         ("backlog", &[0, 21]),
         ("step", &[1, 2, 3, 4, 5, 6, 21, 31, 34]),
@@ -114,7 +130,7 @@ fn each_field_is_taken_and_refused_as_stated() {
 }
 
 /// Makes each change on a base and one call on what comes of it, each call in
-/// its turn. Slots past the sizes stay as they are.
+/// its turn. Levels past L stay as they are.
 fn judge_changes(judge: &mut Judge, base: &Queue, changes: &[Change], taken: bool) {
     for (number, change) in changes.iter().enumerate() {
         let mut queue = base.clone();
@@ -127,7 +143,7 @@ fn judge_changes(judge: &mut Judge, base: &Queue, changes: &[Change], taken: boo
             let (_, after) = expected(&bytes, &call);
             let after = decode(&after).expect("it was written");
             let same = slots_past(&after) == slots_past(&queue);
-            assert!(same, "{}: a slot past the sizes changed", change.name);
+            assert!(same, "{}: a level past L changed", change.name);
         }
     }
 }
@@ -140,15 +156,15 @@ fn the_references_changes_are_taken_and_refused_as_their_lists_say() {
         for call in calls(0) {
             judge.call(&encode(&base), &call, true, "a record of a run");
         }
-        let lists = [breaking(&base), to_the_edge(&base), past(&base)];
+        let lists = [breaking(&base), to_the_edge(&base), past_levels(&base)];
         for (number, list) in lists.iter().enumerate() {
             judge_changes(&mut judge, &base, list, number > 0);
             made[number] += list.len();
         }
     }
     let [broken, edge, far] = made;
-    println!("{broken} changes give 21, {edge} to the edge and {far} past the sizes do not");
-    assert!(broken > 10_000 && edge > 1_000 && far > 1_000);
+    println!("{broken} changes give 21, {edge} to the edge and {far} past L do not");
+    assert!(broken > 10_000 && edge > 1_000 && far > 250);
     judge.counts.must_have(&[
         ("backlog", &[0, 21]),
         ("step", &[1, 2, 21]),
@@ -180,25 +196,24 @@ const PROCESSOR_TAGS: [(&str, usize, u8); 5] = [
     ("node of G3 but at G4", 8, 1),
 ];
 
-/// Whether the bytes are an image at all is asked of every slot, used or not;
-/// docs/DECISIONS.md has the reason.
+/// Whether the bytes are an image at all is asked of every node and processor
+/// that they have.
 #[test]
-fn a_wrong_tag_is_21_in_a_used_slot_and_in_an_unused_one() {
+fn a_wrong_tag_is_21_in_every_node_and_processor() {
     let mut judge = Judge::new();
     let table = &TABLES[2];
     assert_eq!(table.sizes, [2, 3, 2]);
     let image = encode(&record(table));
-    let node = |slot: usize| NODES_AT + slot * NODE_BYTES;
-    let processor = |slot: usize| PROCESSORS_AT + slot * PROCESSOR_BYTES;
     let mut places = Vec::new();
-    for slot in [0, 1, 3, 4, 5, 201] {
-        places.extend(NODE_TAGS.map(|tag| (tag, format!("node {slot}"), node(slot))));
+    for slot in 0..5 {
+        let whose = format!("node {slot}");
+        places.extend(NODE_TAGS.map(|tag| (tag, whose.clone(), node_at(2, slot))));
     }
-    for slot in [0, 1, 2, 15] {
+    for slot in 0..2 {
         let whose = format!("processor {slot}");
-        places.extend(PROCESSOR_TAGS.map(|tag| (tag, whose.clone(), processor(slot))));
+        places.extend(PROCESSOR_TAGS.map(|tag| (tag, whose.clone(), processor_at(slot))));
     }
-    assert_eq!(places.len(), 74);
+    assert_eq!(places.len(), 55);
     for ((field, at, byte), whose, start) in places {
         let mut bytes = image.clone();
         bytes[start + at] = byte;

@@ -1,12 +1,15 @@
 //! What the tests share: lent bytes between guards, the library's entries as
-//! one call, what the reference says about it, and counts.
+//! one call, lists of calls, what the reference says about both, and counts.
+//!
+//! An image has no slot past P and N+1: a record that is read from bytes has
+//! these as made, whatever they held in the record that was written.
 
 #![allow(dead_code)]
 
 use darthog_host::raw::{self, Reply};
-use darthog_reference::answer::{Answer, Entry};
 use darthog_reference::calls::{Call as ReferenceCall, Outcome};
 use darthog_reference::image;
+use darthog_reference::lists;
 use darthog_reference::queue::{fresh, Queue};
 use darthog_reference::random::Random;
 use std::collections::BTreeMap;
@@ -65,6 +68,19 @@ impl Call {
             ReferenceCall::DeleteMin { processor } => Call::DeleteMin(cut(processor)),
             ReferenceCall::Step { processor } => Call::Step(cut(processor)),
             ReferenceCall::Backlog => Call::Backlog,
+        }
+    }
+
+    /// The five numbers of the call in a list; none for making and Backlog,
+    /// which no list has.
+    pub fn numbers(&self) -> Option<[u32; 5]> {
+        match *self {
+            Call::Make(..) | Call::Backlog => None,
+            Call::Insert(processor, due, item, height) => {
+                Some([raw::CALL_INSERT, processor, due, item, height])
+            }
+            Call::DeleteMin(processor) => Some([raw::CALL_DELETE_MIN, processor, 0, 0, 0]),
+            Call::Step(processor) => Some([raw::CALL_STEP, processor, 0, 0, 0]),
         }
     }
 
@@ -128,7 +144,7 @@ impl Lent {
         // Safe: `length` bytes are lent at `image`, which is not null.
         let reply = unsafe {
             match *call {
-                Call::Make(p, n, l) => accepted(raw::darthog_make(image, length, p, n, l), 0),
+                Call::Make(p, n, l) => refused(raw::darthog_make(image, length, p, n, l)),
                 Call::Insert(p, due, item, height) => {
                     raw::darthog_begin_insert(image, length, p, due, item, height)
                 }
@@ -137,11 +153,32 @@ impl Lent {
                 Call::Backlog => raw::darthog_backlog(image, length),
             }
         };
+        self.guards_stand(&format!("{call:?}"));
+        reply
+    }
+
+    /// Makes the calls of a list with an area for this many numbers of answers,
+    /// and sees that the guards of the bytes stand. Gives the code and the area
+    /// with what is around it.
+    pub fn list(&mut self, calls: &[u32], room: usize) -> (u32, Vec<u32>) {
+        let length = self.end - self.start;
+        let image = self.bytes[self.start..].as_mut_ptr();
+        let mut area = junk(room);
+        let answers = area[MARGIN..].as_mut_ptr();
+        // Safe: `length` bytes are lent at `image`, and `room` numbers at
+        // `answers`; no pointer is null, and no two areas are one.
+        let code = unsafe {
+            raw::darthog_calls(image, length, calls.as_ptr(), calls.len(), answers, room)
+        };
+        self.guards_stand("a list");
+        (code, area)
+    }
+
+    fn guards_stand(&self, what: &str) {
         let outside = (0..self.start).chain(self.end..self.bytes.len());
         for place in outside {
-            assert_eq!(self.bytes[place], guard(place), "{call:?} wrote past");
+            assert_eq!(self.bytes[place], guard(place), "{what} wrote past");
         }
-        reply
     }
 }
 
@@ -150,52 +187,75 @@ fn guard(place: usize) -> u8 {
     (place as u8).wrapping_mul(151) ^ 0xa5
 }
 
-fn accepted(code: u32, value: u32) -> Reply {
-    Reply {
-        code,
-        first: value,
-        second: 0,
-        third: 0,
+/// How many numbers stand before and after an area for answers.
+pub const MARGIN: usize = 16;
+
+/// An area for this many numbers of answers before a list, with what is around
+/// it.
+pub fn junk(room: usize) -> Vec<u32> {
+    let number = |place: usize| (place as u32).wrapping_mul(0x9e37_79b1) ^ 0xa5a5_a5a5;
+    (0..MARGIN + room + MARGIN).map(number).collect()
+}
+
+/// What the reference says about a list of calls on any bytes, one call at a
+/// time: the code, the area with what is around it, and the bytes afterwards.
+pub fn expected_list(bytes: &[u8], calls: &[u32], room: usize) -> (u32, Vec<u32>, Vec<u8>) {
+    let mut area = junk(room);
+    let answers = &mut area[MARGIN..MARGIN + room];
+    match image::decode(bytes) {
+        None => (21, area, bytes.to_vec()),
+        Some(mut queue) => match lists::run(&mut queue, calls, answers) {
+            Err(number) => (number, area, bytes.to_vec()),
+            Ok(()) => (0, area, image::encode(&queue)),
+        },
     }
 }
 
-/// A refusal, as the library gives it back.
-pub fn refused(number: u32) -> Reply {
-    accepted(number, 0)
+/// Makes the calls of a list on bytes of their own and compares code, answers
+/// and bytes with the reference's. Gives the answers with what is around them.
+pub fn compare_list(bytes: &[u8], calls: &[u32], room: usize, random: &mut Random) -> Vec<u32> {
+    let mut lent = Lent::new(bytes, random);
+    let (code, area, after) = expected_list(bytes, calls, room);
+    let got = lent.list(calls, room);
+    let what = format!("{} numbers, room for {room}", calls.len());
+    assert_eq!(got.0, code, "{what}");
+    assert_eq!(got.1, area, "{what}");
+    assert!(lent.now() == after, "{what}: other bytes");
+    if code != 0 {
+        assert_eq!(got.1, junk(room), "{what}: refused, and an answer");
+        assert!(lent.now() == bytes, "{what}: refused, and a change");
+    }
+    area
 }
 
-fn told(code: u32, entry: Entry) -> Reply {
+/// A code without a value, as every refusal is.
+pub fn refused(number: u32) -> Reply {
+    reply([number, 0, 0, 0])
+}
+
+fn reply([code, first, second, third]: [u32; 4]) -> Reply {
     Reply {
         code,
-        first: entry.due,
-        second: entry.item,
-        third: entry.ticket,
+        first,
+        second,
+        third,
     }
 }
 
 /// The reference's outcome as a reply.
 pub fn reply_of(outcome: &Outcome) -> Reply {
-    match *outcome {
-        Outcome::Began(time) => accepted(0, time),
-        Outcome::Count(count) => accepted(0, count),
-        Outcome::Refused(number) => refused(number),
-        Outcome::Stepped(Answer::Moved) => accepted(1, 0),
-        Outcome::Stepped(Answer::Waits) => accepted(2, 0),
-        Outcome::Stepped(Answer::Empty) => accepted(3, 0),
-        Outcome::Stepped(Answer::Marked(entry)) => told(4, entry),
-        Outcome::Stepped(Answer::Inserted(entry)) => told(5, entry),
-        Outcome::Stepped(Answer::HandedOut(entry)) => told(6, entry),
-    }
+    reply(lists::numbers_of(outcome))
 }
 
 /// What the reference says about a call on any bytes: the reply, and the bytes
 /// afterwards.
 pub fn expected(bytes: &[u8], call: &Call) -> (Reply, Vec<u8>) {
     if let Call::Make(p, n, l) = *call {
+        let length = image::image_length(u64::from(p), u64::from(n));
         return match fresh(u64::from(p), u64::from(n), u64::from(l)) {
             Err(number) => (refused(number), bytes.to_vec()),
-            Ok(_) if bytes.len() != image::IMAGE_LENGTH => (refused(21), bytes.to_vec()),
-            Ok(queue) => (accepted(0, 0), image::encode(&queue)),
+            Ok(_) if Some(bytes.len()) != length => (refused(21), bytes.to_vec()),
+            Ok(queue) => (refused(0), image::encode(&queue)),
         };
     }
     match image::decode(bytes) {
@@ -217,7 +277,7 @@ pub fn call_on(queue: &mut Queue, call: &Call) -> Reply {
 }
 
 /// Makes a call on bytes of their own and compares reply and bytes with the
-/// reference's.
+/// reference's; then the same call as a list of one.
 pub fn compare(bytes: &[u8], call: &Call, random: &mut Random, counts: &mut Counts) {
     let mut lent = Lent::new(bytes, random);
     let (reply, after) = expected(bytes, call);
@@ -227,6 +287,9 @@ pub fn compare(bytes: &[u8], call: &Call, random: &mut Random, counts: &mut Coun
         assert!(lent.now() == bytes, "{call:?} {reply:?} changed a byte");
     }
     counts.note(call.entry(), reply.code);
+    if let Some(numbers) = call.numbers() {
+        compare_list(bytes, &numbers, 5, random);
+    }
 }
 
 /// How often each entry gave back each code.
@@ -315,7 +378,12 @@ pub fn any_call(random: &mut Random, queue: &Queue) -> Call {
     };
     let (due, item) = (value(1_000_000), value(1_000_000));
     let height = value(u64::from(queue.level_count) + 2);
-    let sizes = (value(17), value(201), value(9));
+    // a making in its own bytes has their length if its sizes are the queue's
+    let mut sizes = (value(17), value(201), value(9));
+    if random.one_in(2) {
+        sizes.0 = u32::from(queue.processor_count);
+        sizes.1 = u32::from(queue.node_count);
+    }
     match random.below(16) {
         0 => Call::Backlog,
         1 | 2 => Call::DeleteMin(processor),

@@ -1,0 +1,152 @@
+//! The layout of the library's images, with what is expected written by hand:
+//! the images of the printed run byte by byte, what a begin changes at the edges
+//! of the sizes, and which bytes are taken. Those of earlier releases are not,
+//! and are brought over as docs/IMAGE.md says.
+
+mod common;
+
+use common::{compare, junk, refused, seed, Call, Counts, Lent};
+use darthog_host::raw::Reply;
+use darthog_host::{Queue, Refusal};
+use darthog_reference::image::encode;
+use darthog_reference::perturb::bases;
+use darthog_reference::queue::Queue as Record;
+use darthog_reference::random::Random;
+use darthog_reference::schedule::Sizes;
+use darthog_reference::stated::backlogs::printed;
+use darthog_reference::stated::images;
+use darthog_reference::trial::fresh_of;
+
+/// A fresh queue's bytes, by the library.
+fn made(sizes: [u8; 3]) -> Vec<u8> {
+    let [p, n, l] = sizes.map(u32::from);
+    let queue = Queue::new(p, n, l).expect("sizes in range");
+    queue.as_bytes().to_vec()
+}
+
+#[test]
+fn the_printed_run_has_the_stated_images() {
+    let mut lent = Lent::new(&[0xa5; 147], &mut Random::new(seed()));
+    assert_eq!(lent.call(&Call::Make(1, 1, 1)), refused(0));
+    let mut calls = printed()
+        .iter()
+        .map(Call::of)
+        .collect::<Vec<_>>()
+        .into_iter();
+    let mut clock = 0;
+    for (time, image) in images::printed() {
+        while clock < time {
+            let reply = lent.call(&calls.next().expect("the run is longer"));
+            assert!(reply.code < 11, "{reply:?}");
+            clock += 1;
+        }
+        assert_eq!(lent.now(), image, "at {time}");
+    }
+}
+
+#[test]
+fn a_begin_changes_the_stated_bytes() {
+    let mut random = Random::new(seed());
+    let began = Reply {
+        first: 1,
+        ..refused(0)
+    };
+    for (sizes, changed) in images::BEGUN {
+        let mut expected = made(sizes);
+        let mut lent = Lent::new(&expected, &mut random);
+        let last = u32::from(sizes[0]) - 1;
+        assert_eq!(lent.call(&Call::DeleteMin(last)), began, "{sizes:?}");
+        for (at, byte) in changed {
+            expected[at] = byte;
+        }
+        assert!(lent.now() == expected, "{sizes:?}");
+    }
+}
+
+/// Every call on bytes, and a list: 21 and no change where they are not taken.
+fn judge(bytes: &[u8], taken: bool, what: &str, random: &mut Random, counts: &mut Counts) {
+    for call in [
+        Call::Backlog,
+        Call::Step(0),
+        Call::DeleteMin(0),
+        Call::Insert(0, 7, 42, 1),
+        Call::Step(u32::MAX),
+    ] {
+        let mut lent = Lent::new(bytes, random);
+        let got = lent.call(&call);
+        assert_eq!(got != refused(21), taken, "{what}, {call:?}");
+        assert!(taken || lent.now() == bytes, "{what}, {call:?}: a change");
+        compare(bytes, &call, random, counts);
+    }
+    let mut lent = Lent::new(bytes, random);
+    let (code, area) = lent.list(&[3, 0, 0, 0, 0], 5);
+    assert_eq!(code, if taken { 0 } else { 21 }, "{what}, a list");
+    assert_eq!(area != junk(5), taken, "{what}, a list's answers");
+    let refusal = Queue::from_bytes(bytes).err();
+    assert_eq!(refusal, (!taken).then_some(Refusal::BadRecord), "{what}");
+}
+
+#[test]
+fn bytes_are_taken_and_refused_as_stated() {
+    let mut random = Random::new(seed());
+    let mut counts = Counts::default();
+    for (sizes, at, byte, taken) in images::EDITS {
+        let mut bytes = made(sizes);
+        bytes[at] = byte;
+        let what = format!("{sizes:?}: byte {at} is {byte}");
+        judge(&bytes, taken, &what, &mut random, &mut counts);
+    }
+    for (what, length, bytes) in images::refused() {
+        assert_eq!(bytes.len(), length, "{what}");
+        judge(&bytes, false, what, &mut random, &mut counts);
+    }
+    for (what, _, bytes) in images::pieces() {
+        judge(&bytes, false, &what, &mut random, &mut counts);
+    }
+    counts.must_have(&[("backlog", &[0, 21]), ("step", &[21, 32, 34])]);
+}
+
+/// The bytes of an earlier release: all 202 nodes behind the sizes and the
+/// clock, then all 16 processors.
+fn earlier(record: &Record) -> Vec<u8> {
+    let mut whole = record.clone();
+    (whole.processor_count, whole.node_count) = (16, 200);
+    let all = encode(&whole);
+    let front = &encode(record)[..7];
+    [front, &all[279..], &all[7..279]].concat()
+}
+
+/// What docs/IMAGE.md copies of such bytes.
+fn brought_over(old: &[u8]) -> Vec<u8> {
+    let (processors, nodes) = (17 * usize::from(old[0]), 41 * (usize::from(old[1]) + 2));
+    let parts = [&old[..7], &old[8289..8289 + processors], &old[7..7 + nodes]];
+    parts.concat()
+}
+
+#[test]
+fn bytes_of_an_earlier_release_are_refused_and_brought_over() {
+    let mut random = Random::new(seed());
+    let mut counts = Counts::default();
+    let largest = (1..=8).map(|levels| {
+        fresh_of(Sizes {
+            processors: 16,
+            nodes: 200,
+            levels,
+        })
+    });
+    for record in bases().into_iter().map(|(_, base)| base).chain(largest) {
+        let old = earlier(&record);
+        assert_eq!(old.len(), 8561);
+        judge(
+            &old,
+            false,
+            "of an earlier release",
+            &mut random,
+            &mut counts,
+        );
+        let image = brought_over(&old);
+        assert!(image == encode(&record), "brought over");
+        judge(&image, true, "brought over", &mut random, &mut counts);
+    }
+    counts.must_have(&[("backlog", &[0, 21])]);
+}
