@@ -1,4 +1,5 @@
-//! Links the proved functions: `rt staticlib bench` writes the archive.
+//! Links the bare steps: `rt staticlib bench` writes the archive. The crate
+//! `host` links the calls of `libentries.a`.
 
 use std::path::Path;
 
@@ -11,7 +12,4 @@ fn main() {
     }
     println!("cargo:rustc-link-search=native={}", folder.display());
     println!("cargo:rustc-link-lib=static=bench");
-    for function in ["memcpy", "memmove"] {
-        println!("cargo:rustc-link-arg-bin=copies=-Wl,--wrap={function}");
-    }
 }

@@ -1,7 +1,10 @@
-//! What the benchmark measures: the proved functions of the archive, and the
-//! records and lists of steps that they and the reference are run on.
+//! What the benchmark measures: the library's functions, the records and calls
+//! that they and the reference are run on, the ways to make these calls, and
+//! the rounds in which they are timed.
 
 #![warn(missing_docs)]
 
-pub mod proved;
+pub mod library;
+pub mod rounds;
+pub mod ways;
 pub mod workload;

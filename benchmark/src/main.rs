@@ -1,234 +1,186 @@
-//! Nanoseconds a step of the proved forms and of the reference's, in one run.
+//! Nanoseconds a call of the library and of the reference, in one run.
 //!
-//! Each form makes the same steps from the same records. A round runs every
-//! form once, so that what slows the machine slows them alike; of the rounds
-//! the quickest and the middle one are printed, each with its ratio to the
-//! reference's. What a list costs without a step (reading the image, check 21
-//! once, copying the record for each repetition) is measured with empty lists
-//! and subtracted.
+//! First every way is compared with the reference on every record: the same
+//! images and the same answers, or nothing is measured. Then each is timed. A
+//! row is the name of what is measured, P and N of its queues (L is 8), how
+//! many calls are handed over with one test (0 where the test is not counted),
+//! nanoseconds a call of the reference and of the library, and their ratio.
+//! Other lines start with `#`.
 
-use darthog_benchmark::proved::{self, Form};
-use darthog_benchmark::workload::{Case, Workload};
-use darthog_reference::image::encode;
-use std::hint::black_box;
+use darthog_benchmark::library;
+use darthog_benchmark::ways::{cost, BareSteps, Cost, Lists, Order, Single, Way};
+use darthog_benchmark::workload::{Shares, Workload};
+use darthog_reference::answer::Answer;
+use darthog_reference::calls::Outcome;
+use darthog_reference::queue::Queue;
 use std::process::ExitCode;
-use std::time::Instant;
 
-const ROUNDS: usize = 61;
-
-/// How long a form runs in a round, in seconds: each list is repeated until
-/// it takes about this long.
-const ROUND_TIME: f64 = 0.02;
-
-/// One way to make the steps of a list.
-struct Way {
-    name: &'static str,
-    run: fn(&Case, &[u32], u32) -> u32,
-}
-
-const WAYS: [Way; 5] = [
-    Way {
-        name: "reference, in place, without check 21",
-        run: reference_inner,
-    },
-    Way {
-        name: "reference, in place, check 21 at each step",
-        run: reference_public,
-    },
-    Way {
-        name: "proved, a loop that keeps the record",
-        run: |case, who, times| proved::clock_after(Form::Loop, &case.image, who, times),
-    },
-    Way {
-        name: "proved, inner form, by value",
-        run: |case, who, times| proved::clock_after(Form::Inner, &case.image, who, times),
-    },
-    Way {
-        name: "proved, public form, by value",
-        run: |case, who, times| proved::clock_after(Form::Public, &case.image, who, times),
-    },
-];
-
-fn reference_inner(case: &Case, who: &[u32], times: u32) -> u32 {
-    let mut clock = case.queue.clock;
-    for _ in 0..times {
-        let mut queue = black_box(&case.queue).clone();
-        for &p in who {
-            // The answer is dropped, as in the proved functions.
-            let _ = queue.step_inner(u64::from(p));
-        }
-        clock = black_box(&queue).clock;
-    }
-    clock
-}
-
-fn reference_public(case: &Case, who: &[u32], times: u32) -> u32 {
-    let mut clock = case.queue.clock;
-    for _ in 0..times {
-        let mut queue = black_box(&case.queue).clone();
-        for &p in who {
-            // The answer is dropped, as in the proved functions.
-            let _ = queue.step(u64::from(p));
-        }
-        clock = black_box(&queue).clock;
-    }
-    clock
-}
+/// How many calls a list has.
+const LISTS: [usize; 4] = [1, 10, 100, 1000];
+/// N of the queues that tell how a call's cost grows.
+const ENTRIES: [u64; 5] = [10, 25, 50, 100, 200];
+/// The list that tells it.
+const USUAL_LIST: usize = 100;
 
 fn main() -> ExitCode {
-    for workload in [Workload::large(), Workload::small()] {
-        if let Err(words) = compare(&workload) {
-            eprintln!("{}: {words}", workload.name);
-            return ExitCode::FAILURE;
+    match measure_all() {
+        Ok(()) => ExitCode::SUCCESS,
+        Err(words) => {
+            eprintln!("{words}");
+            ExitCode::FAILURE
         }
-        print_workload(&workload);
     }
-    ExitCode::SUCCESS
 }
 
-/// Before anything is measured: every form gives the reference's record and
-/// clock, and bytes that are no record are refused.
-fn compare(workload: &Workload) -> Result<(), String> {
-    for (number, case) in workload.cases.iter().enumerate() {
-        let mut queue = case.queue.clone();
-        for &p in &case.who {
-            // Refused steps leave the record as it is.
-            let _ = queue.step_inner(u64::from(p));
-        }
-        if queue == case.queue {
-            return Err(format!("case {number}: the steps change nothing"));
-        }
-        let expected = encode(&queue);
-        for form in Form::ALL {
-            if proved::image_after(form, &case.image, &case.who).as_ref() != Some(&expected) {
-                return Err(format!("case {number}: {form:?} gives another record"));
+fn measure_all() -> Result<(), String> {
+    println!(
+        "{:<16}{:>4}{:>5}{:>7}{:>11}{:>9}{:>8}",
+        "# what", "P", "N", "list", "reference", "library", "ratio"
+    );
+    for processors in [16, 2] {
+        for entries in ENTRIES {
+            let workload = Workload::filled(processors, entries);
+            if (processors, entries) == (16, 200) {
+                all_ways(&workload)?;
+            } else {
+                growing_ways(&workload)?;
             }
         }
-        for way in &WAYS {
-            if (way.run)(case, &case.who, 1) != queue.clock {
-                return Err(format!("case {number}: {} gives another clock", way.name));
-            }
-        }
+    }
+    all_ways(&Workload::small())
+}
+
+/// What grows with N: a step alone, and a list.
+fn growing_ways(workload: &Workload) -> Result<(), String> {
+    row("step", workload, 1, &step())?;
+    row("calls", workload, USUAL_LIST, &lists(USUAL_LIST))
+}
+
+fn all_ways(workload: &Workload) -> Result<(), String> {
+    tell_shares("steps", workload, &Shares::of_steps(workload));
+    tell_shares("calls", workload, &Shares::of_calls(workload));
+    refuses_damaged(workload)?;
+    row("bare-step", workload, 0, &BareSteps)?;
+    row_again("bare-step-again", workload, 0, &BareSteps)?;
+    for at_once in LISTS {
+        row("calls", workload, at_once, &lists(at_once))?;
+    }
+    row_again("calls-again", workload, USUAL_LIST, &lists(USUAL_LIST))?;
+    row("step", workload, 1, &step())?;
+    row("insert", &workload.idle(), 1, &insert())?;
+    row("backlog", workload, 1, &backlog())?;
+    row("refused", workload, 1, &refused())
+}
+
+fn lists(at_once: usize) -> Lists {
+    Lists { at_once }
+}
+
+fn step() -> impl Way {
+    Single {
+        library: library::step,
+        reference: |queue: &mut Queue, p| stepped(queue.step(u64::from(p))),
+    }
+}
+
+/// A step of a processor that no queue has: refused with 32, after the test.
+fn refused() -> impl Way {
+    Single {
+        library: |image: &mut [u8], _| library::step(image, u32::MAX),
+        reference: |queue: &mut Queue, _| stepped(queue.step(u64::from(u32::MAX))),
+    }
+}
+
+fn insert() -> impl Way {
+    const DUE: u32 = 500_000;
+    const ITEM: u32 = 7;
+    const HEIGHT: u32 = 4;
+    Single {
+        library: |image: &mut [u8], p| library::begin_insert(image, p, DUE, ITEM, HEIGHT),
+        reference: |queue: &mut Queue, p: u32| {
+            queue
+                .begin_insert(p.into(), DUE.into(), ITEM.into(), HEIGHT.into())
+                .map_or_else(Outcome::Refused, Outcome::Began)
+        },
+    }
+}
+
+fn backlog() -> impl Way {
+    Single {
+        library: |image: &mut [u8], _| library::backlog(image),
+        reference: |queue: &mut Queue, _| {
+            queue
+                .backlog()
+                .map_or_else(Outcome::Refused, Outcome::Count)
+        },
+    }
+}
+
+fn stepped(answer: Result<Answer, u32>) -> Outcome {
+    answer.map_or_else(Outcome::Refused, Outcome::Stepped)
+}
+
+/// The row of a way whose cases are run in turn.
+fn row(name: &str, workload: &Workload, list: usize, way: &impl Way) -> Result<(), String> {
+    print_row(name, workload, list, way, Order::InTurn)
+}
+
+/// The row of a way whose cases are run many times in a row each.
+fn row_again(name: &str, workload: &Workload, list: usize, way: &impl Way) -> Result<(), String> {
+    print_row(name, workload, list, way, Order::Again)
+}
+
+/// Compares a way with the reference on every case, times it and prints its
+/// row.
+fn print_row(
+    name: &str,
+    workload: &Workload,
+    list: usize,
+    way: &impl Way,
+    order: Order,
+) -> Result<(), String> {
+    let (p, n) = (workload.processors, workload.entries);
+    if let Some(number) = workload.cases.iter().position(|case| !way.agrees(case)) {
+        return Err(format!(
+            "{name}, P {p}, N {n}, list {list}: another answer or image in case {number}"
+        ));
+    }
+    let Cost { reference, library } = cost(workload, way, order);
+    let ratio = library / reference;
+    println!("{name:<16}{p:>4}{n:>5}{list:>7}{reference:>11.2}{library:>9.2}{ratio:>8.3}");
+    Ok(())
+}
+
+/// Both lists refuse bytes that are no image with 21, and change nothing.
+fn refuses_damaged(workload: &Workload) -> Result<(), String> {
+    for case in &workload.cases {
         let mut damaged = case.image.clone();
         damaged[0] = 17;
-        if proved::read(&case.image) != case.queue.clock
-            || proved::read(&damaged) != proved::NO_RECORD
-        {
-            return Err(format!(
-                "case {number}: the image is not read as it should be"
-            ));
+        let (mut image, mut answers) = (damaged.clone(), case.room());
+        let codes = [
+            library::bare_steps(&mut image, &case.who),
+            library::calls(&mut image, &case.calls, &mut answers),
+        ];
+        if codes != [21, 21] || image != damaged || answers != case.room() {
+            return Err("damaged bytes are not refused as they should be".to_string());
         }
     }
     Ok(())
 }
 
-/// Seconds of all lists, each run `times` times.
-fn seconds(workload: &Workload, way: &Way, times: u32) -> f64 {
-    let start = Instant::now();
-    for case in &workload.cases {
-        black_box((way.run)(case, black_box(&case.who), times));
-    }
-    start.elapsed().as_secs_f64()
-}
-
-/// Seconds of as many empty lists.
-fn seconds_without(workload: &Workload, way: &Way, times: u32) -> f64 {
-    let start = Instant::now();
-    for case in &workload.cases {
-        black_box((way.run)(case, black_box(&[]), times));
-    }
-    start.elapsed().as_secs_f64()
-}
-
-/// What was measured of one way.
-struct Measured {
-    times: u32,
-    with: Vec<f64>,
-    without: Vec<f64>,
-}
-
-impl Measured {
-    fn new(workload: &Workload, way: &Way) -> Measured {
-        let once = (0..3)
-            .map(|_| seconds(workload, way, 1))
-            .fold(f64::MAX, f64::min);
-        Measured {
-            times: (ROUND_TIME / once).ceil() as u32,
-            with: Vec::new(),
-            without: Vec::new(),
-        }
-    }
-
-    fn round(&mut self, workload: &Workload, way: &Way) {
-        self.with.push(seconds(workload, way, self.times));
-        self.without
-            .push(seconds_without(workload, way, self.times));
-    }
-
-    /// Nanoseconds a step of the quickest rounds, and of the middle ones.
-    fn nanoseconds(&mut self, steps: usize) -> (f64, f64) {
-        self.with.sort_by(f64::total_cmp);
-        self.without.sort_by(f64::total_cmp);
-        let scale = 1e9 / (f64::from(self.times) * steps as f64);
-        let at = |i: usize| (self.with[i] - self.without[i]) * scale;
-        (at(0), at(self.with.len() / 2))
-    }
-}
-
-fn print_workload(workload: &Workload) {
-    let shares = workload.shares();
-    let percent = |count: u64| 100.0 * count as f64 / shares.steps as f64;
-    println!("{}", workload.name);
+fn tell_shares(name: &str, workload: &Workload, shares: &Shares) {
+    let percent = |count: u64| 100.0 * count as f64 / shares.calls as f64;
     println!(
-        "{} records, {} steps: {:.1} % moved, {:.1} % waits, {:.1} % marked, inserted, handed out or EMPTY, {:.1} % refused",
+        "# P {}, N {}: {} records, {} {name}: {:.1} % begun, {:.1} % moved, {:.1} % waits, \
+         {:.1} % answered, {:.1} % refused",
+        workload.processors,
+        workload.entries,
         workload.cases.len(),
-        shares.steps,
+        shares.calls,
+        percent(shares.begun),
         percent(shares.moved),
         percent(shares.waits),
         percent(shares.answered),
         percent(shares.refused)
     );
-    let mut measured: Vec<Measured> = WAYS
-        .iter()
-        .map(|way| Measured::new(workload, way))
-        .collect();
-    for _ in 0..ROUNDS {
-        for (way, measured) in WAYS.iter().zip(&mut measured) {
-            measured.round(workload, way);
-        }
-    }
-    let steps = workload.steps();
-    let figures: Vec<(f64, f64)> = measured.iter_mut().map(|m| m.nanoseconds(steps)).collect();
-    println!(
-        "{:<44}{:>10}{:>8}{:>10}{:>8}",
-        "ns a step", "quickest", "ratio", "middle", "ratio"
-    );
-    let (least, usual) = figures[0];
-    for (way, (quickest, middle)) in WAYS.iter().zip(&figures) {
-        println!(
-            "{:<44}{quickest:>10.1}{:>8.2}{middle:>10.1}{:>8.2}",
-            way.name,
-            quickest / least,
-            middle / usual
-        );
-    }
-    let mut reading: Vec<f64> = (0..ROUNDS).map(|_| read_once(workload)).collect();
-    reading.sort_by(f64::total_cmp);
-    println!(
-        "{:<44}{:>10.1}{:>8}{:>10.1}",
-        "once: reading an image, and check 21",
-        reading[0],
-        "",
-        reading[ROUNDS / 2]
-    );
-    println!();
-}
-
-/// Nanoseconds of reading one image.
-fn read_once(workload: &Workload) -> f64 {
-    let start = Instant::now();
-    for case in &workload.cases {
-        black_box(proved::read(black_box(&case.image)));
-    }
-    start.elapsed().as_secs_f64() * 1e9 / workload.cases.len() as f64
 }
