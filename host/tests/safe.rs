@@ -36,6 +36,30 @@ fn same_step(answer: Answer) -> Step {
     }
 }
 
+/// Every report of a begin or a step and every refusal of one is among the counts.
+fn all_occurred(counts: &BTreeMap<String, u64>) {
+    println!("{counts:?}");
+    for wanted in [
+        "began",
+        "Moved",
+        "Waits",
+        "Empty",
+        "Marked",
+        "Inserted",
+        "HandedOut",
+        "31",
+        "32",
+        "33",
+        "34",
+        "35",
+        "39",
+        "36",
+        "37",
+    ] {
+        assert!(counts.contains_key(wanted), "{wanted} never occurred");
+    }
+}
+
 /// The name of what occurred, for the counts.
 fn word(outcome: &Outcome) -> String {
     match outcome {
@@ -116,27 +140,8 @@ fn the_queue_does_what_the_reference_does() {
             }
         }
     }
-    println!("{counts:?}");
-    for wanted in [
-        "began",
-        "count",
-        "Moved",
-        "Waits",
-        "Empty",
-        "Marked",
-        "Inserted",
-        "HandedOut",
-        "31",
-        "32",
-        "33",
-        "34",
-        "35",
-        "39",
-        "36",
-        "37",
-    ] {
-        assert!(counts.contains_key(wanted), "{wanted} never occurred");
-    }
+    all_occurred(&counts);
+    assert!(counts.contains_key("count"), "Backlog never occurred");
 }
 
 /// A call of a schedule as one of a list; Backlog is none.
@@ -207,26 +212,7 @@ fn a_list_does_what_the_reference_does_call_by_call() {
             assert!(queue.as_bytes() == encode(&record));
         }
     }
-    println!("{counts:?}");
-    for wanted in [
-        "began",
-        "Moved",
-        "Waits",
-        "Empty",
-        "Marked",
-        "Inserted",
-        "HandedOut",
-        "31",
-        "32",
-        "33",
-        "34",
-        "35",
-        "39",
-        "36",
-        "37",
-    ] {
-        assert!(counts.contains_key(wanted), "{wanted} never occurred");
-    }
+    all_occurred(&counts);
 }
 
 #[test]

@@ -4,7 +4,7 @@ use mathlib.Core.List.{List, [], _∷_, _++_, append-assoc}
 use Prim.Native.Nat.{ℕ, zero, suc, _+_, _≤_, _<_}
 use native.Mathlib.Omega.{arith}
 use native.Mathlib.Numerals.{add-one}
-use lib.ListN.{length, set, drop, length-set}
+use lib.ListN.{length, set, drop}
 use lib.Seq.{set-append-left}
 use Rattle.record.specs.declared.nodes.Node.{Node}
 use Rattle.laws.specs.Every.{setBelow}
@@ -12,9 +12,9 @@ use Rattle.laws.proofs.Counting.{length-below}
 use Rattle.record.specs.Nodes.{filled}
 use Rattle.image.specs.Numbers.{eight}
 use Rattle.image.specs.Pieces.{nodeImage}
-use Rattle.image.proofs.Bytes.{eight-back}
 use Rattle.image.specs.Puts.{puts, putsIn, four}
 use Rattle.image.proofs.Puts.{Below, set-after, puts-append}
+use Rattle.image_parts.proofs.Pieces.{eight-set}
 use Rattle.image_begin.specs.Stores.{levels, unmarked, used, fixed, fills}
 
 pub levels-next : (b : List ℕ) (o j k v : ℕ) → set (puts b o (levels j k v)) (o + (j + k)) v
@@ -27,11 +27,6 @@ levels-below w j zero v es h k = k
 levels-below w j (suc l) v es h k =
     rw (append-assoc (levels j l v) ((j + l, v) ∷ []) es)
     (levels-below w j l v ((j + l, v) ∷ es) (omega arith) (omega arith, k))
-
-eight-set : (l : List ℕ) (k v : ℕ) → length l ≡ 8 → set (eight l 0) k v ≡ eight (set l k v) 0
-eight-set l k v h =
-    ap (λ (r : List ℕ). set r k v) (eight-back l h)
-    ∙ sym (eight-back (set l k v) (length-set l k v ∙ h))
 
 -- a node with other levels
 abbrev leveled : Node → List ℕ → List ℕ → Node

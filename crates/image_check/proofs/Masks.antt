@@ -1,13 +1,12 @@
 -- A test of the first l numbers as one of the first n that passes past l. Assumes nothing.
 use mathlib.Core.Path.{_≡_, refl, sym, _∙_, ap}
-use mathlib.Core.Bool.{Bool, _||_}
+use mathlib.Core.Bool.{Bool, _||_, and-true}
 use Prim.Native.Nat.{ℕ, zero, suc, _≤_}
 use native.Mathlib.Decide.{ℕ-discrete}
 use native.Mathlib.Omega.{arith}
 use lib.Dec.{leb}
 use borrow.Author.Tests.{le-leb, lt-leb}
 use Rattle.laws.specs.Every.{everyBelow}
-use Rattle.image_check.proofs.Stages.{and-true}
 
 module _ (f : ℕ → Bool) (l : ℕ) where
   below : (m : ℕ) → m ≤ l → everyBelow (λ k. leb l k || f k) m ≡ everyBelow f m

@@ -1,6 +1,6 @@
 -- The tests of a stage's numbers, by its tag. Assumes nothing.
 use mathlib.Core.Path.{_≡_, refl, sym}
-use mathlib.Core.Bool.{Bool, true, false, _&&_}
+use mathlib.Core.Bool.{Bool, true, false, _&&_, and-true, and-false}
 use Prim.Native.Nat.{ℕ, zero, suc, _+_, _≤_, _<_}
 use native.Mathlib.Omega.{arith}
 use lib.Dec.{eqb, leb}
@@ -21,18 +21,6 @@ flip a b = go (eqb a b) refl
 
 pub same : (a : ℕ) → eqb a a ≡ true
 same a = eq-eqb a a refl
-
-pub and-false : (a : Bool) → (a && false) ≡ false
-and-false true = refl
-and-false false = refl
-
-pub and-true : (a : Bool) → (a && true) ≡ a
-and-true true = refl
-and-true false = refl
-
-and-assoc : (a b c : Bool) → ((a && b) && c) ≡ (a && (b && c))
-and-assoc true b c = refl
-and-assoc false b c = refl
 
 -- what a stage of each kind comes to
 two : (e o p w : Bool) → (e && (((o && (p && w)) && p) && true)) ≡ (e && (o && (p && w)))

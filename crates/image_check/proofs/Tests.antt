@@ -1,6 +1,6 @@
 -- The tests of a node's, of a processor's and of all bytes. Assumes nothing.
 use mathlib.Core.Path.{_≡_, refl, sym, _∙_, ap}
-use mathlib.Core.Bool.{Bool, true, false, _&&_}
+use mathlib.Core.Bool.{Bool, true, false, _&&_, and-false}
 use mathlib.Core.List.{List}
 use Prim.Native.Nat.{ℕ, zero, suc, _+_, _*_, _≤_, _<_}
 use native.Mathlib.Omega.{arith}
@@ -27,7 +27,7 @@ use Rattle.image.proofs.Fields.{caller-is, eight-at, number-at}
 use Rattle.image.proofs.Inverse.{image-facts, read-is-written}
 use Rattle.image_check.specs.Kinds.{kinds, kindTest}
 use Rattle.image_check.specs.Tests.{sizes, nodeOk, callerOk}
-use Rattle.image_check.proofs.Stages.{and-false, stage-tests}
+use Rattle.image_check.proofs.Stages.{stage-tests}
 
 levels-same : (f : ℕ → ℕ) (j l top : ℕ) → l ≤ 8 → allAtMost (eightFrom f j) l top
     ≡ everyBelow (λ (k : ℕ). leb (f (j + k)) top) l

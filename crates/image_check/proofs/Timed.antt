@@ -1,6 +1,6 @@
 -- A stamp and a use by their tags: written as they are, and in their ranges. Assumes nothing.
 use mathlib.Core.Path.{_≡_, refl, sym, _∙_}
-use mathlib.Core.Bool.{Bool, true, false, cond, _&&_, _||_, or-false}
+use mathlib.Core.Bool.{Bool, true, false, cond, _&&_, _||_, or-false, and-true}
 use Prim.Native.Nat.{ℕ, _<_}
 use native.Mathlib.Omega.{arith}
 use lib.Dec.{eqb, leb}
@@ -10,7 +10,7 @@ use Rattle.image.specs.Tags.{timed, timedSame, stampOf, stampTimed, stampTaken,
 use Rattle.image.specs.Tags.{useTaken}
 use Rattle.record.specs.declared.nodes.Stamp.the-variants as stamp
 use Rattle.record.specs.declared.nodes.Use.the-variants as use′
-use Rattle.image_check.proofs.Stages.{flip, same, and-true}
+use Rattle.image_check.proofs.Stages.{flip, same}
 
 pub stamp-cases : (t u : ℕ) (e : Bool) (g : ℕ) →
     (stampTaken (timed t u) && stampValid (stampOf (timed t u)) e g)

@@ -18,7 +18,7 @@ use Rattle.image.proofs.Bytes.{eight-back}
 use Rattle.image.specs.Puts.{putsIn, four, clears, rests}
 use Rattle.image.proofs.Puts.{set-after}
 
-eight-set : (l : List ℕ) (k v : ℕ) → length l ≡ 8 → set (eight l 0) k v ≡ eight (set l k v) 0
+pub eight-set : (l : List ℕ) (k v : ℕ) → length l ≡ 8 → set (eight l 0) k v ≡ eight (set l k v) 0
 eight-set l k v h =
     ap (λ (r : List ℕ). set r k v) (eight-back l h)
     ∙ sym (eight-back (set l k v) (length-set l k v ∙ h))
