@@ -7,11 +7,12 @@ use native.Mathlib.Numerals.{add-one}
 use lib.ListN.{length, getD}
 use Rattle.record.specs.declared.queues.Queue.{Queue}
 use Rattle.rules.specs.declared.answers.Answer.{Answer}
-use Rattle.rules.specs.Calls.{stepValid}
+use Rattle.rules.specs.declared.calls.Call.the-variants as call
+use Rattle.rules.specs.Calls.{calledValid}
 use Rattle.rules.specs.Runs.{steps}
 use Rattle.image.specs.Image.{imageOf, queueIn, passesOf, Sound}
 use Rattle.image_parts.specs.Given.{Stepped}
-use Rattle.image_parts.proofs.Sounds.{queue-after, step-is}
+use Rattle.image_parts.proofs.Sounds.{queue-after, call-is}
 use Rattle.bench.specs.Turns.{steppedTo, readyCode, bytesStepped}
 
 pub none-stepped : (q : Queue) (l : List ℕ) → q ≡ steppedTo q l 0
@@ -19,7 +20,7 @@ unfolding steppedTo
 none-stepped q l = refl
 
 step-more : (q : Queue) (l : List ℕ) (i : ℕ) → steppedTo q l (i + 1)
-    ≡ stepValid (steppedTo q l i) (getD l i 0) .queue
+    ≡ calledValid (steppedTo q l i) (call.Step (getD l i 0)) .queue
 unfolding steppedTo
 step-more q l i = ap (steppedTo q l) (add-one i)
 
@@ -28,8 +29,8 @@ pub one-stepped :
     queueIn b ≡ steppedTo q l i → Stepped b (getD l i 0) c r → queueIn c ≡ steppedTo q l (i + 1)
 one-stepped q l i b c r s h g =
     let p = getD l i 0 in
-    queue-after b s (steps p) (stepValid (queueIn b) p) (step-is b s p) c r g
-    ∙ ap (λ (u : Queue). stepValid u p .queue) h
+    queue-after b s (steps p) (calledValid (queueIn b) (call.Step p)) (call-is b s (call.Step p)) c r g
+    ∙ ap (λ (u : Queue). calledValid u (call.Step p) .queue) h
     ∙ sym (step-more q l i)
 
 pub all-stepped :

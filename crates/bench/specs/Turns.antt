@@ -4,14 +4,15 @@ use mathlib.Core.List.{List}
 use Prim.Native.Nat.{ℕ, zero, suc}
 use lib.ListN.{length, getD}
 use Rattle.record.specs.declared.queues.Queue.{Queue}
-use Rattle.rules.specs.Calls.{stepValid}
+use Rattle.rules.specs.declared.calls.Call.the-variants as call
+use Rattle.rules.specs.Calls.{calledValid}
 use Rattle.image.specs.Image.{imageOf, queueIn, passesOf}
 
 -- the record after a step of each of the first k processors of the list; a refused step leaves it
 -- as it was
 unfoldable pub steppedTo : Queue → List ℕ → ℕ → Queue
 steppedTo q l zero = q
-steppedTo q l (suc k) = stepValid (steppedTo q l k) (getD l k 0) .queue
+steppedTo q l (suc k) = calledValid (steppedTo q l k) (call.Step (getD l k 0)) .queue
 
 -- what `bench_steps` gives back and leaves
 unfoldable pub readyCode : List ℕ → ℕ

@@ -11,7 +11,9 @@ fn run_steps(image: &mut [u8], who: &[u32])
     requires { ⌜ Sound (now image) ⌝ }
     ensures { λ _.
         ⌜ now (image .exit)
-        ≡ imageOf (steppedTo (queueIn (now (image .entry))) (now (who .entry)) (length (now (who .entry)))) ⌝ }
+        ≡ imageOf
+        (steppedTo (queueIn (now (image .entry))) (now (who .entry))
+        (length (now (who .entry)))) ⌝ }
 {
     let end = who.len();
     let mut i: usize = 0;

@@ -1,7 +1,8 @@
--- Check 21: "P, N, L, clock, or a stored node, level, height, due, item or holder number out of its range (own nodes and the place at W3:
--- 1 to N), a stamp on the head or tail, or a stored time after the clock; slots past P, N+1 and L are not looked at". The head and the tail are
--- looked at like every node, and an idle processor like a busy one. An own node is one of 1 to N where the stage has one; where it has none, the
--- number that is stored is that of any node.
+-- Check 21 (01, refusals): every number of the record is in its range, no time is later than the
+-- clock, and head and tail have no stamp. The head and the tail are looked at like every node, an
+-- idle processor like a busy one, and what is past P, N + 1 or L not at all. An own node is one of
+-- 1 to N where the stage has one; where it has none, the number that is stored is that of any node.
+-- So is a place's, but for W3: there it is one of 1 to N.
 use Prim.Native.Nat.{ℕ, _+_}
 use mathlib.Core.Bool.{Bool, true, cond, _&&_}
 use lib.Dec.{leb}
@@ -25,7 +26,12 @@ abbrev pub within : ℕ → ℕ → Bool
 within x top = leb 1 x && leb x top
 
 abbrev pub sizesOf : Queue → Sizes
-sizesOf q = record { processors = q .processors; entries = q .entries; levels = q .levels; clock = q .clock }
+sizesOf q = record {
+  processors = q .processors;
+  entries = q .entries;
+  levels = q .levels;
+  clock = q .clock;
+}
 
 abbrev pub sizesValid : Sizes → Bool
 sizesValid s =

@@ -2,7 +2,10 @@
 ghost use mathlib.Core.Path.{_≡_};
 ghost use Prim.Native.Nat.{ℕ, _+_, _≤_, _<_};
 ghost use mathlib.Core.Bool.{_&&_};
-ghost use Rattle.checks.specs.Check.{within as withinOf, sizesValid, stampValid, useValid, linksValid, entryValid, nodeValid, placeValid, ownValid, markingValid, carriedValid, processorValid, valid as validOf};
+ghost use Rattle.checks.specs.Check.{within as withinOf, sizesValid, stampValid, useValid};
+ghost use Rattle.checks.specs.Check.{linksValid, entryValid, nodeValid, placeValid, ownValid};
+ghost use Rattle.checks.specs.Check.{markingValid, carriedValid, processorValid};
+ghost use Rattle.checks.specs.Check.{valid as validOf};
 use crate::limits::ENTRIES;
 use crate::limits::LEVELS;
 use crate::limits::NUMBER;

@@ -1,25 +1,27 @@
--- What check 21 says of the numbers that the calls use as indices, and of sums that must not wrap. Assumes nothing.
-use mathlib.Core.Path.{_≡_, refl, sym, ap, _∙_}
-use mathlib.Core.Bool.{Bool, true, false}
+-- What check 21 says of the numbers that the calls use as indices, and of sums that must not wrap.
+-- Assumes nothing.
+use mathlib.Core.Path.{_≡_}
+use mathlib.Core.Bool.{true}
 use mathlib.Core.List.{map}
-use Prim.Native.Nat.{ℕ, _+_, _≤_, _<_}
+use Prim.Native.Nat.{ℕ, _≤_, _<_}
 use native.Mathlib.Omega.{arith}
 use lib.ListN.{length}
 use Rattle.laws.proofs.Arrays.{unmapped}
 use Rattle.record.specs.declared.nodes.Node.{Node}
 use Rattle.record.specs.declared.queues.Processor.{Processor}
 use Rattle.record.specs.declared.queues.Queue.{Queue}
-use Rattle.record.specs.declared.stages.Place.{Place}
 use Rattle.checks.specs.Check.{sizesOf, valid}
-use Rattle.record.specs.Limits.{nodeSlots, maxProcessors, maxEntries}
-use Rattle.record.specs.Queues.{nodeAt, processorAt}
+use Rattle.record.specs.Limits.{nodeSlots, maxProcessors, maxEntries, maxLevels}
+use Rattle.record.specs.Queues.{processorAt}
 use Rattle.record.proofs.nodes.Node as node-type
 use Rattle.record.proofs.queues.Processor as processor-type
-use Rattle.rules.specs.declared.decisions.Decision.{Decision}
-use Rattle.rules.specs.Calls.{readingPlace, nextOf, sightOf, stepDecision}
+use Rattle.rules.specs.declared.calls.Call.{Call}
+use Rattle.rules.specs.declared.calls.Call.the-variants as call
+use Rattle.rules.specs.Calls.{readingPlace, nextOf, decisionOf}
 use Rattle.rules.specs.Effects.{nodeOf}
-use Rattle.rules.proofs.ValidFacts.{ValidQueue, ValidProcessor, ValidPlace, valid-facts}
-use Rattle.rules.proofs.ValidDecisions.{ValidSight, ValidDecision, sight-valid, reading-valid, step-valid}
+use Rattle.rules.proofs.ValidFacts.{ValidProcessor, ValidPlace, valid-facts}
+use Rattle.rules.proofs.ValidDecisions.{sight-valid, reading-valid, decides-valid}
+use Rattle.rules.proofs.Allowed.{Allowed}
 use Rattle.rules.proofs.Untouched.{node-high}
 
 -- the lengths of the two arrays, from what is known of a record that is a parameter
@@ -56,11 +58,19 @@ module _ (q : Queue) (p : ℕ) (v : valid q ≡ true) (h : p < q .processors) wh
       let s = sight-valid q (processorAt q p) (readingPlace (processorAt q p .stage)) (valid-facts q v) caller placed in
       omega (arith, s .next, entries-high q v)
 
-  step-changes-low : nodeOf (stepDecision q (processorAt q p) .effect) < nodeSlots
-  step-changes-low =
-      let d = step-valid q (processorAt q p) (valid-facts q v) caller in
-      omega (arith, node-high (sizesOf q) (stepDecision q (processorAt q p) .effect) (d .effect), entries-high q v)
+-- a call that is not refused, on a record that passes check 21
+module _ (q : Queue) (v : valid q ≡ true) where
+  -- the node that it changes
+  pub changed-low : (c : Call) → Allowed q c → nodeOf (decisionOf q c .effect) < nodeSlots
+  changed-low c A =
+      let d = decides-valid q c A (valid-facts q v) in
+      let n = node-high (sizesOf q) (decisionOf q c .effect) (d .effect) in
+      omega (arith, n, entries-high q v)
 
-  -- the node that a step changes, as the code has it
-  pub changed-low : (d : Decision) (w : ℕ) → d ≡ stepDecision q (processorAt q p) → w ≡ nodeOf (d .effect) → w < nodeSlots
-  changed-low d w e f = rw f (rw e step-changes-low)
+  -- the height of an Insert
+  pub height-high :
+      (p due item height : ℕ) → Allowed q (call.Insert p due item height) → height ≤ maxLevels
+  height-high p due item height A =
+      let Q = valid-facts q v in
+      let d = decides-valid q (call.Insert p due item height) A Q in
+      omega (arith, d .effect .height .high, Q .sizes .levels .high)

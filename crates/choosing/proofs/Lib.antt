@@ -1,4 +1,2 @@
 pub mod Bounds
 pub mod Choosing
-pub mod Numbers
-pub mod Inserts

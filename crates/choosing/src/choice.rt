@@ -51,7 +51,8 @@ fn never_next(found: u8, x: u8, u: Use) -> u8
     if is_never(u) { x } else { 0 }
 }
 
-// The node retired longest ago: of the best so far (0 if there is none) with its state, and node x with its state; the best on a tie.
+// The node retired longest ago: of the best so far (0 if there is none) with its state, and node x
+// with its state; the best on a tie.
 fn longest_next(best: u8, v: Use, x: u8, u: Use) -> u8
     ensures { λ r. ⌜ r ≡ longestNext best v x u ⌝ }
 {
@@ -76,8 +77,7 @@ fn began_after(t: u32, g: Stage, begin: u32) -> bool
     if is_idle(g) { true } else { t < begin }
 }
 
-// The lowest never-used node of 1 to N; if there is none the node retired longest ago, provided every busy processor began after
-// that retirement; otherwise 0.
+// The node that an Insert takes, or 0: `chosen` of rules/specs/Choice.antt.
 pub fn choose(q: Queue) -> u8
     requires { ⌜ validOf q ≡ true ⌝ }
     ensures { λ r. ⌜ r ≡ chosen q ⌝ }

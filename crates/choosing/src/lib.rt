@@ -1,3 +1,3 @@
-// What a begin decides, the refusals that an Insert's numbers have, and the node that an Insert takes.
+// What a begin decides, and the node that an Insert takes.
 pub mod begins;
 pub mod choice;

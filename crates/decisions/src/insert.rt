@@ -1,4 +1,4 @@
-// A step of an Insert: Search; then for i from 1 to the height: Lock-seek, I1, I2, I3; then I4, I5.
+// A step of an Insert: its Search, then level by level a Lock-seek and I1 to I3, then I4 and I5.
 ghost use mathlib.Core.Path.{_≡_};
 ghost use Prim.Native.Nat.{ℕ, _+_};
 ghost use Rattle.rules.specs.Decide.{insertSearched, insertSought, insertFreed, insertStep};
@@ -40,7 +40,7 @@ fn insert_sought(s: Sight, f: Sought) -> Decision
     }
 }
 
-// I3: free a's lock; on to the level above, or to I4 at any level not below the height.
+// I3: the place's lock is free again; on to the next level or, from the height on, to I4.
 fn insert_freed(s: Sight, a: Place) -> Decision
     ensures { λ r. ⌜ r ≡ insertFreed s a ⌝ }
 {
@@ -68,12 +68,12 @@ pub fn insert_step(s: Sight, g: Insert) -> Decision
             let f = seek_step(s, k);
             insert_sought(s, f)
         }
-        // I1: own forward number := a's
+        // I1: the own node leads to what the place leads to
         Insert::Copy(a) => {
             let b = at(s.own, a.level);
             moved(s, Effect::Lead(b, s.next), Stage::Insert(Insert::Link(a)))
         }
-        // I2: a's forward number := own node
+        // I2: the place leads to the own node
         Insert::Link(a) => moved(
             s,
             Effect::Lead(a, s.own),
@@ -83,7 +83,7 @@ pub fn insert_step(s: Sight, g: Insert) -> Decision
         Insert::FreeLevel(a) => insert_freed(s, a),
         // I4: free the node lock
         Insert::FreeNode => moved(s, Effect::FreeNode(s.own), Stage::Insert(Insert::Stamp)),
-        // I5: stamp := the time of this call, and answer
+        // I5: the stamp, and the answer
         Insert::Stamp => {
             let e = s.mine;
             answers(Effect::Stamp(s.own), Answer::Inserted(e))

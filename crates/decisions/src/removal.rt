@@ -1,8 +1,11 @@
-// A step of what follows a mark: Search; L1; for i from the height down to 1: Lock-seek, L2 to L6; then L7, L8.
+// A step of what follows a mark: the Search, L1, on each level from the height down a Lock-seek and
+// L2 to L6, then L7 and L8. Each stage hands the removal's job on, and L8 alone asks it.
 ghost use mathlib.Core.Path.{_≡_};
 ghost use Prim.Native.Nat.{ℕ, _+_};
 ghost use Rattle.record.specs.declared.stages.Removal.the-variants as rem;
-ghost use Rattle.rules.specs.Decide.{removing as removingOf, removalSearched, holdNode, removalSought, holdOwn, removalFreed, removalStep};
+ghost use Rattle.rules.specs.Decide.{removing as removingOf, removalSearched, holdNode};
+ghost use Rattle.rules.specs.Decide.{removalSought, holdOwn, removalFreed, handing as handingOf};
+ghost use Rattle.rules.specs.Decide.{removalStep};
 use crate::search::search_step;
 use crate::search::seek_step;
 use parts::moves::answers;
@@ -10,7 +13,7 @@ use parts::moves::at;
 use parts::moves::moved;
 use parts::moves::saving;
 use parts::moves::waits;
-use record::Delete;
+use record::Job;
 use record::Place;
 use record::Removal;
 use record::Seek;
@@ -18,127 +21,146 @@ use record::Stage;
 use rules::Answer;
 use rules::Decision;
 use rules::Effect;
+use rules::Entry;
 use rules::Searched;
 use rules::Sight;
 use rules::Sought;
 
-pub fn removing(r: Removal) -> Stage
-    ensures { λ g. ⌜ g ≡ removingOf r ⌝ }
+pub fn removing(job: Job, r: Removal) -> Stage
+    ensures { λ g. ⌜ g ≡ removingOf job r ⌝ }
 {
-    Stage::Delete(Delete::Removal(r))
+    Stage::Removal(job, r)
 }
 
-fn removal_searched(s: Sight, a: Place, f: Searched) -> Decision
-    ensures { λ r. ⌜ r ≡ removalSearched s a f ⌝ }
+fn removal_searched(s: Sight, job: Job, a: Place, f: Searched) -> Decision
+    ensures { λ r. ⌜ r ≡ removalSearched job s a f ⌝ }
 {
     match f {
-        Searched::Ahead(b) => moved(s, Effect::Keep, removing(Removal::Search(b))),
-        Searched::Down(b) => saving(s, a, removing(Removal::Search(b))),
-        Searched::Left(_) => saving(s, a, removing(Removal::HoldNode)),
+        Searched::Ahead(b) => moved(s, Effect::Keep, removing(job, Removal::Search(b))),
+        Searched::Down(b) => saving(s, a, removing(job, Removal::Search(b))),
+        Searched::Left(_) => saving(s, a, removing(job, Removal::HoldNode)),
     }
 }
 
-// L1: take its node lock or wait.
-fn hold_node(s: Sight) -> Decision
-    ensures { λ r. ⌜ r ≡ holdNode s ⌝ }
+// L1: the node lock of the marked node, or wait for it.
+fn hold_node(s: Sight, job: Job) -> Decision
+    ensures { λ r. ⌜ r ≡ holdNode job s ⌝ }
 {
     if s.holder == 0 {
         let b = at(s.top, s.height);
         moved(
             s,
             Effect::HoldNode(s.own),
-            removing(Removal::Seek(Seek::Approach(b))),
+            removing(job, Removal::Seek(Seek::Approach(b))),
         )
     } else {
-        waits(s, removing(Removal::HoldNode))
+        waits(s, removing(job, Removal::HoldNode))
     }
 }
 
-fn removal_sought(s: Sight, f: Sought) -> Decision
-    ensures { λ r. ⌜ r ≡ removalSought s f ⌝ }
+fn removal_sought(s: Sight, job: Job, f: Sought) -> Decision
+    ensures { λ r. ⌜ r ≡ removalSought job s f ⌝ }
 {
     match f {
-        Sought::Goes(e, k) => moved(s, e, removing(Removal::Seek(k))),
-        Sought::Waits(k) => waits(s, removing(Removal::Seek(k))),
-        Sought::Done(a) => moved(s, Effect::Keep, removing(Removal::HoldOwn(a))),
+        Sought::Goes(e, k) => moved(s, e, removing(job, Removal::Seek(k))),
+        Sought::Waits(k) => waits(s, removing(job, Removal::Seek(k))),
+        Sought::Done(a) => moved(s, Effect::Keep, removing(job, Removal::HoldOwn(a))),
     }
 }
 
-// L2: take own lock at i or wait.
-fn hold_own(s: Sight, a: Place) -> Decision
-    ensures { λ r. ⌜ r ≡ holdOwn s a ⌝ }
+// L2: the own lock at the level, or wait for it.
+fn hold_own(s: Sight, job: Job, a: Place) -> Decision
+    ensures { λ r. ⌜ r ≡ holdOwn job s a ⌝ }
 {
     if s.latch == 0 {
         let b = at(s.own, a.level);
-        moved(s, Effect::HoldLevel(b), removing(Removal::Unlink(a)))
+        moved(s, Effect::HoldLevel(b), removing(job, Removal::Unlink(a)))
     } else {
-        waits(s, removing(Removal::HoldOwn(a)))
+        waits(s, removing(job, Removal::HoldOwn(a)))
     }
 }
 
-// L6: free a's; on to the level below or, after level 1, to L7.
-fn removal_freed(s: Sight, a: Place) -> Decision
-    ensures { λ r. ⌜ r ≡ removalFreed s a ⌝ }
+// L6: the place's lock is free; on to the level below or, after level 1, to L7.
+fn removal_freed(s: Sight, job: Job, a: Place) -> Decision
+    ensures { λ r. ⌜ r ≡ removalFreed job s a ⌝ }
 {
     if a.level <= 1 {
-        moved(s, Effect::FreeLevel(a), removing(Removal::FreeNode))
+        moved(s, Effect::FreeLevel(a), removing(job, Removal::FreeNode))
     } else {
         let b = at(s.down, a.level - 1);
         moved(
             s,
             Effect::FreeLevel(a),
-            removing(Removal::Seek(Seek::Approach(b))),
+            removing(job, Removal::Seek(Seek::Approach(b))),
         )
     }
 }
 
-// L3: a's forward number := own.
-fn unlinked(s: Sight, a: Place) -> Decision
-    ensures { λ r. ⌜ r ≡ removalStep s (rem.Unlink a) ⌝ }
+// L3: the place leads past the own node.
+fn unlinked(s: Sight, job: Job, a: Place) -> Decision
+    ensures { λ r. ⌜ r ≡ removalStep job s (rem.Unlink a) ⌝ }
 {
-    moved(s, Effect::Lead(a, s.onward), removing(Removal::Back(a)))
+    moved(
+        s,
+        Effect::Lead(a, s.onward),
+        removing(job, Removal::Back(a)),
+    )
 }
 
-// L4: own := a.
-fn led_back(s: Sight, a: Place) -> Decision
-    ensures { λ r. ⌜ r ≡ removalStep s (rem.Back a) ⌝ }
-{
-    let b = at(s.own, a.level);
-    moved(s, Effect::Lead(b, a.node), removing(Removal::FreeOwn(a)))
-}
-
-// L5: free own lock.
-fn freed_own(s: Sight, a: Place) -> Decision
-    ensures { λ r. ⌜ r ≡ removalStep s (rem.FreeOwn a) ⌝ }
+// L4: the own node leads back to the place.
+fn led_back(s: Sight, job: Job, a: Place) -> Decision
+    ensures { λ r. ⌜ r ≡ removalStep job s (rem.Back a) ⌝ }
 {
     let b = at(s.own, a.level);
-    moved(s, Effect::FreeLevel(b), removing(Removal::FreeLevel(a)))
+    moved(
+        s,
+        Effect::Lead(b, a.node),
+        removing(job, Removal::FreeOwn(a)),
+    )
 }
 
-pub fn removal_step(s: Sight, g: Removal) -> Decision
-    ensures { λ r. ⌜ r ≡ removalStep s g ⌝ }
+// L5: the own lock is free.
+fn freed_own(s: Sight, job: Job, a: Place) -> Decision
+    ensures { λ r. ⌜ r ≡ removalStep job s (rem.FreeOwn a) ⌝ }
+{
+    let b = at(s.own, a.level);
+    moved(
+        s,
+        Effect::FreeLevel(b),
+        removing(job, Removal::FreeLevel(a)),
+    )
+}
+
+// What L8 answers, by the job.
+fn handing(job: Job, e: Entry) -> Answer
+    ensures { λ r. ⌜ r ≡ handingOf job e ⌝ }
+{
+    match job {
+        Job::Deliver => Answer::HandedOut(e),
+    }
+}
+
+pub fn removal_step(s: Sight, job: Job, g: Removal) -> Decision
+    ensures { λ r. ⌜ r ≡ removalStep job s g ⌝ }
 {
     match g {
         Removal::Search(a) => {
             let f = search_step(s, a);
-            removal_searched(s, a, f)
+            removal_searched(s, job, a, f)
         }
-        Removal::HoldNode => hold_node(s),
+        Removal::HoldNode => hold_node(s, job),
         Removal::Seek(k) => {
             let f = seek_step(s, k);
-            removal_sought(s, f)
+            removal_sought(s, job, f)
         }
-        Removal::HoldOwn(a) => hold_own(s, a),
-        Removal::Unlink(a) => unlinked(s, a),
-        Removal::Back(a) => led_back(s, a),
-        Removal::FreeOwn(a) => freed_own(s, a),
-        Removal::FreeLevel(a) => removal_freed(s, a),
+        Removal::HoldOwn(a) => hold_own(s, job, a),
+        Removal::Unlink(a) => unlinked(s, job, a),
+        Removal::Back(a) => led_back(s, job, a),
+        Removal::FreeOwn(a) => freed_own(s, job, a),
+        Removal::FreeLevel(a) => removal_freed(s, job, a),
         // L7: free the node lock
-        Removal::FreeNode => moved(s, Effect::FreeNode(s.own), removing(Removal::Retire)),
-        // L8: retire the node with this time and hand out due and item
-        Removal::Retire => {
-            let e = s.mine;
-            answers(Effect::Retire(s.own), Answer::HandedOut(e))
-        }
+        Removal::FreeNode => moved(s, Effect::FreeNode(s.own), removing(job, Removal::Retire)),
+        // L8: the node is retired, and the job tells the answer
+        Removal::Retire => answers(Effect::Retire(s.own), handing(job, s.mine)),
     }
 }

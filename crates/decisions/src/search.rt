@@ -9,7 +9,8 @@ use rules::Searched;
 use rules::Sight;
 use rules::Sought;
 
-// Search: if b is before k, a becomes b; otherwise one level down from the same a, or after level 1 out of the search.
+// A step of a Search (01, the steps): on along the level as far as the keys are smaller, then one
+// level down, and after level 1 out of it.
 pub fn search_step(s: Sight, a: Place) -> Searched
     ensures { λ r. ⌜ r ≡ searchStep s a ⌝ }
 {
@@ -27,25 +28,25 @@ pub fn seek_step(s: Sight, k: Seek) -> Sought
     ensures { λ r. ⌜ r ≡ seekStep s k ⌝ }
 {
     match k {
-        // G1: read b; if before k, move to b and stay in G1, else G2
+        // G1: on as far as the keys are smaller
         Seek::Approach(a) => if s.before {
             Sought::Goes(Effect::Keep, Seek::Approach(at(s.next, a.level)))
         } else {
             Sought::Goes(Effect::Keep, Seek::Take(a))
         },
-        // G2: take a's lock at i, or wait while it is held
+        // G2: the place's lock, or wait for it
         Seek::Take(a) => if s.guard == 0 {
             Sought::Goes(Effect::HoldLevel(a), Seek::Confirm(a))
         } else {
             Sought::Waits(Seek::Take(a))
         },
-        // G3: read b again; if before k go to G4, else done
+        // G3: whether a node with a smaller key has come in between
         Seek::Confirm(a) => if s.before {
             Sought::Goes(Effect::Keep, Seek::Release(a, s.next))
         } else {
             Sought::Done(a)
         },
-        // G4: free the lock, move to the b of G3, go to G2
+        // G4: on to that node, without the lock
         Seek::Release(a, b) => Sought::Goes(Effect::FreeLevel(a), Seek::Take(at(b, a.level))),
     }
 }

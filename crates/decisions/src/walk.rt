@@ -1,14 +1,17 @@
-// A step of a Delete_Min, W1 to W3 and the removal of what W3 marked; and the step of any stage.
+// A step of a Delete_Min before its mark, W1 to W3; and the step of any stage.
 ghost use mathlib.Core.Path.{_≡_};
 ghost use Prim.Native.Nat.{ℕ, _+_};
-ghost use Rattle.rules.specs.Decide.{walkOn, stampTest, markTest, deleteStep, decide as decideOf};
+ghost use Rattle.rules.specs.Decide.{walkOn, stampTest, marking as markingOf, markTest};
+ghost use Rattle.rules.specs.Decide.{deleteStep, decide as decideOf};
 use crate::insert::insert_step;
 use crate::removal::removal_step;
+use crate::removal::removing;
 use parts::moves::answers;
 use parts::moves::at;
 use parts::moves::moved;
 use parts::moves::waits;
 use record::Delete;
+use record::Job;
 use record::Place;
 use record::Removal;
 use record::Stage;
@@ -18,7 +21,7 @@ use rules::Decision;
 use rules::Effect;
 use rules::Sight;
 
-// W1: read b at level 1; the tail answers EMPTY; else move to b.
+// W1: on to the next node of level 1, or EMPTY at the end.
 fn walk_on(s: Sight) -> Decision
     ensures { λ r. ⌜ r ≡ walkOn s ⌝ }
 {
@@ -30,7 +33,7 @@ fn walk_on(s: Sight) -> Decision
     }
 }
 
-// W2: stamp earlier than the begin time goes to W3, any other or none to W1.
+// W2: a node whose stamp is older than the operation may be marked; any other is walked past.
 fn stamp_test(s: Sight, a: Place) -> Decision
     ensures { λ r. ⌜ r ≡ stampTest s a ⌝ }
 {
@@ -41,22 +44,30 @@ fn stamp_test(s: Sight, a: Place) -> Decision
     }
 }
 
-// W3: set the mark; if it was already set go to W1, else this node is the operation's own, and the call reports it marked.
+// W3 where the mark was not set: the node is the operation's own from here on, and its removal
+// begins with the Search.
+fn marking(s: Sight, job: Job, a: Place) -> Decision
+    ensures { λ r. ⌜ r ≡ markingOf job s a ⌝ }
+{
+    let e = s.seen;
+    let b = at(0, s.levels);
+    Decision {
+        effect: Effect::Mark(a.node),
+        stage: removing(job, Removal::Search(b)),
+        own: a.node,
+        carry: Carry::Keep,
+        answer: Answer::Marked(e),
+    }
+}
+
+// W3.
 fn mark_test(s: Sight, a: Place) -> Decision
     ensures { λ r. ⌜ r ≡ markTest s a ⌝ }
 {
     if s.marked {
         moved(s, Effect::Keep, Stage::Delete(Delete::Next(a)))
     } else {
-        let e = s.seen;
-        let b = at(0, s.levels);
-        Decision {
-            effect: Effect::Mark(a.node),
-            stage: Stage::Delete(Delete::Removal(Removal::Search(b))),
-            own: a.node,
-            carry: Carry::Keep,
-            answer: Answer::Marked(e),
-        }
+        marking(s, Job::Deliver, a)
     }
 }
 
@@ -67,7 +78,6 @@ pub fn delete_step(s: Sight, g: Delete) -> Decision
         Delete::Next(_) => walk_on(s),
         Delete::Stamped(a) => stamp_test(s, a),
         Delete::Mark(a) => mark_test(s, a),
-        Delete::Removal(r) => removal_step(s, r),
     }
 }
 
@@ -79,5 +89,6 @@ pub fn decide(s: Sight, g: Stage) -> Decision
         Stage::Idle => waits(s, Stage::Idle),
         Stage::Insert(i) => insert_step(s, i),
         Stage::Delete(d) => delete_step(s, d),
+        Stage::Removal(job, r) => removal_step(s, job, r),
     }
 }

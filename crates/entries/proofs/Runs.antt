@@ -10,29 +10,20 @@ use Rattle.image.specs.OneToOne.{Sized, Trim}
 use Rattle.image.proofs.Inverse.{image-facts, image-taken, read-write, trim-in}
 use Rattle.image.proofs.Sizes.{sized-in}
 use Rattle.image_parts.proofs.Arrays.{fresh-sized}
-use Rattle.image_parts.proofs.Kept.{Kept, kept-insert, kept-delete, kept-step, sized-after}
+use Rattle.image_parts.proofs.Kept.{Kept, kept-call, sized-after}
 use Rattle.image_parts.proofs.Reached.{fresh-trim, all-sized, all-trim}
 use Rattle.image_parts.proofs.Sounds.{trim-after}
 use Rattle.record.specs.declared.queues.Queue.{Queue}
 use Rattle.record.specs.Queues.{freshQueue}
 use Rattle.rules.specs.declared.answers.Outcome.{Outcome}
 use Rattle.rules.specs.Answers.{refused, isRefused}
-use Rattle.rules.specs.Calls.{beginInsert, beginDelete, step}
-use Rattle.rules.specs.Runs.{
-  Call,
-  insert,
-  deleteMin,
-  steps,
-  backlog,
-  reply,
-  after,
-  afterAll,
-}
+use Rattle.rules.specs.Calls.{called}
+use Rattle.rules.specs.Runs.{Turn, calls, backlog, reply, after, afterAll}
 use Rattle.rules.proofs.Untouched.{untouched}
 use Rattle.entries.specs.Entries.{replyOf, replyTo, onBytes, bytesAfter, countOn}
 use Rattle.entries.specs.Lists.{
-  bytesAfterCall,
-  replyToCall,
+  bytesAfterTurn,
+  replyToTurn,
   bytesAfterAll,
   inNumbers,
   AcceptedIsRead,
@@ -60,34 +51,25 @@ taken b call h = go (isImage b) refl h
     go true e k = (e, rw e refl)
     go false e k = absurd (true≢false k)
 
-module _ (call : Queue → Outcome) (c : Call) (is : (q : Queue) → call q .queue ≡ after q c) where
-  accepted-read : AcceptedIsRead call
-  accepted-read b h =
-      let t = taken b call h in
-      let f = image-facts b (t .0) in
-      let q = queueIn b in
-      let e : onBytes b call .queue ≡ after q c = ap (λ (o : Outcome). o .queue) (t .1) ∙ is q in
-      let S : Sized (onBytes b call .queue) = rw e (sized-after q (sized-in b) c) in
-      let T : Trim (onBytes b call .queue) =
-      rw e (trim-after q (after q c) (untouched q c) (trim-in b (f .few) (f .short))) in
-      let g = bytes-accepted b (onBytes b call) h in (
-        g,
-        (
-          ap isImage g ∙ image-taken (onBytes b call .queue) S T,
-          ap queueIn g
-              ∙ read-write (onBytes b call .queue) S T,
-        ),
-      )
-
-pub insert-read :
-    (p due item height : ℕ) → AcceptedIsRead (λ q. beginInsert q p due item height)
-insert-read p due item height = accepted-read _ (insert p due item height) (λ q. refl)
-
-pub delete-read : (p : ℕ) → AcceptedIsRead (λ q. beginDelete q p)
-delete-read p = accepted-read _ (deleteMin p) (λ q. refl)
-
-pub step-read : (p : ℕ) → AcceptedIsRead (λ q. step q p)
-step-read p = accepted-read _ (steps p) (λ q. refl)
+pub accepted-read : AcceptedIsRead
+accepted-read k b h =
+    let call : (Queue → Outcome) = λ q. called q k in
+    let c = calls k in
+    let t = taken b call h in
+    let f = image-facts b (t .0) in
+    let q = queueIn b in
+    let e : onBytes b call .queue ≡ after q c = ap (λ (o : Outcome). o .queue) (t .1) in
+    let S : Sized (onBytes b call .queue) = rw e (sized-after q (sized-in b) c) in
+    let T : Trim (onBytes b call .queue) =
+    rw e (trim-after q (after q c) (untouched q c) (trim-in b (f .few) (f .short))) in
+    let g = bytes-accepted b (onBytes b call) h in (
+      g,
+      (
+        ap isImage g ∙ image-taken (onBytes b call .queue) S T,
+        ap queueIn g
+            ∙ read-write (onBytes b call .queue) S T,
+      ),
+    )
 
 -- a call on the image of a record
 module _ (q : Queue) (S : Sized q) (T : Trim q) where
@@ -113,24 +95,17 @@ module _ (q : Queue) (S : Sized q) (T : Trim q) where
   unfolding countOn
   count-image = rw (image-taken q S T) (ap backlogOf (read-write q S T))
 
-  bytes-call : (c : Call) → bytesAfterCall (imageOf q) c ≡ imageOf (after q c)
-  bytes-call (insert p due item height) =
-      called-after (λ (r : Queue). beginInsert r p due item height)
-      (kept-insert q S p due item height)
-  bytes-call (deleteMin p) = called-after (λ (r : Queue). beginDelete r p) (kept-delete q S p)
-  bytes-call (steps p) = called-after (λ (r : Queue). step r p) (kept-step q S p)
+  bytes-call : (c : Turn) → bytesAfterTurn (imageOf q) c ≡ imageOf (after q c)
+  bytes-call (calls c) = called-after (λ (r : Queue). called r c) (kept-call q S c)
   bytes-call backlog = refl
 
-  reply-call : (c : Call) → replyToCall (imageOf q) c ≡ inNumbers (reply q c)
-  reply-call (insert p due item height) =
-      ap replyTo (on-image (λ (r : Queue). beginInsert r p due item height))
-  reply-call (deleteMin p) = ap replyTo (on-image (λ (r : Queue). beginDelete r p))
-  reply-call (steps p) = ap replyTo (on-image (λ (r : Queue). step r p))
+  reply-call : (c : Turn) → replyToTurn (imageOf q) c ≡ inNumbers (reply q c)
+  reply-call (calls c) = ap replyTo (on-image (λ (r : Queue). called r c))
   reply-call backlog = ap (λ (k : Count). replyOf (reportedCount k)) count-image
 
 -- after a list of calls
 bytes-all :
-    (q : Queue) → Sized q → Trim q → (cs : List Call) →
+    (q : Queue) → Sized q → Trim q → (cs : List Turn) →
     bytesAfterAll (imageOf q) cs ≡ imageOf (afterAll q cs)
 unfolding bytesAfterAll afterAll
 bytes-all q S T [] = refl
@@ -138,7 +113,7 @@ bytes-all q S T (c ∷ cs) =
     ap (λ (b : List ℕ). bytesAfterAll b cs) (bytes-call q S T c)
     ∙ bytes-all (after q c) (sized-after q S c) (trim-after q (after q c) (untouched q c) T) cs
 
-pub same-run : (q : Queue) → Sized q → Trim q → (cs : List Call) → SameRun q (imageOf q) cs
+pub same-run : (q : Queue) → Sized q → Trim q → (cs : List Turn) → SameRun q (imageOf q) cs
 same-run q S T cs =
     let e = bytes-all q S T cs in
     let s = all-sized q S cs in
@@ -147,7 +122,7 @@ same-run q S T cs =
       bytes = e;
       image = ap isImage e ∙ image-taken (afterAll q cs) s t;
       read = ap queueIn e ∙ read-write (afterAll q cs) s t;
-      next = λ c. ap (λ (b : List ℕ). replyToCall b c) e ∙ reply-call (afterAll q cs) s t c;
+      next = λ c. ap (λ (b : List ℕ). replyToTurn b c) e ∙ reply-call (afterAll q cs) s t c;
     }
 
 pub bytes-are-the-record : BytesAreTheRecord

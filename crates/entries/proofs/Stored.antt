@@ -21,12 +21,13 @@ use Rattle.record.specs.Report.{report}
 use Rattle.rules.specs.declared.answers.Answer.{Answer}
 use Rattle.rules.specs.declared.answers.Outcome.{Outcome}
 use Rattle.rules.specs.Answers.{reported, refused, isRefused}
-use Rattle.rules.specs.Calls.{onRecord, beginInsertValid, beginDeleteValid, stepValid}
-use Rattle.rules.proofs.Inner.{step-inner, insert-inner, delete-inner}
+use Rattle.rules.specs.declared.calls.Call.{Call}
+use Rattle.rules.specs.Calls.{calledValid}
+use Rattle.rules.proofs.Inner.{call-inner}
 use Rattle.image.proofs.Sizes.{sized-in}
 use Rattle.image.specs.Image.{imageLength, imageOf, queueIn, isImage, passesOf, Sound}
 use Rattle.image_parts.specs.Given.{Gives}
-use Rattle.image_parts.proofs.Kept.{Kept, kept-insert, kept-delete, kept-step}
+use Rattle.image_parts.proofs.Kept.{Kept, kept-call}
 use Rattle.entries.specs.declared.replies.Reply.{Reply}
 use Rattle.entries.specs.Entries.{
   replyOf,
@@ -41,14 +42,14 @@ use Rattle.entries.specs.Entries.{
 
 -- a call on any bytes: by its inner form where they pass, and refused with 21 where not
 module _ (b : List ℕ) (inner : Queue → Outcome) where
-  pub passing : passesOf b ≡ true → onBytes b (λ q. onRecord q (inner q)) ≡ inner (queueIn b)
+  pub passing : passesOf b ≡ true → onBytes b (λ q. cond (valid q) (inner q) (refused q 21)) ≡ inner (queueIn b)
   unfolding onBytes passesOf
   passing h =
       rw (and-left (isImage b) (valid (queueIn b)) h, and-right (isImage b) (valid (queueIn b)) h)
       refl
 
   pub failing :
-      passesOf b ≡ false → onBytes b (λ q. onRecord q (inner q)) ≡ refused (queueIn b) 21
+      passesOf b ≡ false → onBytes b (λ q. cond (valid q) (inner q) (refused q 21)) ≡ refused (queueIn b) 21
   unfolding onBytes passesOf
   failing h = go (isImage b) (valid (queueIn b)) h
     where
@@ -61,7 +62,7 @@ module _ (b : List ℕ) (inner : Queue → Outcome) where
 
   pub turned-down :
       (r : Reply) → passesOf b ≡ false → r ≡ replyOf (report 21 []) →
-      let o = onBytes b (λ q. onRecord q (inner q)) in
+      let o = onBytes b (λ q. cond (valid q) (inner q) (refused q 21)) in
       (r ≡ replyTo o) × (b ≡ bytesAfter b o)
   unfolding bytesAfter
   turned-down r h e =
@@ -74,7 +75,7 @@ module _ (b : List ℕ) (inner : Queue → Outcome) where
       (after : List ℕ) (a : Answer) (r : Reply) → passesOf b ≡ true → Sound b →
       Kept (queueIn b) (inner (queueIn b)) → Gives (inner (queueIn b)) after a →
       r ≡ replyOf (reported a) →
-      let o = onBytes b (λ q. onRecord q (inner q)) in
+      let o = onBytes b (λ q. cond (valid q) (inner q) (refused q 21)) in
       (r ≡ replyTo o) × (after ≡ bytesAfter b o)
   unfolding bytesAfter
   carried-out after a r h s k g e =
@@ -158,23 +159,11 @@ module _ (b : List ℕ) (p n l : ℕ) where
     made-in after h e = let k = eq-eqb (length b) (imageLength p n) h in
         (rw (made-fresh p n l z, k) refl, rw (made-fresh p n l z, k) e)
 
--- the inner forms keep what a call keeps
-module _ (b : List ℕ) (s : Sound b) (p : ℕ) where
-  pub step-keeps : Kept (queueIn b) (stepValid (queueIn b) p)
-  step-keeps =
-      subst (Kept (queueIn b)) (step-inner (queueIn b) p (s .passes))
-      (kept-step (queueIn b) (sized-in b) p)
-
-  pub delete-keeps : Kept (queueIn b) (beginDeleteValid (queueIn b) p)
-  delete-keeps =
-      subst (Kept (queueIn b)) (delete-inner (queueIn b) p (s .passes))
-      (kept-delete (queueIn b) (sized-in b) p)
-
-  pub insert-keeps :
-      (due item height : ℕ) → Kept (queueIn b) (beginInsertValid (queueIn b) p due item height)
-  insert-keeps due item height =
-      subst (Kept (queueIn b)) (insert-inner (queueIn b) p due item height (s .passes))
-      (kept-insert (queueIn b) (sized-in b) p due item height)
+-- the inner form keeps what a call keeps
+pub call-keeps : (b : List ℕ) → Sound b → (c : Call) → Kept (queueIn b) (calledValid (queueIn b) c)
+call-keeps b s c =
+    subst (Kept (queueIn b)) (call-inner (queueIn b) c (s .passes))
+    (kept-call (queueIn b) (sized-in b) c)
 
 -- sizes that are not refused
 pub outside-not :

@@ -7,56 +7,53 @@ use Rattle.checks.specs.Backlog.{reportedCount}
 use Rattle.image.specs.Image.{imageOf, queueIn, isImage}
 use Rattle.record.specs.declared.queues.Queue.{Queue}
 use Rattle.record.specs.Queues.{freshQueue}
-use Rattle.rules.specs.declared.answers.Outcome.{Outcome}
 use Rattle.rules.specs.Answers.{reported, isRefused}
-use Rattle.rules.specs.Calls.{beginInsert, beginDelete, step}
+use Rattle.rules.specs.declared.calls.Call.{Call}
+use Rattle.rules.specs.Calls.{called}
 use Rattle.rules.specs.Demand3.{InRange}
-use Rattle.rules.specs.Runs.{Call, insert, deleteMin, steps, backlog, Reply as Replied, answered, counted, reply, afterAll}
+use Rattle.rules.specs.Runs.{Turn, calls, backlog, Reply as Replied, answered, counted, reply}
+use Rattle.rules.specs.Runs.{afterAll}
 use Rattle.entries.specs.declared.replies.Reply.{Reply}
 use Rattle.entries.specs.Entries.{replyOf, replyTo, onBytes, bytesAfter, countOn}
 
 -- the bytes that an entry leaves, and its reply
-abbrev pub bytesAfterCall : List ℕ → Call → List ℕ
-bytesAfterCall b (insert p due item height) = bytesAfter b (onBytes b (λ q. beginInsert q p due item height))
-bytesAfterCall b (deleteMin p) = bytesAfter b (onBytes b (λ q. beginDelete q p))
-bytesAfterCall b (steps p) = bytesAfter b (onBytes b (λ q. step q p))
-bytesAfterCall b backlog = b
+abbrev pub bytesAfterTurn : List ℕ → Turn → List ℕ
+bytesAfterTurn b (calls c) = bytesAfter b (onBytes b (λ q. called q c))
+bytesAfterTurn b backlog = b
 
-abbrev pub replyToCall : List ℕ → Call → Reply
-replyToCall b (insert p due item height) = replyTo (onBytes b (λ q. beginInsert q p due item height))
-replyToCall b (deleteMin p) = replyTo (onBytes b (λ q. beginDelete q p))
-replyToCall b (steps p) = replyTo (onBytes b (λ q. step q p))
-replyToCall b backlog = replyOf (reportedCount (countOn b))
+abbrev pub replyToTurn : List ℕ → Turn → Reply
+replyToTurn b (calls c) = replyTo (onBytes b (λ q. called q c))
+replyToTurn b backlog = replyOf (reportedCount (countOn b))
 
 -- the bytes after a list of calls
-unfoldable pub bytesAfterAll : List ℕ → List Call → List ℕ
+unfoldable pub bytesAfterAll : List ℕ → List Turn → List ℕ
 bytesAfterAll b [] = b
-bytesAfterAll b (c ∷ cs) = bytesAfterAll (bytesAfterCall b c) cs
+bytesAfterAll b (c ∷ cs) = bytesAfterAll (bytesAfterTurn b c) cs
 
 -- what a call on a record gives back, in numbers
 abbrev pub inNumbers : Replied → Reply
 inNumbers (answered a) = replyOf (reported a)
 inNumbers (counted k) = replyOf (reportedCount k)
 
--- A call on any bytes, if it is accepted, leaves the image of the defined record, and bytes that are
--- read as it.
-abbrev pub AcceptedIsRead : (Queue → Outcome) → Type 0
-AcceptedIsRead call =
-    (b : List ℕ) → isRefused (onBytes b call .answer) ≡ false →
-    (bytesAfter b (onBytes b call) ≡ imageOf (onBytes b call .queue))
-    × ((isImage (bytesAfter b (onBytes b call)) ≡ true)
-    × (queueIn (bytesAfter b (onBytes b call)) ≡ onBytes b call .queue))
+-- A call on any bytes, if it is accepted, leaves the image of the defined record, and bytes that
+-- are read as it.
+abbrev pub AcceptedIsRead : Type 0
+AcceptedIsRead =
+    (c : Call) (b : List ℕ) → let o = onBytes b (λ q. called q c) in
+    isRefused (o .answer) ≡ false →
+    (bytesAfter b o ≡ imageOf (o .queue))
+    × ((isImage (bytesAfter b o) ≡ true) × (queueIn (bytesAfter b o) ≡ o .queue))
 
--- Calls on bytes are the calls of the theorem of demand 3: after every list of calls on the image of
--- a queue that was just made, the bytes are the image of the record after these calls, are read as
--- this record, and the reply to the next call is that of the record, in numbers.
-pub record SameRun (q : Queue) (b : List ℕ) (cs : List Call) : Type 0 where
+-- Calls on bytes are the calls of the theorem of demand 3: after every list of calls on the image
+-- of a queue that was just made, the bytes are the image of the record after these calls, are read
+-- as this record, and the reply to the next call is that of the record, in numbers.
+pub record SameRun (q : Queue) (b : List ℕ) (cs : List Turn) : Type 0 where
   pub bytes : bytesAfterAll b cs ≡ imageOf (afterAll q cs)
   pub image : isImage (bytesAfterAll b cs) ≡ true
   pub read : queueIn (bytesAfterAll b cs) ≡ afterAll q cs
-  pub next : (c : Call) → replyToCall (bytesAfterAll b cs) c ≡ inNumbers (reply (afterAll q cs) c)
+  pub next : (c : Turn) → replyToTurn (bytesAfterAll b cs) c ≡ inNumbers (reply (afterAll q cs) c)
 
 abbrev pub BytesAreTheRecord : Type 0
 BytesAreTheRecord =
-    (P N L : ℕ) → InRange P N L → (cs : List Call) →
+    (P N L : ℕ) → InRange P N L → (cs : List Turn) →
     SameRun (freshQueue P N L) (imageOf (freshQueue P N L)) cs

@@ -10,8 +10,12 @@ use lists::runs::run_calls;
 #[no_mangle]
 pub extern "C" fn darthog_calls(image: &mut [u8], calls: &[u32], answers: &mut [u32]) -> u32
     ensures { λ r. ⌜ r ≡ listCode (now (image .entry)) ⌝ }
-    ensures { λ _. ⌜ now (image .exit) ≡ bytesAfterList (now (image .entry)) (now (calls .entry)) (now (answers .entry)) ⌝ }
-    ensures { λ _. ⌜ now (answers .exit) ≡ answersAfterList (now (image .entry)) (now (calls .entry)) (now (answers .entry)) ⌝ }
+    ensures { λ _.
+        ⌜ now (image .exit)
+        ≡ bytesAfterList (now (image .entry)) (now (calls .entry)) (now (answers .entry)) ⌝ }
+    ensures { λ _.
+        ⌜ now (answers .exit)
+        ≡ answersAfterList (now (image .entry)) (now (calls .entry)) (now (answers .entry)) ⌝ }
     ensures { λ _. ⌜ Agreed (now (image .entry)) (now (calls .entry)) (now (answers .entry)) ⌝ }
 {
     if !passes(image) {

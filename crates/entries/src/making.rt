@@ -37,7 +37,8 @@ pub extern "C" fn darthog_image_length(processors: u32, entries: u32) -> usize
 #[no_mangle]
 pub extern "C" fn darthog_make(image: &mut [u8], processors: u32, entries: u32, levels: u32) -> u32
     ensures { λ r. ⌜ r ≡ makeCode (now (image .entry)) (made processors entries levels) ⌝ }
-    ensures { λ _. ⌜ now (image .exit) ≡ bytesMade (now (image .entry)) (made processors entries levels) ⌝ }
+    ensures { λ _.
+        ⌜ now (image .exit) ≡ bytesMade (now (image .entry)) (made processors entries levels) ⌝ }
 {
     let refusal = making_refusal(processors, entries, levels);
     if 0 < refusal {

@@ -1,13 +1,13 @@
 // What changes no byte: Backlog, and a due minute from seconds.
 ghost use mathlib.Core.Path.{_≡_};
 ghost use Rattle.checks.specs.Backlog.{reportedCount};
-ghost use Rattle.checks.specs.Due.{minutesOf, reportedMinutes};
+ghost use Rattle.due.specs.Due.{minutesOf, reportedMinutes};
 ghost use Rattle.entries.specs.Entries.{replyOf, countOn};
 use crate::replies::Reply;
 use crate::replies::accepted;
 use crate::replies::minutes_reply;
 use crate::replies::refusal;
-use checks::due_from_seconds;
+use due::due_from_seconds;
 use image_check::passes;
 use image_check::pending;
 

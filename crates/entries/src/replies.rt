@@ -1,11 +1,11 @@
 // What an entry gives back: document 01's number of the answer, and its values or 0.
 ghost use mathlib.Core.Path.{_≡_};
 ghost use mathlib.Core.List.{[], _∷_};
-ghost use Rattle.checks.specs.Due.{reportedMinutes};
+ghost use Rattle.due.specs.Due.{reportedMinutes};
 ghost use Rattle.record.specs.Report.{report};
 ghost use Rattle.rules.specs.Answers.{reported};
 ghost use Rattle.entries.specs.Entries.{replyOf};
-use checks::Minutes;
+use due::Minutes;
 use lists::runs::numbers_of;
 use rules::Answer;
 

@@ -13,6 +13,7 @@ use Rattle.record.specs.declared.nodes.Use.the-variants as use′
 use Rattle.record.specs.declared.stages.Seek.the-variants as seek
 use Rattle.record.specs.declared.stages.Insert.the-variants as ins
 use Rattle.record.specs.declared.stages.Removal.the-variants as rem
+use Rattle.record.specs.declared.stages.Job.the-variants as jobs
 use Rattle.record.specs.declared.stages.Delete.the-variants as del
 use Rattle.record.specs.declared.stages.Stage.{Stage}
 use Rattle.record.specs.declared.stages.Stage.the-variants as stage
@@ -107,19 +108,19 @@ stage-back (stage.Insert ins.Stamp) = refl
 stage-back (stage.Delete (del.Next a)) = refl
 stage-back (stage.Delete (del.Stamped a)) = refl
 stage-back (stage.Delete (del.Mark a)) = refl
-stage-back (stage.Delete (del.Removal (rem.Search a))) = refl
-stage-back (stage.Delete (del.Removal rem.HoldNode)) = refl
-stage-back (stage.Delete (del.Removal (rem.Seek (seek.Approach a)))) = refl
-stage-back (stage.Delete (del.Removal (rem.Seek (seek.Take a)))) = refl
-stage-back (stage.Delete (del.Removal (rem.Seek (seek.Confirm a)))) = refl
-stage-back (stage.Delete (del.Removal (rem.Seek (seek.Release a b)))) = refl
-stage-back (stage.Delete (del.Removal (rem.HoldOwn a))) = refl
-stage-back (stage.Delete (del.Removal (rem.Unlink a))) = refl
-stage-back (stage.Delete (del.Removal (rem.Back a))) = refl
-stage-back (stage.Delete (del.Removal (rem.FreeOwn a))) = refl
-stage-back (stage.Delete (del.Removal (rem.FreeLevel a))) = refl
-stage-back (stage.Delete (del.Removal rem.FreeNode)) = refl
-stage-back (stage.Delete (del.Removal rem.Retire)) = refl
+stage-back (stage.Removal jobs.Deliver (rem.Search a)) = refl
+stage-back (stage.Removal jobs.Deliver rem.HoldNode) = refl
+stage-back (stage.Removal jobs.Deliver (rem.Seek (seek.Approach a))) = refl
+stage-back (stage.Removal jobs.Deliver (rem.Seek (seek.Take a))) = refl
+stage-back (stage.Removal jobs.Deliver (rem.Seek (seek.Confirm a))) = refl
+stage-back (stage.Removal jobs.Deliver (rem.Seek (seek.Release a b))) = refl
+stage-back (stage.Removal jobs.Deliver (rem.HoldOwn a)) = refl
+stage-back (stage.Removal jobs.Deliver (rem.Unlink a)) = refl
+stage-back (stage.Removal jobs.Deliver (rem.Back a)) = refl
+stage-back (stage.Removal jobs.Deliver (rem.FreeOwn a)) = refl
+stage-back (stage.Removal jobs.Deliver (rem.FreeLevel a)) = refl
+stage-back (stage.Removal jobs.Deliver rem.FreeNode) = refl
+stage-back (stage.Removal jobs.Deliver rem.Retire) = refl
 
 pub stage-taken : (s : Stage) → stageTaken (stageCode s) ≡ true
 stage-taken s = rw (stage-back s) (code-same (stageCode s))

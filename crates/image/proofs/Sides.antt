@@ -8,9 +8,9 @@ use lib.ListN.{length, getD}
 use Rattle.laws.proofs.Counting.{and-left, and-right}
 use Rattle.record.specs.declared.nodes.Node.{Node}
 use Rattle.record.specs.declared.queues.Processor.{Processor}
-use Rattle.image.specs.Numbers.{eight}
+use Rattle.image.specs.Numbers.{bytesOf32, number32, eight}
 use Rattle.image.specs.Tags.{stampTimed, stampOf, stampTaken, useTimed, useOf, useTaken}
-use Rattle.image.specs.Tags.{stageCode, stageOf}
+use Rattle.image.specs.Tags.{Code, stageCode, stageOf}
 use Rattle.image.specs.Pieces.{timedBytes, timedAt, codeBytes, codeAt, nodeImage, readNode}
 use Rattle.image.specs.Pieces.{processorImage, readProcessor}
 use Rattle.image.specs.OneToOne.{Bytes}
@@ -93,6 +93,8 @@ module _ (b : List ℕ) (low : Bytes b) where
   unfolding processorImage readProcessor
   processor-kept long ok =
       let e = code-eq (stageCode (stageOf (codeAt b 5))) (codeAt b 5) ok in
-      ap (λ (r : List ℕ). r ++ (getD b 4 0 ∷ []) ++ codeBytes (stageCode (stageOf (codeAt b 5))) ++
-      eight (eight b 9) 0) (four-back b low 0)
-      ∙ rw e (from-whole b 17 long)
+      ap (λ (x : Code). bytesOf32 (number32 b 0) ++ (getD b 4 0 ∷ []) ++ codeBytes x ++ eight
+      (eight b 9) 0) e
+      ∙ ap (λ (r : List ℕ). r ++ (getD b 4 0 ∷ []) ++ codeBytes (codeAt b 5) ++ eight (eight b 9) 0)
+      (four-back b low 0)
+      ∙ from-whole b 17 long

@@ -1,4 +1,5 @@
--- Lists made of pieces, one for each number below a bound. None of these unfolds unasked, since the bound is 202.
+-- Lists made of pieces, one for each number below a bound. None of these unfolds unasked, since the
+-- bound is 202.
 use Prim.Native.Nat.{ℕ, zero, suc}
 use mathlib.Core.Bool.{Bool}
 use mathlib.Core.List.{List, [], _∷_, _++_}

@@ -9,7 +9,8 @@ bytesOf32 v = v % 256 ∷ v / 256 % 256 ∷ v / 65536 % 256 ∷ v / 16777216 ∷
 
 -- the number in the four bytes from place i on
 abbrev pub number32 : List ℕ → ℕ → ℕ
-number32 b i = getD b i 0 + 256 * getD b (i + 1) 0 + 65536 * getD b (i + 2) 0 + 16777216 * getD b (i + 3) 0
+number32 b i =
+    getD b i 0 + 256 * getD b (i + 1) 0 + 65536 * getD b (i + 2) 0 + 16777216 * getD b (i + 3) 0
 
 -- the eight numbers from place i on
 abbrev pub eight : List ℕ → ℕ → List ℕ

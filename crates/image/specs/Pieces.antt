@@ -21,7 +21,8 @@ use lib.ListN.{getD}
 use Rattle.record.specs.declared.nodes.Node.{Node}
 use Rattle.record.specs.declared.queues.Processor.{Processor}
 use Rattle.image.specs.Numbers.{bytesOf32, number32, eight}
-use Rattle.image.specs.Tags.{Timed, Code, markByte, timed, stampTimed, stampOf, stampTaken, useTimed, useOf, useTaken, code, stageCode, stageOf, stageTaken}
+use Rattle.image.specs.Tags.{Timed, Code, markByte, timed, stampTimed, stampOf, stampTaken}
+use Rattle.image.specs.Tags.{useTimed, useOf, useTaken, code, stageCode, stageOf, stageTaken}
 
 -- what bytes are read as, and whether they are the ones that are written for it
 pub record NodeRead : Type 0 where
@@ -45,7 +46,8 @@ abbrev pub codeAt : List ℕ → ℕ → Code
 codeAt b i = code (getD b i 0) (getD b (i + 1) 0) (getD b (i + 2) 0) (getD b (i + 3) 0)
 
 abbrev pub linksImage : Node → List ℕ
-linksImage n = eight (n .forward) 0 ++ eight (n .locks) 0 ++ (n .lock ∷ []) ++ (markByte (n .mark) ∷ [])
+linksImage n =
+    eight (n .forward) 0 ++ eight (n .locks) 0 ++ (n .lock ∷ []) ++ (markByte (n .mark) ∷ [])
 
 abbrev pub entryImage : Node → List ℕ
 entryImage n =
@@ -59,7 +61,8 @@ entryImage n =
 unfoldable pub nodeImage : Node → List ℕ
 nodeImage n = linksImage n ++ entryImage n
 
--- the node in 41 bytes, and whether they are taken: the mark is 0 or 1, and the stamp and the use are ones that are written
+-- the node in 41 bytes, and whether they are taken: the mark is 0 or 1, and the stamp and the use
+-- are ones that are written
 unfoldable pub readNode : List ℕ → NodeRead
 readNode b = record {
   ok = leb (getD b 17 0) 1 && (stampTaken (timedAt b 18) && useTaken (timedAt b 36));
@@ -78,11 +81,13 @@ readNode b = record {
 }
 
 unfoldable pub processorImage : Processor → List ℕ
-processorImage c = bytesOf32 (c .begin) ++ (c .own ∷ []) ++ codeBytes (stageCode (c .stage)) ++ eight (c .saved) 0
+processorImage c =
+    bytesOf32 (c .begin) ++ (c .own ∷ []) ++ codeBytes (stageCode (c .stage)) ++ eight (c .saved) 0
 
 -- the processor in 17 bytes, and whether they are taken: the stage is one that is written
 unfoldable pub readProcessor : List ℕ → ProcessorRead
 readProcessor b = record {
   ok = stageTaken (codeAt b 5);
-  processor = record { begin = number32 b 0; own = getD b 4 0; stage = stageOf (codeAt b 5); saved = eight b 9 };
+  processor = record
+      { begin = number32 b 0; own = getD b 4 0; stage = stageOf (codeAt b 5); saved = eight b 9 };
 }

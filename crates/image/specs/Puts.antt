@@ -9,7 +9,8 @@ puts b o (e ∷ es) = puts (set b (o + e .0) (e .1)) o es
 
 -- a number of four bytes from place j on
 abbrev pub four : ℕ → ℕ → List (ℕ × ℕ)
-four j v = (j, v % 256) ∷ (j + 1, v / 256 % 256) ∷ (j + 2, v / 65536 % 256) ∷ (j + 3, v / 16777216) ∷ []
+four j v =
+    (j, v % 256) ∷ (j + 1, v / 256 % 256) ∷ (j + 2, v / 65536 % 256) ∷ (j + 3, v / 16777216) ∷ []
 
 -- from the list's start
 abbrev pub putsIn : List ℕ → List (ℕ × ℕ) → List ℕ

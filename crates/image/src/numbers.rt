@@ -18,7 +18,8 @@ pub fn number_from(b: &[u8], at: usize) -> u32
 // The clock ticks.
 pub fn tick(b: &mut [u8])
     requires { ⌜ (7 ≤ length (now b)) × (number32 (now b) 3 < 999999) ⌝ }
-    ensures { λ _. ⌜ now (b .exit) ≡ puts (now (b .entry)) 0 (four 3 (number32 (now (b .entry)) 3 + 1)) ⌝ }
+    ensures { λ _.
+        ⌜ now (b .exit) ≡ puts (now (b .entry)) 0 (four 3 (number32 (now (b .entry)) 3 + 1)) ⌝ }
 {
     let t = number_from(b, 3) + 1;
     b[3] = (t % 256) as u8;

@@ -1,10 +1,11 @@
 -- What a begin stores, and what it may take for granted.
 use mathlib.Core.Path.{_≡_}
-use mathlib.Core.Bool.{Bool, true, false, cond, _||_}
+use mathlib.Core.Bool.{cond}
 use mathlib.Core.List.{List, [], _∷_, _++_}
 use Prim.Native.Nat.{ℕ, zero, suc, _+_, _*_, _≤_}
-use lib.Dec.{eqb, ltb}
+use lib.Dec.{eqb}
 use lib.ListN.{length, getD}
+use Rattle.record.specs.Limits.{maxNumber}
 use Rattle.image.specs.Puts.{four}
 
 -- v at the first n levels from place j on
@@ -20,7 +21,8 @@ abbrev pub used : ℕ → List (ℕ × ℕ)
 used height = (35, height) ∷ (36, 1) ∷ four 37 0
 
 abbrev pub fixed : ℕ → ℕ → ℕ → ℕ → ℕ → List (ℕ × ℕ)
-fixed h t due item height = unmarked h ++ (four 23 due ++ (four 27 t ++ (four 31 item ++ used height)))
+fixed h t due item height =
+    unmarked h ++ (four 23 due ++ (four 27 t ++ (four 31 item ++ used height)))
 
 abbrev pub fills : ℕ → ℕ → ℕ → ℕ → ℕ → ℕ → ℕ → List (ℕ × ℕ)
 fills l tail h t due item height = levels 0 l tail ++ (levels 8 l 0 ++ fixed h t due item height)
@@ -37,10 +39,11 @@ pub record Based (b : List ℕ) (base : ℕ) : Type 0 where
   pub entries-high : getD b 1 0 ≤ 200
   pub levels-high : getD b 2 0 ≤ 8
 
--- of the best so far, retired at the time then, and node x, with its use's tag and time
-abbrev pub longerOf : ℕ → ℕ → ℕ → ℕ → ℕ → ℕ
-longerOf best then x tag time = cond (eqb tag 2) (cond (eqb best 0 || ltb time then) x best) best
+-- A use is read as one number, tag + 256 * time: 0 never used, 1 in use, and 2 + 256 * t where the
+-- node was retired at t. In a record that passes none of these reaches `late`.
+abbrev pub late : ℕ
+late = 256 * (maxNumber + 1)
 
--- a use of this tag is never used
-abbrev pub neverTag : ℕ → Bool
-neverTag t = cond (eqb t 2) false (cond (eqb t 1) false true)
+-- so that a node in use comes after those that were retired
+abbrev pub endOf : ℕ → ℕ
+endOf used = cond (eqb used 1) late used

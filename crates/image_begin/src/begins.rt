@@ -1,68 +1,53 @@
-// The begins in place, on the image of a record that passes check 21; the image that they leave is one again.
-ghost use mathlib.Core.Path.{_≡_};
-ghost use Rattle.rules.specs.Calls.{beginInsertValid, beginDeleteValid};
-ghost use Rattle.image.specs.Image.{queueIn, Sound};
-ghost use Rattle.image_parts.specs.Given.{Gives};
+// The begins in place, on the image of a record that passes check 21; the image that they leave is
+// one again.
+ghost use Rattle.image.specs.Image.{Sound};
+ghost use Rattle.image_parts.specs.Given.{Called};
+ghost use Rattle.rules.specs.declared.calls.Call.the-variants as call;
 use crate::choice::choose;
 use crate::stores::begin;
 use crate::stores::fill;
-use checks::limits::NUMBER;
-use choosing::begins::numbers_refusal;
 use image::numbers::number_from;
 use image::numbers::tick;
+use image_parts::refused::refusal_at;
 use rules::Answer;
+use rules::Call;
 
 // The begin of a Delete_Min.
 pub fn begin_delete_at(image: &mut [u8], processor: u32) -> Answer
     requires { ⌜ Sound (now image) ⌝ }
-    ensures { λ r. ⌜ Gives (beginDeleteValid (queueIn (now (image .entry))) processor) (now (image .exit)) r × Sound (now (image .exit)) ⌝ }
+    ensures { λ r.
+        ⌜ Called (now (image .entry)) (call.DeleteMin processor) (now (image .exit)) r ⌝ }
 {
-    if NUMBER <= number_from(image, 3) {
-        return Answer::Refused(31);
-    }
-    if (image[0] as u32) <= processor {
-        return Answer::Refused(32);
-    }
-    let at = 7 + 17 * (processor as usize);
-    if image[at + 5] != 0 {
-        return Answer::Refused(33);
+    let refusal = refusal_at(image, Call::DeleteMin(processor));
+    if 0 < refusal {
+        return Answer::Refused(refusal);
     }
     let t = number_from(image, 3) + 1;
     tick(image);
-    begin(image, at, t, 0, 11, 1);
+    begin(image, 7 + 17 * (processor as usize), t, 0, 11, 1);
     Answer::Began(t)
 }
 
 // The begin of an Insert.
 pub fn begin_insert_at(image: &mut [u8], processor: u32, due: u32, item: u32, height: u32) -> Answer
     requires { ⌜ Sound (now image) ⌝ }
-    ensures { λ r. ⌜ Gives (beginInsertValid (queueIn (now (image .entry))) processor due item height) (now (image .exit)) r × Sound (now (image .exit)) ⌝ }
+    ensures { λ r.
+        ⌜ Called (now (image .entry)) (call.Insert processor due item height)
+        (now (image .exit)) r ⌝ }
 {
-    let clock = number_from(image, 3);
-    if NUMBER <= clock {
-        return Answer::Refused(31);
-    }
-    let processors = image[0];
-    if (processors as u32) <= processor {
-        return Answer::Refused(32);
-    }
-    let at = 7 + 17 * (processor as usize);
-    if image[at + 5] != 0 {
-        return Answer::Refused(33);
-    }
-    let l = image[2];
-    let refusal = numbers_refusal(due, item, height, l);
+    let refusal = refusal_at(image, Call::Insert(processor, due, item, height));
     if 0 < refusal {
         return Answer::Refused(refusal);
     }
-    let base = 7 + 17 * (processors as usize);
+    let base = 7 + 17 * (image[0] as usize);
     let x = choose(image, base);
     if x == 0 {
         return Answer::Refused(37);
     }
+    let l = image[2];
     let tail = image[1] + 1;
     let h = (processor as u8) + 1;
-    let t = clock + 1;
+    let t = number_from(image, 3) + 1;
     tick(image);
     fill(
         image,
@@ -75,6 +60,6 @@ pub fn begin_insert_at(image: &mut [u8], processor: u32, due: u32, item: u32, he
         item,
         height as u8,
     );
-    begin(image, at, t, x, 1, l);
+    begin(image, 7 + 17 * (processor as usize), t, x, 1, l);
     Answer::Began(t)
 }

@@ -42,7 +42,9 @@ fn put_unmarked(b: &mut [u8], o: usize, h: u8)
 
 fn put_entry(b: &mut [u8], o: usize, t: u32, due: u32, item: u32)
     requires { ⌜ (o + 41 ≤ length (now b)) × (length (now b) ≤ 8561) ⌝ }
-    ensures { λ _. ⌜ now (b .exit) ≡ puts (puts (puts (now (b .entry)) o (four 23 due)) o (four 27 t)) o (four 31 item) ⌝ }
+    ensures { λ _.
+        ⌜ now (b .exit)
+        ≡ puts (puts (puts (now (b .entry)) o (four 23 due)) o (four 27 t)) o (four 31 item) ⌝ }
 {
     put_number(b, o, 23, due);
     put_number(b, o, 27, t);

@@ -1,16 +1,18 @@
--- The tests of a stage's numbers, by its tag. Assumes nothing.
-use mathlib.Core.Path.{_≡_, refl, sym}
-use mathlib.Core.Bool.{Bool, true, false, _&&_, and-true, and-false}
+-- A stage's numbers: the bounds that the table of stages sets for a tag are what check 21 and the
+-- reading of the bytes ask for. Assumes nothing.
+use mathlib.Core.Path.{_≡_, refl, sym, _∙_, ap, subst}
+use mathlib.Core.Bool.{Bool, true, false, cond, not, _&&_, _||_, and-false, false≢true}
 use Prim.Native.Nat.{ℕ, zero, suc, _+_, _≤_, _<_}
+use native.Mathlib.Decide.{ℕ-discrete}
 use native.Mathlib.Omega.{arith}
 use lib.Dec.{eqb, leb}
-use lib.ListN.{getD}
-use borrow.Author.Tests.{eq-eqb, ne-eqb, le-leb, eqb-true, eqb-false}
+use borrow.Author.Tests.{eq-eqb, ne-eqb, le-leb, lt-leb, leb-true, eqb-true, eqb-false, not-true}
+use Rattle.laws.proofs.Counting.{and-left, and-right, every-at}
 use Rattle.checks.specs.declared.check.Sizes.{Sizes}
 use Rattle.checks.specs.Check.{within, carriedValid}
-use Rattle.image.specs.Tags.{code, stageOf, stageTaken}
-use Rattle.record.specs.Stages.{carried}
-use Rattle.image_check.specs.Kinds.{kinds, kindTest}
+use Rattle.record.specs.Stages.{Row, place, rowOf, carriedOf, carried}
+use Rattle.image.specs.Tags.{code, codeOf, codeSame, stageOf, stageTaken}
+use Rattle.image_check.specs.Bounds.{rowAt, between, inBounds}
 
 pub flip : (a b : ℕ) → eqb a b ≡ eqb b a
 flip a b = go (eqb a b) refl
@@ -22,426 +24,248 @@ flip a b = go (eqb a b) refl
 pub same : (a : ℕ) → eqb a a ≡ true
 same a = eq-eqb a a refl
 
--- what a stage of each kind comes to
-two : (e o p w : Bool) → (e && (((o && (p && w)) && p) && true)) ≡ (e && (o && (p && w)))
-two false o p w = refl
-two true false p w = refl
-two true true false w = refl
-two true true true true = refl
-two true true true false = refl
+-- a bound picked by a column
+pub picked : (n k : ℕ) {v : ℕ} {m M : Bool} → v ≡ cond m n k → m ≡ M → v ≡ cond M n k
+picked n k e g = e ∙ ap (λ (c : Bool). cond c n k) g
 
-three : (e o p w : Bool) → (((o && (p && w)) && e) && true) ≡ (e && (o && (p && w)))
-three true false p w = refl
-three true true false w = refl
-three true true true true = refl
-three true true true false = refl
-three false o p w = rw (and-false (o && (p && w))) refl
+pub picked-twice :
+    (n l : ℕ) {v k : ℕ} {m M p P : Bool} → v ≡ cond m n k → m ≡ M → k ≡ cond p l 0 → p ≡ P →
+    v ≡ cond M n (cond P l 0)
+picked-twice n l {k = k} {M = M} e g f h = picked n k e g ∙ ap (cond M n) (picked l 0 f h)
 
-five : (e o p w m : Bool) → (e && (((o && (p && w)) && p) && m)) ≡ ((e && (o && (p && w))) && m)
-five false o p w m = refl
-five true false p w m = refl
-five true true false w m = refl
-five true true true true m = refl
-five true true true false m = refl
+-- a test against a bound v, which is w
+module _ {v w x : ℕ} (e : v ≡ w) where
+  pub low-ok : v ≤ x → leb w x ≡ true
+  low-ok h = le-leb w x (omega arith)
 
-nothing : (a i x o : Bool) → ((a && (i && x)) && (((o && true) && true) && true))
-    ≡ ((a && (i && x)) && o)
-nothing a i x o = rw (and-true o, and-true o, and-true o) refl
+  pub low-not : x < v → leb w x ≡ false
+  low-not h = lt-leb w x (omega arith)
 
-abbrev both : Sizes → ℕ → ℕ → ℕ → ℕ → ℕ → Bool
-both s t a i x own =
-    stageTaken (code t a i x) && carriedValid s (carried (stageOf (code t a i x))) own
+  pub top-ok : x ≤ v → leb x w ≡ true
+  top-ok h = le-leb x w (omega arith)
 
-module _ (s : Sizes) (a i x own : ℕ) (tall : 1 ≤ s .levels) where
-  tag-0 : both s 0 a i x own ≡ kindTest 0 a i x own (s .entries) (s .levels)
-  tag-0 = rw (
-    flip 0 a,
-    flip 0 i,
-    flip 0 x,
-    le-leb 0 (s .entries + 1) (omega arith),
-    le-leb 1
-        (s .levels) tall,
-  ) (nothing (eqb a 0) (eqb i 0) (eqb x 0) (leb own (s .entries + 1)))
+  pub top-not : v < x → leb x w ≡ false
+  top-not h = lt-leb x w (omega arith)
 
-  tag-1 : both s 1 a i x own ≡ kindTest 2 a i x own (s .entries) (s .levels)
-  tag-1 = rw (same a, same i, flip 0 x)
-      (two (eqb x 0) (within own (s .entries)) (leb a (s .entries + 1)) (within i (s .levels)))
+-- two tests that agree for all values of five
+abbrev agree : Bool → Bool → Bool
+agree a b = cond a b (not b)
 
-  tag-2 : both s 2 a i x own ≡ kindTest 2 a i x own (s .entries) (s .levels)
-  tag-2 = rw (same a, same i, flip 0 x)
-      (two (eqb x 0) (within own (s .entries)) (leb a (s .entries + 1)) (within i (s .levels)))
+agrees : (a b : Bool) → agree a b ≡ true → a ≡ b
+agrees true b h = sym h
+agrees false true h = h
+agrees false false h = refl
 
-  tag-3 : both s 3 a i x own ≡ kindTest 2 a i x own (s .entries) (s .levels)
-  tag-3 = rw (same a, same i, flip 0 x)
-      (two (eqb x 0) (within own (s .entries)) (leb a (s .entries + 1)) (within i (s .levels)))
+abbrev each : (Bool → Bool) → Bool
+each f = f true && f false
 
-  tag-4 : both s 4 a i x own ≡ kindTest 2 a i x own (s .entries) (s .levels)
-  tag-4 = rw (same a, same i, flip 0 x)
-      (two (eqb x 0) (within own (s .entries)) (leb a (s .entries + 1)) (within i (s .levels)))
+each-at : (f : Bool → Bool) → each f ≡ true → (b : Bool) → f b ≡ true
+each-at f h true = and-left (f true) (f false) h
+each-at f h false = and-right (f true) (f false) h
 
-  tag-5 : both s 5 a i x own ≡ kindTest 3 a i x own (s .entries) (s .levels)
-  tag-5 = rw (same a, same i, same x)
-      (three (leb x (s .entries + 1)) (within own (s .entries)) (leb a (s .entries + 1))
-      (within i (s .levels)))
+module _ (f g : Bool → Bool → Bool → Bool → Bool → Bool) where
+  abbrev five : Bool → Bool → Bool → Bool → Bool → Bool
+  five a b c d e = agree (f a b c d e) (g a b c d e)
 
-  tag-6 : both s 6 a i x own ≡ kindTest 2 a i x own (s .entries) (s .levels)
-  tag-6 = rw (same a, same i, flip 0 x)
-      (two (eqb x 0) (within own (s .entries)) (leb a (s .entries + 1)) (within i (s .levels)))
+  all-ways :
+      each (λ a. each (λ b. each (λ c. each (λ d. each (λ e. five a b c d e))))) ≡ true →
+      (a b c d e : Bool) → f a b c d e ≡ g a b c d e
+  all-ways h a b c d e =
+      agrees (f a b c d e) (g a b c d e)
+      (each-at (λ e. five a b c d e)
+      (each-at (λ d. each (λ e. five a b c d e))
+      (each-at (λ c. each (λ d. each (λ e. five a b c d e)))
+      (each-at (λ b. each (λ c. each (λ d. each (λ e. five a b c d e))))
+      (each-at (λ a. each (λ b. each (λ c. each (λ d. each (λ e. five a b c d e))))) h a) b) c) d)
+      e)
 
-  tag-7 : both s 7 a i x own ≡ kindTest 2 a i x own (s .entries) (s .levels)
-  tag-7 = rw (same a, same i, flip 0 x)
-      (two (eqb x 0) (within own (s .entries)) (leb a (s .entries + 1)) (within i (s .levels)))
+zero-low : (x : ℕ) → eqb 0 x ≡ leb x 0
+zero-low zero = refl
+zero-low (suc x) = ne-eqb 0 (suc x) (λ e. omega arith) ∙ sym (lt-leb (suc x) 0 (omega arith))
 
-  tag-8 : both s 8 a i x own ≡ kindTest 2 a i x own (s .entries) (s .levels)
-  tag-8 = rw (same a, same i, flip 0 x)
-      (two (eqb x 0) (within own (s .entries)) (leb a (s .entries + 1)) (within i (s .levels)))
+-- an entry's node is at most the tail
+lower : (a n : ℕ) → (leb a (n + 1) && within a n) ≡ within a n
+lower a n = go (within a n) refl
+  where
+    go : (t : Bool) → within a n ≡ t → (leb a (n + 1) && t) ≡ t
+    go true e =
+        let h = leb-true a n (and-right (leb 1 a) (leb a n) e) in
+        rw (le-leb a (n + 1) (omega arith)) refl
+    go false e = and-false (leb a (n + 1))
 
-  tag-9 : both s 9 a i x own ≡ kindTest 1 a i x own (s .entries) (s .levels)
-  tag-9 = rw (
-    flip 0 a,
-    flip 0 i,
-    flip 0 x,
-    le-leb 0 (s .entries + 1) (omega arith),
-    le-leb 1
-        (s .levels) tall,
-  ) (nothing (eqb a 0) (eqb i 0) (eqb x 0) (within own (s .entries)))
+-- a row with these columns, for the numbers a, i, x
+module _ (s : Sizes) (t a i x own : ℕ) (tall : 1 ≤ s .levels) where
+  abbrev line : Bool → Bool → Bool → Bool → Row
+  line owns placed marks releases = record {
+    tag = t;
+    owns = owns;
+    placed = placed;
+    walks = false;
+    marks = marks;
+    holdsPlace = false;
+    holdsOwn = false;
+    holdsNode = false;
+    place = cond placed (place a i) (place 0 1);
+    releases = releases;
+    ahead = cond releases x 0;
+  }
 
-  tag-10 : both s 10 a i x own ≡ kindTest 1 a i x own (s .entries) (s .levels)
-  tag-10 = rw (
-    flip 0 a,
-    flip 0 i,
-    flip 0 x,
-    le-leb 0 (s .entries + 1) (omega arith),
-    le-leb 1
-        (s .levels) tall,
-  ) (nothing (eqb a 0) (eqb i 0) (eqb x 0) (within own (s .entries)))
+  abbrev taken : Row → Bool
+  taken r = codeSame (codeOf r) (code t a i x) && carriedValid s (carriedOf r) own
 
-  tag-11 : both s 11 a i x own ≡ kindTest 4 a i x own (s .entries) (s .levels)
-  tag-11 = rw (same a, same i, flip 0 x)
-      (two (eqb x 0) (leb own (s .entries + 1)) (leb a (s .entries + 1)) (within i (s .levels)))
+  abbrev A : Bool
+  A = leb a (s .entries + 1)
 
-  tag-12 : both s 12 a i x own ≡ kindTest 4 a i x own (s .entries) (s .levels)
-  tag-12 = rw (same a, same i, flip 0 x)
-      (two (eqb x 0) (leb own (s .entries + 1)) (leb a (s .entries + 1)) (within i (s .levels)))
+  abbrev W : Bool
+  W = within i (s .levels)
 
-  tag-13 : both s 13 a i x own ≡ kindTest 5 a i x own (s .entries) (s .levels)
-  tag-13 = rw (same a, same i, flip 0 x)
-      (five (eqb x 0) (leb own (s .entries + 1)) (leb a (s .entries + 1)) (within i (s .levels))
-      (within a (s .entries)))
+  abbrev X : Bool
+  X = leb x (s .entries + 1)
 
-  tag-14 : both s 14 a i x own ≡ kindTest 2 a i x own (s .entries) (s .levels)
-  tag-14 = rw (same a, same i, flip 0 x)
-      (two (eqb x 0) (within own (s .entries)) (leb a (s .entries + 1)) (within i (s .levels)))
+  abbrev owned : Bool → Bool
+  owned o = between (cond o 1 0) own (cond o (s .entries) (s .entries + 1))
 
-  tag-15 : both s 15 a i x own ≡ kindTest 1 a i x own (s .entries) (s .levels)
-  tag-15 = rw (
-    flip 0 a,
-    flip 0 i,
-    flip 0 x,
-    le-leb 0 (s .entries + 1) (omega arith),
-    le-leb 1
-        (s .levels) tall,
-  ) (nothing (eqb a 0) (eqb i 0) (eqb x 0) (within own (s .entries)))
+  own-tests : (o : Bool) → cond o (within own (s .entries)) (leb own (s .entries + 1)) ≡ owned o
+  own-tests true = refl
+  own-tests false = rw (le-leb 0 own (omega arith)) refl
 
-  tag-16 : both s 16 a i x own ≡ kindTest 2 a i x own (s .entries) (s .levels)
-  tag-16 = rw (same a, same i, flip 0 x)
-      (two (eqb x 0) (within own (s .entries)) (leb a (s .entries + 1)) (within i (s .levels)))
+  line-tests :
+      (o p m e : Bool) → (m ≡ true → p ≡ true) → taken (line o p m e)
+      ≡ inBounds (line o p m e) a i x own (s .entries) (s .levels)
+  -- by the columns placed, marks and releases
+  line-tests o true false false h =
+      rw (same t, same a, same i, zero-low x, le-leb 0 a (omega arith), own-tests o)
+      (all-ways (λ z O A W u. z && (O && (A && W) && A && true)) (λ z O A W u. W && z && A && O)
+      refl (leb x 0) (owned o) A W true)
+  line-tests o true false true h =
+      rw (same t, same a, same i, same x, le-leb 0 a (omega arith), own-tests o)
+      (all-ways (λ x O A W u. O && (A && W) && x && true) (λ x O A W u. W && x && A && O) refl
+      X (owned o) A W true)
+  line-tests o true true false h =
+      rw (same t, same a, same i, zero-low x, own-tests o, sym (lower a (s .entries)))
+      (all-ways (λ z O A W B. z && (O && (A && W) && A && (A && B)))
+      (λ z O A W B. W && z && (A && B) && O) refl (leb x 0) (owned o) A W (within a (s .entries)))
+  line-tests o true true true h =
+      rw (same t, same a, same i, same x, own-tests o, sym (lower a (s .entries)))
+      (all-ways (λ x O A W B. O && (A && W) && x && (A && B))
+      (λ x O A W B. W && x && (A && B) && O) refl X (owned o) A W (within a (s .entries)))
+  line-tests o false false false h =
+      rw (
+        same t,
+        zero-low a,
+        zero-low i,
+        zero-low x,
+        le-leb 0 a (omega arith),
+        le-leb 0 i (omega arith),
+        le-leb 0 (s .entries + 1) (omega arith),
+        le-leb 1 (s .levels) tall,
+        own-tests o,
+      )
+      (all-ways (λ a i x O u. a && (i && x) && (O && true && true && true))
+      (λ a i x O u. i && x && a && O) refl (leb a 0) (leb i 0) (leb x 0) (owned o) true)
+  line-tests o false false true h =
+      rw (
+        same t,
+        same x,
+        zero-low a,
+        zero-low i,
+        le-leb 0 a (omega arith),
+        le-leb 0 i (omega arith),
+        le-leb 0 (s .entries + 1) (omega arith),
+        le-leb 1 (s .levels) tall,
+        own-tests o,
+      )
+      (all-ways (λ a i x O u. a && (i && true) && (O && true && x && true))
+      (λ a i x O u. i && x && a && O) refl (leb a 0) (leb i 0) X (owned o) true)
+  line-tests o false true e h = absurd (false≢true (h refl))
 
-  tag-17 : both s 17 a i x own ≡ kindTest 2 a i x own (s .entries) (s .levels)
-  tag-17 = rw (same a, same i, flip 0 x)
-      (two (eqb x 0) (within own (s .entries)) (leb a (s .entries + 1)) (within i (s .levels)))
+-- one proof for each number below n
+data Each (P : ℕ → Type 0) : ℕ → Type 0 where
+  none : Each P zero
+  _⊕_ : {n : ℕ} → Each P n → P n → Each P (suc n)
 
-  tag-18 : both s 18 a i x own ≡ kindTest 2 a i x own (s .entries) (s .levels)
-  tag-18 = rw (same a, same i, flip 0 x)
-      (two (eqb x 0) (within own (s .entries)) (leb a (s .entries + 1)) (within i (s .levels)))
+infixl 5 _⊕_
+below : (P : ℕ → Type 0) (n : ℕ) → Each P n → (t : ℕ) → t < n → P t
+below P zero none t h = absurd (omega arith)
+below P (suc n) (l ⊕ p) t h = go (ℕ-discrete t n) (below P n l t)
+  where
+    go : Dec (t ≡ n) → (t < n → P t) → P t
+    go (yes e) r = subst P (sym e) p
+    go (no ne) r = r (omega arith)
 
-  tag-19 : both s 19 a i x own ≡ kindTest 3 a i x own (s .entries) (s .levels)
-  tag-19 = rw (same a, same i, same x)
-      (three (leb x (s .entries + 1)) (within own (s .entries)) (leb a (s .entries + 1))
-      (within i (s .levels)))
+-- the row of the stage that a code is read as: its columns are the tag's, its numbers the code's
+abbrev filled : Row → ℕ → ℕ → ℕ → ℕ → Row
+filled r t a i x = record {
+  tag = t;
+  owns = r .owns;
+  placed = r .placed;
+  walks = r .walks;
+  marks = r .marks;
+  holdsPlace = r .holdsPlace;
+  holdsOwn = r .holdsOwn;
+  holdsNode = r .holdsNode;
+  place = cond (r .placed) (place a i) (place 0 1);
+  releases = r .releases;
+  ahead = cond (r .releases) x 0;
+}
 
-  tag-20 : both s 20 a i x own ≡ kindTest 2 a i x own (s .entries) (s .levels)
-  tag-20 = rw (same a, same i, flip 0 x)
-      (two (eqb x 0) (within own (s .entries)) (leb a (s .entries + 1)) (within i (s .levels)))
+rows : (a i x t : ℕ) → t < 27 → rowOf (stageOf (code t a i x)) ≡ filled (rowAt t) t a i x
+rows a i x =
+    below (λ t. rowOf (stageOf (code t a i x)) ≡ filled (rowAt t) t a i x) 27
+    (none ⊕ refl ⊕ refl ⊕ refl ⊕ refl ⊕ refl ⊕ refl ⊕ refl ⊕ refl ⊕ refl ⊕ refl ⊕ refl ⊕ refl
+    ⊕ refl ⊕ refl ⊕ refl ⊕ refl ⊕ refl ⊕ refl ⊕ refl ⊕ refl ⊕ refl ⊕ refl ⊕ refl ⊕ refl ⊕ refl
+    ⊕ refl ⊕ refl)
 
-  tag-21 : both s 21 a i x own ≡ kindTest 2 a i x own (s .entries) (s .levels)
-  tag-21 = rw (same a, same i, flip 0 x)
-      (two (eqb x 0) (within own (s .entries)) (leb a (s .entries + 1)) (within i (s .levels)))
+-- a column of the table, at each tag but some
+module _ (t : ℕ) (low : t < 27) where
+  marks-placed : rowAt t .marks ≡ true → rowAt t .placed ≡ true
+  marks-placed h =
+      go (rowAt t .marks) (rowAt t .placed) h
+      (every-at (λ t. not (rowAt t .marks) || rowAt t .placed) 27 t refl low)
+    where
+      go : (m p : Bool) → m ≡ true → (not m || p) ≡ true → p ≡ true
+      go true p h e = e
+      go false p h e = absurd (false≢true h)
 
-  tag-22 : both s 22 a i x own ≡ kindTest 2 a i x own (s .entries) (s .levels)
-  tag-22 = rw (same a, same i, flip 0 x)
-      (two (eqb x 0) (within own (s .entries)) (leb a (s .entries + 1)) (within i (s .levels)))
+  pub owned-rest : (t ≡ 0 → ⊥) → (t ≡ 11 → ⊥) → (t ≡ 12 → ⊥) → (t ≡ 13 → ⊥) → rowAt t .owns ≡ true
+  owned-rest n0 n11 n12 n13 =
+      subst (λ (b : Bool). b ≡ true)
+      (rw (ne-eqb t 0 n0, ne-eqb t 11 n11, ne-eqb t 12 n12, ne-eqb t 13 n13) refl)
+      (every-at (λ t. eqb t 0 || eqb t 11 || eqb t 12 || eqb t 13 || rowAt t .owns) 27 t refl low)
 
-  tag-23 : both s 23 a i x own ≡ kindTest 2 a i x own (s .entries) (s .levels)
-  tag-23 = rw (same a, same i, flip 0 x)
-      (two (eqb x 0) (within own (s .entries)) (leb a (s .entries + 1)) (within i (s .levels)))
+  pub placed-rest : (t ≡ 0 → ⊥) → (t ≡ 9 → ⊥) → (t ≡ 10 → ⊥) → (t ≡ 15 → ⊥) → (t ≡ 25 → ⊥) →
+      (t ≡ 26 → ⊥) → rowAt t .placed ≡ true
+  placed-rest n0 n9 n10 n15 n25 n26 =
+      subst (λ (b : Bool). b ≡ true)
+      (rw (
+        ne-eqb t 0 n0,
+        ne-eqb t 9 n9,
+        ne-eqb t 10 n10,
+        ne-eqb t 15 n15,
+        ne-eqb t 25 n25,
+        ne-eqb t 26 n26,
+      ) refl)
+      (every-at
+      (λ t. eqb t 0 || eqb t 9 || eqb t 10 || eqb t 15 || eqb t 25 || eqb t 26 || rowAt t .placed)
+      27 t refl low)
 
-  tag-24 : both s 24 a i x own ≡ kindTest 2 a i x own (s .entries) (s .levels)
-  tag-24 = rw (same a, same i, flip 0 x)
-      (two (eqb x 0) (within own (s .entries)) (leb a (s .entries + 1)) (within i (s .levels)))
+  pub releases-rest : (t ≡ 5 → ⊥) → (t ≡ 19 → ⊥) → rowAt t .releases ≡ false
+  releases-rest n5 n19 =
+      not-true (rowAt t .releases)
+      (subst (λ (b : Bool). b ≡ true) (rw (ne-eqb t 5 n5, ne-eqb t 19 n19) refl)
+      (every-at (λ t. eqb t 5 || eqb t 19 || not (rowAt t .releases)) 27 t refl low))
 
-  tag-25 : both s 25 a i x own ≡ kindTest 1 a i x own (s .entries) (s .levels)
-  tag-25 = rw (
-    flip 0 a,
-    flip 0 i,
-    flip 0 x,
-    le-leb 0 (s .entries + 1) (omega arith),
-    le-leb 1
-        (s .levels) tall,
-  ) (nothing (eqb a 0) (eqb i 0) (eqb x 0) (within own (s .entries)))
+  pub marks-rest : (t ≡ 13 → ⊥) → rowAt t .marks ≡ false
+  marks-rest n13 =
+      not-true (rowAt t .marks)
+      (subst (λ (b : Bool). b ≡ true) (rw (ne-eqb t 13 n13) refl)
+      (every-at (λ t. eqb t 13 || not (rowAt t .marks)) 27 t refl low))
 
-  tag-26 : both s 26 a i x own ≡ kindTest 1 a i x own (s .entries) (s .levels)
-  tag-26 = rw (
-    flip 0 a,
-    flip 0 i,
-    flip 0 x,
-    le-leb 0 (s .entries + 1) (omega arith),
-    le-leb 1
-        (s .levels) tall,
-  ) (nothing (eqb a 0) (eqb i 0) (eqb x 0) (within own (s .entries)))
-
-  pub stage-tests : (t : ℕ) → t < 27 → both s t a i x own
-      ≡ kindTest (getD kinds t 0) a i x own (s .entries) (s .levels)
-  stage-tests zero h = tag-0
-  stage-tests (suc zero) h = tag-1
-  stage-tests (suc (suc zero)) h = tag-2
-  stage-tests (suc (suc (suc zero))) h = tag-3
-  stage-tests (suc (suc (suc (suc zero)))) h = tag-4
-  stage-tests (suc (suc (suc (suc (suc zero))))) h = tag-5
-  stage-tests (suc (suc (suc (suc (suc (suc zero)))))) h = tag-6
-  stage-tests (suc (suc (suc (suc (suc (suc (suc zero))))))) h = tag-7
-  stage-tests (suc (suc (suc (suc (suc (suc (suc (suc zero)))))))) h = tag-8
-  stage-tests (suc (suc (suc (suc (suc (suc (suc (suc (suc zero))))))))) h = tag-9
-  stage-tests (suc (suc (suc (suc (suc (suc (suc (suc (suc (suc zero)))))))))) h = tag-10
-  stage-tests (suc (suc (suc (suc (suc (suc (suc (suc (suc (suc (suc zero))))))))))) h = tag-11
-  stage-tests (suc (suc (suc (suc (suc (suc (suc (suc (suc (suc (suc (suc zero)))))))))))) h =
-      tag-12
-  stage-tests (suc (suc (suc (suc (suc (suc (suc (suc (suc (suc (suc (suc (suc zero)))))))))))))
-      h = tag-13
-  stage-tests
-      (suc (suc (suc (suc (suc (suc (suc (suc (suc (suc (suc (suc (suc (suc zero)))))))))))))) h =
-      tag-14
-  stage-tests
-      (suc (suc
-      (suc (suc (suc (suc (suc (suc (suc (suc (suc (suc (suc (suc (suc zero))))))))))))))) h =
-      tag-15
-  stage-tests
-      (suc (suc
-      (suc (suc (suc (suc (suc (suc (suc (suc (suc (suc (suc (suc (suc (suc zero))))))))))))))))
-      h = tag-16
-  stage-tests
-      (suc (suc
-      (suc (suc
-      (suc (suc (suc (suc (suc (suc (suc (suc (suc (suc (suc (suc (suc zero))))))))))))))))) h =
-      tag-17
-  stage-tests
-      (suc (suc
-      (suc (suc
-      (suc (suc (suc (suc (suc (suc (suc (suc (suc (suc (suc (suc (suc (suc zero))))))))))))))))))
-      h = tag-18
-  stage-tests
-      (suc (suc
-      (suc (suc
-      (suc (suc
-      (suc (suc (suc (suc (suc (suc (suc (suc (suc (suc (suc (suc (suc zero))))))))))))))))))) h =
-      tag-19
-  stage-tests
-      (suc (suc
-      (suc (suc
-      (suc (suc
-      (suc (suc
-      (suc (suc (suc (suc (suc (suc (suc (suc (suc (suc (suc (suc zero)))))))))))))))))))) h =
-      tag-20
-  stage-tests
-      (suc (suc
-      (suc (suc
-      (suc (suc
-      (suc (suc
-      (suc (suc (suc (suc (suc (suc (suc (suc (suc (suc (suc (suc (suc zero)))))))))))))))))))))
-      h = tag-21
-  stage-tests
-      (suc (suc
-      (suc (suc
-      (suc (suc
-      (suc (suc
-      (suc (suc
-      (suc (suc (suc (suc (suc (suc (suc (suc (suc (suc (suc (suc zero)))))))))))))))))))))) h =
-      tag-22
-  stage-tests
-      (suc (suc
-      (suc (suc
-      (suc (suc
-      (suc (suc
-      (suc (suc
-      (suc (suc (suc (suc (suc (suc (suc (suc (suc (suc (suc (suc (suc zero)))))))))))))))))))))))
-      h = tag-23
-  stage-tests
-      (suc (suc
-      (suc (suc
-      (suc (suc
-      (suc (suc
-      (suc (suc
-      (suc (suc
-      (suc (suc (suc (suc (suc (suc (suc (suc (suc (suc (suc (suc zero)))))))))))))))))))))))) h =
-      tag-24
-  stage-tests
-      (suc (suc
-      (suc (suc
-      (suc (suc
-      (suc (suc
-      (suc (suc
-      (suc (suc
-      (suc (suc
-      (suc (suc (suc (suc (suc (suc (suc (suc (suc (suc (suc zero))))))))))))))))))))))))) h =
-      tag-25
-  stage-tests
-      (suc (suc
-      (suc (suc
-      (suc (suc
-      (suc (suc
-      (suc (suc
-      (suc (suc
-      (suc (suc
-      (suc (suc (suc (suc (suc (suc (suc (suc (suc (suc (suc (suc zero))))))))))))))))))))))))))
-      h = tag-26
-  stage-tests
-      (suc (suc
-      (suc (suc
-      (suc (suc
-      (suc (suc
-      (suc (suc
-      (suc (suc
-      (suc (suc
-      (suc (suc (suc (suc (suc (suc (suc (suc (suc (suc (suc (suc (suc t)))))))))))))))))))))))))))
-      h = absurd (omega arith)
-
--- a tag that the test of kinds does not name
-pub kind-other :
-    (t : ℕ) → t < 27 →
-    (t ≡ 0 → ⊥) →
-    (t ≡ 5 → ⊥) →
-    (t ≡ 9 → ⊥) →
-    (t ≡ 10 → ⊥) →
-    (t ≡ 11 → ⊥) →
-    (t ≡ 12 → ⊥) →
-    (t ≡ 13 → ⊥) →
-    (t ≡ 15 → ⊥) →
-    (t ≡ 19 → ⊥) →
-    (t ≡ 25 → ⊥) →
-    (t ≡ 26 → ⊥) →
-    getD kinds t 0 ≡ 2
-kind-other zero h n0 n5 n9 n10 n11 n12 n13 n15 n19 n25 n26 = absurd (n0 refl)
-kind-other (suc zero) h n0 n5 n9 n10 n11 n12 n13 n15 n19 n25 n26 = refl
-kind-other (suc (suc zero)) h n0 n5 n9 n10 n11 n12 n13 n15 n19 n25 n26 = refl
-kind-other (suc (suc (suc zero))) h n0 n5 n9 n10 n11 n12 n13 n15 n19 n25 n26 = refl
-kind-other (suc (suc (suc (suc zero)))) h n0 n5 n9 n10 n11 n12 n13 n15 n19 n25 n26 = refl
-kind-other (suc (suc (suc (suc (suc zero))))) h n0 n5 n9 n10 n11 n12 n13 n15 n19 n25 n26 =
-    absurd (n5 refl)
-kind-other (suc (suc (suc (suc (suc (suc zero)))))) h n0 n5 n9 n10 n11 n12 n13 n15 n19 n25 n26 =
-    refl
-kind-other (suc (suc (suc (suc (suc (suc (suc zero))))))) h n0 n5 n9 n10 n11 n12 n13 n15 n19 n25
-    n26 = refl
-kind-other (suc (suc (suc (suc (suc (suc (suc (suc zero)))))))) h n0 n5 n9 n10 n11 n12 n13 n15 n19
-    n25 n26 = refl
-kind-other (suc (suc (suc (suc (suc (suc (suc (suc (suc zero))))))))) h n0 n5 n9 n10 n11 n12 n13
-    n15 n19 n25 n26 = absurd (n9 refl)
-kind-other (suc (suc (suc (suc (suc (suc (suc (suc (suc (suc zero)))))))))) h n0 n5 n9 n10 n11 n12
-    n13 n15 n19 n25 n26 = absurd (n10 refl)
-kind-other (suc (suc (suc (suc (suc (suc (suc (suc (suc (suc (suc zero))))))))))) h n0 n5 n9 n10
-    n11 n12 n13 n15 n19 n25 n26 = absurd (n11 refl)
-kind-other (suc (suc (suc (suc (suc (suc (suc (suc (suc (suc (suc (suc zero)))))))))))) h n0 n5 n9
-    n10 n11 n12 n13 n15 n19 n25 n26 = absurd (n12 refl)
-kind-other (suc (suc (suc (suc (suc (suc (suc (suc (suc (suc (suc (suc (suc zero))))))))))))) h n0
-    n5 n9 n10 n11 n12 n13 n15 n19 n25 n26 = absurd (n13 refl)
-kind-other (suc (suc (suc (suc (suc (suc (suc (suc (suc (suc (suc (suc (suc (suc zero))))))))))))))
-    h n0 n5 n9 n10 n11 n12 n13 n15 n19 n25 n26 = refl
-kind-other
-    (suc (suc (suc (suc (suc (suc (suc (suc (suc (suc (suc (suc (suc (suc (suc zero)))))))))))))))
-    h n0 n5 n9 n10 n11 n12 n13 n15 n19 n25 n26 = absurd (n15 refl)
-kind-other
-    (suc (suc
-    (suc (suc (suc (suc (suc (suc (suc (suc (suc (suc (suc (suc (suc (suc zero)))))))))))))))) h n0
-    n5 n9 n10 n11 n12 n13 n15 n19 n25 n26 = refl
-kind-other
-    (suc (suc
-    (suc (suc
-    (suc (suc (suc (suc (suc (suc (suc (suc (suc (suc (suc (suc (suc zero))))))))))))))))) h n0 n5
-    n9 n10 n11 n12 n13 n15 n19 n25 n26 = refl
-kind-other
-    (suc (suc
-    (suc (suc
-    (suc (suc (suc (suc (suc (suc (suc (suc (suc (suc (suc (suc (suc (suc zero)))))))))))))))))) h
-    n0 n5 n9 n10 n11 n12 n13 n15 n19 n25 n26 = refl
-kind-other
-    (suc (suc
-    (suc (suc
-    (suc (suc
-    (suc (suc (suc (suc (suc (suc (suc (suc (suc (suc (suc (suc (suc zero))))))))))))))))))) h n0
-    n5 n9 n10 n11 n12 n13 n15 n19 n25 n26 = absurd (n19 refl)
-kind-other
-    (suc (suc
-    (suc (suc
-    (suc (suc
-    (suc (suc (suc (suc (suc (suc (suc (suc (suc (suc (suc (suc (suc (suc zero))))))))))))))))))))
-    h n0 n5 n9 n10 n11 n12 n13 n15 n19 n25 n26 = refl
-kind-other
-    (suc (suc
-    (suc (suc
-    (suc (suc
-    (suc (suc
-    (suc (suc (suc (suc (suc (suc (suc (suc (suc (suc (suc (suc (suc zero))))))))))))))))))))) h n0
-    n5 n9 n10 n11 n12 n13 n15 n19 n25 n26 = refl
-kind-other
-    (suc (suc
-    (suc (suc
-    (suc (suc
-    (suc (suc
-    (suc (suc
-    (suc (suc (suc (suc (suc (suc (suc (suc (suc (suc (suc (suc zero)))))))))))))))))))))) h n0 n5
-    n9 n10 n11 n12 n13 n15 n19 n25 n26 = refl
-kind-other
-    (suc (suc
-    (suc (suc
-    (suc (suc
-    (suc (suc
-    (suc (suc
-    (suc (suc (suc (suc (suc (suc (suc (suc (suc (suc (suc (suc (suc zero))))))))))))))))))))))) h
-    n0 n5 n9 n10 n11 n12 n13 n15 n19 n25 n26 = refl
-kind-other
-    (suc (suc
-    (suc (suc
-    (suc (suc
-    (suc (suc
-    (suc (suc
-    (suc (suc
-    (suc (suc (suc (suc (suc (suc (suc (suc (suc (suc (suc (suc zero)))))))))))))))))))))))) h n0
-    n5 n9 n10 n11 n12 n13 n15 n19 n25 n26 = refl
-kind-other
-    (suc (suc
-    (suc (suc
-    (suc (suc
-    (suc (suc
-    (suc (suc
-    (suc (suc
-    (suc (suc (suc (suc (suc (suc (suc (suc (suc (suc (suc (suc (suc zero)))))))))))))))))))))))))
-    h n0 n5 n9 n10 n11 n12 n13 n15 n19 n25 n26 = absurd (n25 refl)
-kind-other
-    (suc (suc
-    (suc (suc
-    (suc (suc
-    (suc (suc
-    (suc (suc
-    (suc (suc
-    (suc (suc
-    (suc (suc (suc (suc (suc (suc (suc (suc (suc (suc (suc (suc zero)))))))))))))))))))))))))) h n0
-    n5 n9 n10 n11 n12 n13 n15 n19 n25 n26 = absurd (n26 refl)
-kind-other
-    (suc (suc
-    (suc (suc
-    (suc (suc
-    (suc (suc
-    (suc (suc
-    (suc (suc
-    (suc (suc
-    (suc (suc (suc (suc (suc (suc (suc (suc (suc (suc (suc (suc (suc t))))))))))))))))))))))))))) h
-    n0 n5 n9 n10 n11 n12 n13 n15 n19 n25 n26 = absurd (omega arith)
+  pub stage-tests :
+      (s : Sizes) (a i x own : ℕ) → 1 ≤ s .levels →
+      (stageTaken (code t a i x) && carriedValid s (carried (stageOf (code t a i x))) own)
+      ≡ inBounds (rowAt t) a i x own (s .entries) (s .levels)
+  stage-tests s a i x own tall =
+      ap (taken s t a i x own tall) (rows a i x t low)
+      ∙ line-tests s t a i x own tall (rowAt t .owns) (rowAt t .placed) (rowAt t .marks)
+      (rowAt t .releases) marks-placed

@@ -8,13 +8,15 @@ use lib.Dec.{leb}
 use lib.ListN.{length, getD}
 use borrow.Author.Tests.{eq-eqb, ne-eqb, le-leb, lt-leb}
 use Rattle.laws.specs.Every.{everyBelow, allAtMost}
-use Rattle.laws.proofs.Counting.{and-left, and-right}
+use Rattle.laws.proofs.Counting.{and-left, and-right, and-both}
 use Rattle.checks.specs.Check.{within, stampValid, useValid, sizesOf, sizesValid, nodeValid}
-use Rattle.checks.specs.Check.{processorValid, valid}
-use Rattle.image.specs.Tags.{timed, stampOf, stampTaken, useOf, useTaken, code, stageTaken}
+use Rattle.checks.specs.Check.{carriedValid, processorValid, valid}
+use Rattle.image.specs.Tags.{timed, stampOf, stampTaken, useOf, useTaken, code}
+use Rattle.image.specs.Tags.{stageOf, stageTaken}
 use Rattle.record.specs.declared.nodes.Node.{Node}
 use Rattle.record.specs.declared.queues.Processor.{Processor}
 use Rattle.record.specs.Queues.{nodeAt, processorAt}
+use Rattle.record.specs.Stages.{carried}
 use Rattle.image.specs.Lists.{allBelow}
 use Rattle.image.specs.Numbers.{number32}
 use Rattle.image.specs.Pieces.{readNode, readProcessor}
@@ -25,8 +27,8 @@ use Rattle.image.specs.Image.{passesOf, Sound}
 use Rattle.image.proofs.Fields.{number, eightFrom, nodeFrom, callerFrom, part-bytes, node-is}
 use Rattle.image.proofs.Fields.{caller-is, eight-at, number-at}
 use Rattle.image.proofs.Inverse.{image-facts, read-is-written}
-use Rattle.image_check.specs.Kinds.{kinds, kindTest}
-use Rattle.image_check.specs.Tests.{sizes, nodeOk, callerOk}
+use Rattle.image_check.specs.Bounds.{rowAt, inBounds}
+use Rattle.image_check.specs.Tests.{sizes, linksTest, entryTest, nodeOk, callerOk}
 use Rattle.image_check.proofs.Stages.{stage-tests}
 
 levels-same : (f : ℕ → ℕ) (j l top : ℕ) → l ≤ 8 → allAtMost (eightFrom f j) l top
@@ -51,39 +53,34 @@ caller-ok : (b : List ℕ) → readProcessor b .ok ≡ callerTaken (λ (j : ℕ)
 unfolding readProcessor
 caller-ok b = refl
 
-spread : (m s u l e sv uv : Bool) → ((((m && l) && e) && (s && sv)) && (u && uv))
+spread : (m s u l e sv uv : Bool) → (l && (e && (m && ((s && sv) && (u && uv)))))
     ≡ ((m && (s && u)) && (((l && e) && sv) && uv))
-spread false s u l e sv uv = refl
-spread true false u l e sv uv = rw (and-false (l && e)) refl
-spread true true false l e sv uv = and-false ((l && e) && sv)
-spread true true true l e sv uv = refl
+spread m s u false e sv uv = sym (and-false (m && (s && u)))
+spread m s u true false sv uv = sym (and-false (m && (s && u)))
+spread false s u true true sv uv = refl
+spread true false u true true sv uv = refl
+spread true true false true true sv uv = and-false sv
+spread true true true true true sv uv = refl
 
 -- node x, in the order of the code
 module _ (b : List ℕ) (x : ℕ) (low : x ≤ getD b 1 0 + 1) (short : getD b 1 0 ≤ 200)
     (few : getD b 2 0 ≤ 8) where
   pub node-tests :
-      ((((leb (getD b (startOf b + 41 * x + 17) 0) 1
-      && (everyBelow (λ (k : ℕ). leb (piece b (startOf b + 41 * x) (0 + k)) (getD b 1 0 + 1))
-      (getD b 2 0)
-      && everyBelow (λ (k : ℕ). leb (piece b (startOf b + 41 * x) (8 + k)) (getD b 0 0))
-      (getD b 2 0)
-      && leb (getD b (startOf b + 41 * x + 16) 0) (getD b 0 0)))
-      && (leb (number32 b (startOf b + 41 * x + 23)) 999999
-      && leb (number32 b (startOf b + 41 * x + 31)) 999999
-      && leb (number32 b (startOf b + 41 * x + 27)) (number32 b 3)
-      && within (getD b (startOf b + 41 * x + 35) 0) (getD b 2 0)))
-      && (stampTaken
+      (linksTest b (startOf b + 41 * x) (getD b 0 0) (getD b 1 0) (getD b 2 0)
+      && (entryTest b (startOf b + 41 * x) (getD b 2 0) (number32 b 3)
+      && (leb (getD b (startOf b + 41 * x + 17) 0) 1
+      && ((stampTaken
       (timed (getD b (startOf b + 41 * x + 18) 0) (number32 b (startOf b + 41 * x + 19)))
       && stampValid
       (stampOf
       (timed (getD b (startOf b + 41 * x + 18) 0) (number32 b (startOf b + 41 * x + 19))))
-      (within x (getD b 1 0)) (number32 b 3)))
+      (within x (getD b 1 0)) (number32 b 3))
       && (useTaken
       (timed (getD b (startOf b + 41 * x + 36) 0) (number32 b (startOf b + 41 * x + 37)))
       && useValid
       (useOf
       (timed (getD b (startOf b + 41 * x + 36) 0) (number32 b (startOf b + 41 * x + 37))))
-      (number32 b 3)))
+      (number32 b 3))))))
       ≡ nodeOk b x
   unfolding queueIn nodeOk
   node-tests =
@@ -122,9 +119,7 @@ tag-past t a i x h =
     rw (
       ne-eqb t 0 (λ e. omega arith),
       lt-leb t 10 (omega arith),
-      ne-eqb t 11 (λ e. omega arith),
-      ne-eqb t 12 (λ e. omega arith),
-      ne-eqb t 13 (λ e. omega arith),
+      lt-leb t 13 (omega arith),
       ne-eqb t 14 (λ e. omega arith),
       ne-eqb t 15 (λ e. omega arith),
       lt-leb t 19 (omega arith),
@@ -144,6 +139,48 @@ module _ (b : List ℕ) (p : ℕ) (low : p < getD b 0 0) (many : getD b 0 0 ≤ 
   caller-taken : readProcessor (callerPart b p) .ok ≡ callerTaken (piece b (7 + 17 * p))
   caller-taken = caller-ok (callerPart b p) ∙ ap callerTaken (part-bytes b 17 (7 + 17 * p))
 
+  abbrev saved : Bool
+  saved = everyBelow (λ (k : ℕ). leb (piece b (7 + 17 * p) (9 + k)) (getD b 1 0 + 1)) (getD b 2 0)
+
+  -- the begin time and the saved nodes
+  abbrev early : Bool
+  early = leb (number32 b (7 + 17 * p + 0)) (number32 b 3) && saved
+
+  -- the stage and the own node
+  abbrev late : (ℕ → ℕ) → Bool
+  late f =
+      stageTaken (code (f 5) (f 6) (f 7) (f 8))
+      && carriedValid (sizesOf (queueIn b)) (carried (stageOf (code (f 5) (f 6) (f 7) (f 8)))) (f 4)
+
+  caller-parts : (early && late (piece b (7 + 17 * p))) ≡ callerOk b p
+  unfolding queueIn callerOk
+  caller-parts =
+      let o = 7 + 17 * p in
+      let f = piece b o in
+      let s = sizesOf (queueIn b) in
+      rw (number-at b o 0, sym (levels-same f 9 (getD b 2 0) (getD b 1 0 + 1) few))
+      (swap (leb (number f 0) (number32 b 3) && allAtMost (eightFrom f 9) (getD b 2 0)
+      (getD b 1 0 + 1)) (callerTaken f) _
+      ∙ ap (λ (t : Bool). t && processorValid s (callerFrom f)) (sym caller-taken)
+      ∙ ap (λ (c : Processor). readProcessor (callerPart b p) .ok && processorValid s c)
+      (sym (caller-is b p many low)))
+
+  caller-early : early ≡ false → false ≡ callerOk b p
+  caller-early h =
+      sym (ap (λ (t : Bool). t && late (piece b (7 + 17 * p))) h) ∙ caller-parts
+
+  -- a begin time past the clock, and saved nodes past the tail
+  pub caller-begun :
+      {v w : ℕ} → v ≡ number32 b 3 → w ≡ number32 b (7 + 17 * p + 0) → v < w → false ≡ callerOk b p
+  caller-begun e f h =
+      caller-early (ap (λ (t : Bool). t && saved)
+      (lt-leb (number32 b (7 + 17 * p + 0)) (number32 b 3) (rw (sym e, sym f) h)))
+
+  pub caller-saved : {t : Bool} → t ≡ saved → t ≡ false → false ≡ callerOk b p
+  caller-saved e h =
+      caller-early (ap (λ (t : Bool). leb (number32 b (7 + 17 * p + 0)) (number32 b 3) && t)
+      (sym e ∙ h) ∙ and-false (leb (number32 b (7 + 17 * p + 0)) (number32 b 3)))
+
   pub caller-past : 26 < getD b (7 + 17 * p + 5) 0 → false ≡ callerOk b p
   unfolding callerOk
   caller-past h =
@@ -151,29 +188,20 @@ module _ (b : List ℕ) (p : ℕ) (low : p < getD b 0 0) (many : getD b 0 0 ≤ 
       sym (ap (λ (t : Bool). t && processorValid (sizesOf (queueIn b)) (processorAt (queueIn b) p))
       (caller-taken ∙ tag-past (f 5) (f 6) (f 7) (f 8) h))
 
-  pub caller-tests : getD b (7 + 17 * p + 5) 0 < 27 →
-      ((leb (number32 b (7 + 17 * p + 0)) (number32 b 3)
-      && everyBelow (λ (k : ℕ). leb (piece b (7 + 17 * p) (9 + k)) (getD b 1 0 + 1)) (getD b 2 0))
-      && kindTest (getD kinds (getD b (7 + 17 * p + 5) 0) 0) (getD b (7 + 17 * p + 6) 0)
+  pub caller-tests :
+      {v w : ℕ} {t : Bool} → v ≡ number32 b 3 → w ≡ number32 b (7 + 17 * p + 0) → w ≤ v →
+      t ≡ saved → t ≡ true → getD b (7 + 17 * p + 5) 0 < 27 →
+      inBounds (rowAt (getD b (7 + 17 * p + 5) 0)) (getD b (7 + 17 * p + 6) 0)
       (getD b (7 + 17 * p + 7) 0) (getD b (7 + 17 * p + 8) 0) (getD b (7 + 17 * p + 4) 0)
-      (getD b 1 0) (getD b 2 0))
+      (getD b 1 0) (getD b 2 0)
       ≡ callerOk b p
-  unfolding queueIn callerOk
-  caller-tests h =
-      let o = 7 + 17 * p in
-      let f = piece b o in
-      let s = sizesOf (queueIn b) in
-      rw (
-        number-at b o 0,
-        sym (levels-same f 9 (getD b 2 0) (getD b 1 0 + 1) few),
-        sym
-            (stage-tests s (f 6) (f 7) (f 8) (f 4) tall (f 5) h),
-      )
-      (swap (leb (number f 0) (number32 b 3) && allAtMost (eightFrom f 9) (getD b 2 0)
-      (getD b 1 0 + 1)) (callerTaken f) _
-      ∙ ap (λ (t : Bool). t && processorValid s (callerFrom f)) (sym caller-taken)
-      ∙ ap (λ (c : Processor). readProcessor (callerPart b p) .ok && processorValid s c)
-      (sym (caller-is b p many low)))
+  unfolding queueIn
+  caller-tests e f h g k low =
+      let f′ = piece b (7 + 17 * p) in
+      let begun = le-leb (number32 b (7 + 17 * p + 0)) (number32 b 3) (rw (sym e, sym f) h) in
+      sym (stage-tests (f′ 5) low (sizesOf (queueIn b)) (f′ 6) (f′ 7) (f′ 8) (f′ 4) tall)
+      ∙ sym (ap (λ (t : Bool). t && late f′) (and-both _ saved begun (sym g ∙ k)))
+      ∙ caller-parts
 
 -- all bytes
 every-both : (f g : ℕ → Bool) (n : ℕ) → everyBelow (λ k. f k && g k) n

@@ -1,10 +1,10 @@
 -- A stamp and a use by their tags: written as they are, and in their ranges. Assumes nothing.
-use mathlib.Core.Path.{_≡_, refl, sym, _∙_}
-use mathlib.Core.Bool.{Bool, true, false, cond, _&&_, _||_, or-false, and-true}
+use mathlib.Core.Path.{_≡_, refl, sym}
+use mathlib.Core.Bool.{Bool, true, false, cond, _&&_, and-true}
 use Prim.Native.Nat.{ℕ, _<_}
 use native.Mathlib.Omega.{arith}
 use lib.Dec.{eqb, leb}
-use borrow.Author.Tests.{eqb-true, eqb-false, ne-eqb, le-leb, lt-leb}
+use borrow.Author.Tests.{eqb-true, eqb-false, le-leb, lt-leb}
 use Rattle.checks.specs.Check.{stampValid, useValid}
 use Rattle.image.specs.Tags.{timed, timedSame, stampOf, stampTimed, stampTaken, useOf, useTimed}
 use Rattle.image.specs.Tags.{useTaken}
@@ -47,32 +47,3 @@ use-cases t u g = go (eqb t 2) (eqb t 1) refl refl
         let z = eqb-true t 1 k in
         rw (flip 1 t, k, flip 0 u, le-leb t 1 (omega arith)) (and-true (eqb u 0))
     go false false h k = rw (flip 0 t, flip 0 u, low t h k) (and-true (leb t 1 && eqb u 0))
-
--- the same without a branch
-pub stamp-either :
-    (t u : ℕ) (e : Bool) (g : ℕ) →
-    ((eqb t 1 && (e && leb u g)) || (eqb t 0 && eqb u 0))
-    ≡ (stampTaken (timed t u) && stampValid (stampOf (timed t u)) e g)
-stamp-either t u e g = go (eqb t 1) refl ∙ sym (stamp-cases t u e g)
-  where
-    go : (x : Bool) → eqb t 1 ≡ x →
-        ((x && (e && leb u g)) || (eqb t 0 && eqb u 0))
-        ≡ cond (eqb t 1) (e && leb u g) (eqb t 0 && eqb u 0)
-    go true h =
-        let z = eqb-true t 1 h in
-        rw (h, ne-eqb t 0 (λ k. omega arith)) (or-false (e && leb u g))
-    go false h = rw h refl
-
-pub use-either :
-    (t u g : ℕ) →
-    ((eqb t 2 && leb u g) || (leb t 1 && eqb u 0))
-    ≡ (useTaken (timed t u) && useValid (useOf (timed t u)) g)
-use-either t u g = go (eqb t 2) refl ∙ sym (use-cases t u g)
-  where
-    go : (x : Bool) → eqb t 2 ≡ x →
-        ((x && leb u g) || (leb t 1 && eqb u 0)) ≡ cond (eqb t 2) (leb u g) (leb t 1 && eqb u 0)
-    go true h =
-        let z = eqb-true t 2 h in
-        let l : 1 < t = omega arith in
-        rw (h, lt-leb t 1 l) (or-false (leb u g))
-    go false h = rw h refl

@@ -1,3 +1,3 @@
-pub mod Kinds
+pub mod Bounds
 pub mod Tests
 pub mod Pending

@@ -23,7 +23,8 @@ fn counted(used: u8, stamped: u8, marked: u8) -> u8
 // How many entries are answered and not marked.
 pub fn pending(image: &[u8]) -> u8
     requires { ⌜ Sound (now image) ⌝ }
-    ensures { λ r. ⌜ r ≡ howMany (pendingAt (queueIn (now (image .entry)))) (getD (now (image .entry)) 1 0) ⌝ }
+    ensures { λ r.
+        ⌜ r ≡ howMany (pendingAt (queueIn (now (image .entry)))) (getD (now (image .entry)) 1 0) ⌝ }
 {
     let base = 7 + 17 * (image[0] as usize);
     let end = image[1] as usize;

@@ -2,6 +2,7 @@ pub mod callers;
 pub mod counting;
 pub mod levels;
 pub mod nodes;
+pub mod tags;
 pub mod whole;
 
 pub use counting::pending;

@@ -11,8 +11,11 @@ use Rattle.record.specs.declared.nodes.Node.{Node}
 use Rattle.record.specs.declared.queues.Processor.{Processor}
 use Rattle.record.specs.declared.stages.Seek.the-variants as seek
 use Rattle.record.specs.declared.nodes.Stamp.the-variants as stamp
+use Rattle.record.specs.declared.stages.Removal.{Removal}
 use Rattle.record.specs.declared.stages.Removal.the-variants as rem
+use Rattle.record.specs.declared.stages.Job.the-variants as jobs
 use Rattle.record.specs.declared.stages.Delete.the-variants as del
+use Rattle.record.specs.declared.stages.Stage.{Stage}
 use Rattle.record.specs.declared.stages.Stage.the-variants as stage
 use Rattle.record.specs.Nodes.{forwardAt, lockAt, stampedBefore}
 use Rattle.record.specs.Queues.{nodeAt, processorAt, savedAt}
@@ -36,6 +39,10 @@ use Rattle.rules.specs.declared.decisions.Carry.the-variants as carry
 use Rattle.image.proofs.Sizes.{sized-in}
 use Rattle.image_parts.proofs.Readings.{mine, arm, clock-is, levels-is, clears-below, own-is}
 use Rattle.image_parts.proofs.Readings.{mine-is, own-low, entryIn, entry-is}
+
+-- a stage of a Delete_Min's removal
+abbrev deliver : Removal → Stage
+deliver r = removing jobs.Deliver r
 
 -- what the stages of a removal read besides
 module _ (b : List ℕ) (base p tag : ℕ) (r : Placed b base p tag) where
@@ -277,7 +284,7 @@ module _ (b : List ℕ) (base p : ℕ) (r : Walked b base p 13) (after : List �
       (record {
         effect = eff.Mark (mine b p 6);
         stage =
-            removing (rem.Search (place 0 (getD b 2 0)));
+            deliver (rem.Search (place 0 (getD b 2 0)));
         own = mine b p 6;
         carry =
             carry.Keep;
@@ -312,9 +319,9 @@ module _ (b : List ℕ) (base p : ℕ) (r : Owned b base p 15) (after : List ℕ
       let c = processorAt q p in
       let s = sightOf q c (place 0 1) in
       arm b base p 15 (r .sound) (r .start) (r .entries-high) (r .processors-high) (r .low)
-      (r .few) (r .early) (r .tagged) (removing (rem.HoldNode)) refl refl
+      (r .few) (r .early) (r .tagged) (deliver (rem.HoldNode)) refl refl
       (moved s (eff.HoldNode (mine b p 4))
-      (removing
+      (deliver
       (rem.Seek
       (seek.Approach
       (place (mine b p (9 + (getD b (base + 41 * mine b p 4 + 35) 0 - 1)))
@@ -343,8 +350,8 @@ module _ (b : List ℕ) (base p : ℕ) (r : Owned b base p 15) (after : List ℕ
       let c = processorAt q p in
       let s = sightOf q c (place 0 1) in
       arm b base p 15 (r .sound) (r .start) (r .entries-high) (r .processors-high) (r .low)
-      (r .few) (r .early) (r .tagged) (removing (rem.HoldNode)) refl refl
-      (waits s (removing (rem.HoldNode))) (rw (holder-is b base p 15 r, ne-eqb _ _ h) refl)
+      (r .few) (r .early) (r .tagged) (deliver (rem.HoldNode)) refl refl
+      (waits s (deliver (rem.HoldNode))) (rw (holder-is b base p 15 r, ne-eqb _ _ h) refl)
       ([]) ([]) (omega arith) tt tt
       (refl) (refl) after e answer f
 
@@ -366,8 +373,8 @@ module _ (b : List ℕ) (base p : ℕ) (r : Placed b base p 20) (after : List �
       let s = sightOf q c a in
       let k< : k < 8 = omega (arith, r .level-high, r .level-low) in
       arm b base p 20 (r .sound) (r .start) (r .entries-high) (r .processors-high) (r .low)
-      (r .few) (r .early) (r .tagged) (removing (rem.HoldOwn a)) refl refl
-      (moved s (eff.HoldLevel (place (mine b p 4) (mine b p 7))) (removing (rem.Unlink a)))
+      (r .few) (r .early) (r .tagged) (deliver (rem.HoldOwn a)) refl refl
+      (moved s (eff.HoldLevel (place (mine b p 4) (mine b p 7))) (deliver (rem.Unlink a)))
       (rw (latch-is b base p 20 r, eq-eqb _ 0 h, own-is b base p 20 r) refl)
       ((8 + k, p + 1) ∷ []) ((5, 21) ∷ []) (omega (arith, r .own-high, r .entries-high))
       (omega arith, tt) (omega arith, tt)
@@ -389,8 +396,8 @@ module _ (b : List ℕ) (base p : ℕ) (r : Placed b base p 20) (after : List �
       let s = sightOf q c a in
       let k< : k < 8 = omega (arith, r .level-high, r .level-low) in
       arm b base p 20 (r .sound) (r .start) (r .entries-high) (r .processors-high) (r .low)
-      (r .few) (r .early) (r .tagged) (removing (rem.HoldOwn a)) refl refl
-      (waits s (removing (rem.HoldOwn a))) (rw (latch-is b base p 20 r, ne-eqb _ 0 h) refl)
+      (r .few) (r .early) (r .tagged) (deliver (rem.HoldOwn a)) refl refl
+      (waits s (deliver (rem.HoldOwn a))) (rw (latch-is b base p 20 r, ne-eqb _ 0 h) refl)
       ([]) ([]) (omega arith) tt tt
       (refl) (refl) after e answer f
 
@@ -412,9 +419,9 @@ module _ (b : List ℕ) (base p : ℕ) (r : Placed b base p 21) (after : List �
       let s = sightOf q c a in
       let k< : k < 8 = omega (arith, r .level-high, r .level-low) in
       arm b base p 21 (r .sound) (r .start) (r .entries-high) (r .processors-high) (r .low)
-      (r .few) (r .early) (r .tagged) (removing (rem.Unlink a)) refl refl
+      (r .few) (r .early) (r .tagged) (deliver (rem.Unlink a)) refl refl
       (moved s (eff.Lead a (getD b (base + 41 * mine b p 4 + (mine b p 7 - 1)) 0))
-      (removing (rem.Back a))) (rw (onward-is b base p 21 r) refl)
+      (deliver (rem.Back a))) (rw (onward-is b base p 21 r) refl)
       ((k, getD b (base + 41 * mine b p 4 + (mine b p 7 - 1)) 0) ∷ []) ((5, 22) ∷ [])
       (omega (arith, r .node-low)) (omega arith, tt) (omega arith, tt)
       (put-forward (nodeAt q (mine b p 6)) (mine b p 7)
@@ -439,9 +446,9 @@ module _ (b : List ℕ) (base p : ℕ) (r : Placed b base p 22) (after : List �
       let s = sightOf q c a in
       let k< : k < 8 = omega (arith, r .level-high, r .level-low) in
       arm b base p 22 (r .sound) (r .start) (r .entries-high) (r .processors-high) (r .low)
-      (r .few) (r .early) (r .tagged) (removing (rem.Back a)) refl refl
+      (r .few) (r .early) (r .tagged) (deliver (rem.Back a)) refl refl
       (moved s (eff.Lead (place (mine b p 4) (mine b p 7)) (mine b p 6))
-      (removing (rem.FreeOwn a))) (rw (own-is b base p 22 r) refl)
+      (deliver (rem.FreeOwn a))) (rw (own-is b base p 22 r) refl)
       ((k, mine b p 6) ∷ []) ((5, 23) ∷ []) (omega (arith, r .own-high, r .entries-high))
       (omega arith, tt) (omega arith, tt)
       (put-forward (nodeAt q (mine b p 4)) (mine b p 7) (mine b p 6) k<
@@ -465,8 +472,8 @@ module _ (b : List ℕ) (base p : ℕ) (r : Placed b base p 23) (after : List �
       let s = sightOf q c a in
       let k< : k < 8 = omega (arith, r .level-high, r .level-low) in
       arm b base p 23 (r .sound) (r .start) (r .entries-high) (r .processors-high) (r .low)
-      (r .few) (r .early) (r .tagged) (removing (rem.FreeOwn a)) refl refl
-      (moved s (eff.FreeLevel (place (mine b p 4) (mine b p 7))) (removing (rem.FreeLevel a)))
+      (r .few) (r .early) (r .tagged) (deliver (rem.FreeOwn a)) refl refl
+      (moved s (eff.FreeLevel (place (mine b p 4) (mine b p 7))) (deliver (rem.FreeLevel a)))
       (rw (own-is b base p 23 r) refl)
       ((8 + k, 0) ∷ []) ((5, 24) ∷ []) (omega (arith, r .own-high, r .entries-high))
       (omega arith, tt) (omega arith, tt)
@@ -492,8 +499,8 @@ module _ (b : List ℕ) (base p : ℕ) (r : Placed b base p 24) (after : List �
       let s = sightOf q c a in
       let k< : k < 8 = omega (arith, r .level-high, r .level-low) in
       arm b base p 24 (r .sound) (r .start) (r .entries-high) (r .processors-high) (r .low)
-      (r .few) (r .early) (r .tagged) (removing (rem.FreeLevel a)) refl refl
-      (moved s (eff.FreeLevel a) (removing (rem.FreeNode))) (rw (le-leb _ _ h) refl)
+      (r .few) (r .early) (r .tagged) (deliver (rem.FreeLevel a)) refl refl
+      (moved s (eff.FreeLevel a) (deliver (rem.FreeNode))) (rw (le-leb _ _ h) refl)
       ((8 + k, 0) ∷ []) ((5, 25) ∷ (6, 0) ∷ (7, 0) ∷ []) (omega (arith, r .node-low))
       (omega arith, tt) (omega arith, (omega arith, (omega arith, tt)))
       (put-lock (nodeAt q (mine b p 6)) (mine b p 7) 0 k<
@@ -517,9 +524,9 @@ module _ (b : List ℕ) (base p : ℕ) (r : Placed b base p 24) (after : List �
       let s = sightOf q c a in
       let k< : k < 8 = omega (arith, r .level-high, r .level-low) in
       arm b base p 24 (r .sound) (r .start) (r .entries-high) (r .processors-high) (r .low)
-      (r .few) (r .early) (r .tagged) (removing (rem.FreeLevel a)) refl refl
+      (r .few) (r .early) (r .tagged) (deliver (rem.FreeLevel a)) refl refl
       (moved s (eff.FreeLevel a)
-      (removing
+      (deliver
       (rem.Seek
       (seek.Approach (place (mine b p (9 + (mine b p 7 - 1 - 1))) (mine b p 7 - 1))))))
       (rw (lt-leb _ _ h, down-is b base p 24 r) refl)
@@ -544,8 +551,8 @@ module _ (b : List ℕ) (base p : ℕ) (r : Owned b base p 25) (after : List ℕ
       let c = processorAt q p in
       let s = sightOf q c (place 0 1) in
       arm b base p 25 (r .sound) (r .start) (r .entries-high) (r .processors-high) (r .low)
-      (r .few) (r .early) (r .tagged) (removing (rem.FreeNode)) refl refl
-      (moved s (eff.FreeNode (mine b p 4)) (removing (rem.Retire)))
+      (r .few) (r .early) (r .tagged) (deliver (rem.FreeNode)) refl refl
+      (moved s (eff.FreeNode (mine b p 4)) (deliver (rem.Retire)))
       (rw (mine-is b base p 25 r) refl)
       ((16, 0) ∷ []) ((5, 26) ∷ []) (own-low b base p 25 r) (omega arith, tt) (omega arith, tt)
       (put-holder (nodeAt q (mine b p 4)) 0) (refl) after e answer f
@@ -563,7 +570,7 @@ module _ (b : List ℕ) (base p : ℕ) (r : Owned b base p 26) (after : List ℕ
       let c = processorAt q p in
       let s = sightOf q c (place 0 1) in
       arm b base p 26 (r .sound) (r .start) (r .entries-high) (r .processors-high) (r .low)
-      (r .few) (r .early) (r .tagged) (removing (rem.Retire)) refl refl
+      (r .few) (r .early) (r .tagged) (deliver (rem.Retire)) refl refl
       (answers (eff.Retire (mine b p 4)) (ans.HandedOut (entryIn b (base + 41 * mine b p 4))))
       (rw (
         mine-is b base p 26 r,
@@ -587,5 +594,5 @@ module _ (b : List ℕ) (base p : ℕ) (r : Owned b base p 26) (after : List ℕ
       ))
       (rw (clock-is b) (put-retired (nodeAt q (mine b p 4)) (number32 b 3 + 1)))
       (rw (levels-is b)
-      (put-idle (moves c (removing (rem.Retire)) (c .saved)) (getD b 2 0)
+      (put-idle (moves c (deliver (rem.Retire)) (c .saved)) (getD b 2 0)
       (sized-in b .saved-long p (r .few)))) after e answer f

@@ -1,5 +1,5 @@
-// The stages of an Insert after its Lock-seek, in place: each reads what this stage reads, and stores
-// what it changes.
+// The stages of an Insert after its Lock-seek, in place: each reads what this stage reads, and
+// stores what it changes.
 ghost use mathlib.Core.Path.{_≡_};
 ghost use Rattle.image_parts.specs.Given.{Stepped};
 ghost use Rattle.image_parts.specs.Ready.{Placed, Owned};

@@ -69,9 +69,11 @@ fn put_nodes(b: &mut [u8], base: usize, n: usize, tail: u8)
 
 // A fresh queue for p processors, n nodes and l levels.
 pub fn make_at(image: &mut [u8], p: u8, n: u8, l: u8)
-    requires { ⌜ (length (now image) ≡ imageLength p n) × (1 ≤ p) × (p ≤ 16) × (1 ≤ n) × (n ≤ 200) × (1 ≤ l) × (l ≤ 8) ⌝ }
+    requires { ⌜ (length (now image) ≡ imageLength p n) × (1 ≤ p) × (p ≤ 16) × (1 ≤ n) × (n ≤ 200)
+        × (1 ≤ l) × (l ≤ 8) ⌝ }
     ensures { λ _. ⌜ now (image .exit) ≡ imageOf (freshQueue p n l) ⌝ }
-    ensures { λ _. ⌜ Sound (now (image .exit)) × (queueIn (now (image .exit)) ≡ freshQueue p n l) ⌝ }
+    ensures { λ _.
+        ⌜ Sound (now (image .exit)) × (queueIn (now (image .exit)) ≡ freshQueue p n l) ⌝ }
 {
     put_header(image, p, n, l);
     put_callers(image, p as usize);

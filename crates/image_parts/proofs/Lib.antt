@@ -6,3 +6,4 @@ pub mod Given
 pub mod Readings
 pub mod Sounds
 pub mod Reached
+pub mod Refusals

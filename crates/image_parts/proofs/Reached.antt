@@ -10,7 +10,7 @@ use Rattle.record.specs.declared.queues.Queue.{Queue}
 use Rattle.record.specs.Limits.{maxProcessors, nodeSlots}
 use Rattle.record.specs.Nodes.{freshNode}
 use Rattle.record.specs.Queues.{freshProcessor, freshQueue, nodeAt, processorAt}
-use Rattle.rules.specs.Runs.{Call, after, afterAll}
+use Rattle.rules.specs.Runs.{Turn, after, afterAll}
 use Rattle.rules.proofs.Slots.{replicate-either}
 use Rattle.rules.proofs.Untouched.{untouched}
 use Rattle.image.specs.Image.{imageOf, queueIn}
@@ -37,18 +37,18 @@ module _ (P N L : ℕ) where
     callers = λ p h l. caller-fresh p;
   }
 
-pub all-sized : (q : Queue) → Sized q → (cs : List Call) → Sized (afterAll q cs)
+pub all-sized : (q : Queue) → Sized q → (cs : List Turn) → Sized (afterAll q cs)
 unfolding afterAll
 all-sized q S [] = S
 all-sized q S (c ∷ cs) = all-sized (after q c) (sized-after q S c) cs
 
-pub all-trim : (q : Queue) → Trim q → (cs : List Call) → Trim (afterAll q cs)
+pub all-trim : (q : Queue) → Trim q → (cs : List Turn) → Trim (afterAll q cs)
 unfolding afterAll
 all-trim q T [] = T
 all-trim q T (c ∷ cs) = all-trim (after q c) (trim-after q (after q c) (untouched q c) T) cs
 
 pub reached-read :
-    (P N L : ℕ) → P ≤ 16 → N ≤ 200 → (cs : List Call) →
+    (P N L : ℕ) → P ≤ 16 → N ≤ 200 → (cs : List Turn) →
     queueIn (imageOf (afterAll (freshQueue P N L) cs)) ≡ afterAll (freshQueue P N L) cs
 reached-read P N L few short cs =
     let q = freshQueue P N L in

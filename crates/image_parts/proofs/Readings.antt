@@ -10,6 +10,7 @@ use Rattle.record.specs.declared.keys.Key.{Key}
 use Rattle.record.specs.declared.nodes.Node.{Node}
 use Rattle.record.specs.declared.queues.Processor.{Processor}
 use Rattle.record.specs.declared.stages.Stage.{Stage}
+use Rattle.record.specs.declared.stages.Stage.the-variants as stage
 use Rattle.record.specs.Keys.{nodeKey, keyBefore}
 use Rattle.record.specs.Nodes.{keyOf, lockAt}
 use Rattle.record.specs.Queues.{nodeAt, processorAt, savedAt}
@@ -20,7 +21,9 @@ use Rattle.image.specs.Pieces.{nodeImage, processorImage}
 use Rattle.rules.specs.declared.answers.Answer.{Answer}
 use Rattle.rules.specs.declared.answers.Entry.{Entry}
 use Rattle.rules.specs.declared.decisions.Decision.{Decision}
-use Rattle.rules.specs.Calls.{stepValid, entryOf, readingPlace, nextOf, sightOf, stepDecision}
+use Rattle.rules.specs.declared.calls.Call.the-variants as call
+use Rattle.rules.specs.Calls.{calledValid, entryOf, readingPlace, keyFor, nextOf, sightOf}
+use Rattle.rules.specs.Calls.{stepDecision}
 use Rattle.rules.specs.Effects.{nodeOf, changed, processorAfter, accepted}
 use Rattle.rules.specs.Decide.{decide}
 use Rattle.image.specs.Puts.{puts, putsIn, four, piece, clears}
@@ -75,6 +78,13 @@ module _ (b : List ℕ) (base : ℕ) (start : base ≡ startOf b) (short : getD 
       (node-is b base start short (mine b p 6) (omega arith))
       ∙ eight-at (piece b o) 0 k (omega arith) ∙ ap (piece b o) z
 
+-- the operation's key is the own node's
+own-key : (g : Stage) (k : Key) → keyFor g k ≡ k
+own-key stage.Idle k = refl
+own-key (stage.Insert i) k = refl
+own-key (stage.Delete d) k = refl
+own-key (stage.Removal j r) k = refl
+
 module _ (b : List ℕ) (base p tag : ℕ) (r : Placed b base p tag) where
   pub stage-is : processorAt (queueIn b) p .stage
       ≡ stageOf (code tag (mine b p 6) (mine b p 7) (mine b p 8))
@@ -95,7 +105,9 @@ module _ (b : List ℕ) (base p tag : ℕ) (r : Placed b base p tag) where
   before-is =
       let q = queueIn b in
       let k : ℕ → Key = λ y. keyOf (q .entries) y (nodeAt q y) in
-      ap (λ (y : ℕ). keyBefore (k y) (k (processorAt q p .own))) next-is
+      ap (keyBefore (k (nextOf q (place (mine b p 6) (mine b p 7)))))
+      (own-key (processorAt q p .stage) (k (processorAt q p .own)))
+      ∙ ap (λ (y : ℕ). keyBefore (k y) (k (processorAt q p .own))) next-is
       ∙ ap (λ (y : ℕ). keyBefore (k (onward b base p)) (k y)) own-is
       ∙ ap (λ (y : Key). keyBefore y (k (mine b p 4)))
       (key-is b base (r .start) (r .entries-high) (onward b base p) (r .next-low))
@@ -139,7 +151,7 @@ module _ (b : List ℕ) (base p tag : ℕ) (s : Sound b) (start : base ≡ start
       let c = processorAt q p in
       let decided : stepDecision q c ≡ d =
       ap (λ (x : Stage). decide (sightOf q c (readingPlace x)) x) at-stage ∙ decides in
-      gives b base p s (head-is b base start) (low-is b p low) d (stepValid q p)
+      gives b base p s (head-is b base start) (low-is b p low) d (calledValid q (call.Step p))
       (step-accepted q p (rw (clock-is b) early) (low-is b p low) (ap isIdle at-stage ∙ busy)
       ∙ ap (accepted q p) decided)
       es fs (tail-is b (nodeOf (d .effect)) x<) es< fs< node

@@ -4,9 +4,8 @@ use mathlib.Core.Bool.{true}
 use mathlib.Core.List.{List}
 use Prim.Native.Nat.{ℕ, _+_, _*_, _-_, _≤_, _<_}
 use native.Mathlib.Omega.{arith}
-use lib.ListN.{getD, take, drop}
+use lib.ListN.{getD, drop}
 use lib.Seq.{getD-take, getD-drop}
-use borrow.Author.Tests.{le-leb, lt-leb}
 use Rattle.checks.specs.Check.{valid}
 use Rattle.record.specs.declared.nodes.Node.{Node}
 use Rattle.record.specs.declared.queues.Processor.{Processor}
@@ -16,12 +15,12 @@ use Rattle.record.specs.declared.stages.Seek.the-variants as seek
 use Rattle.record.specs.declared.stages.Insert.the-variants as ins
 use Rattle.record.specs.declared.stages.Removal.the-variants as rem
 use Rattle.record.specs.declared.stages.Delete.the-variants as del
+use Rattle.record.specs.declared.stages.Job.the-variants as jobs
 use Rattle.record.specs.declared.stages.Stage.the-variants as stage
 use Rattle.record.specs.declared.stages.Stage.{Stage}
-use Rattle.record.specs.Limits.{maxNumber}
 use Rattle.record.specs.Nodes.{freshNode}
 use Rattle.record.specs.Queues.{nodeAt, processorAt}
-use Rattle.record.specs.Stages.{place, carried, isIdle}
+use Rattle.record.specs.Stages.{place, carried}
 use Rattle.image.specs.Tags.{code, stageCode, stageOf}
 use Rattle.image.specs.Numbers.{number32}
 use Rattle.image.specs.Pieces.{processorImage}
@@ -29,18 +28,21 @@ use Rattle.rules.specs.declared.answers.Answer.{Answer}
 use Rattle.rules.specs.declared.answers.Answer.the-variants as ans
 use Rattle.rules.specs.declared.answers.Outcome.{Outcome}
 use Rattle.rules.specs.Answers.{refused}
-use Rattle.rules.specs.Calls.{beginInsertValid, beginDeleteValid, stepValid}
+use Rattle.rules.specs.declared.calls.Call.{Call}
+use Rattle.rules.specs.Calls.{nodeRefusal, firstOf, refusalOf, calledValid}
+use Rattle.rules.specs.Choice.{chosen}
 use Rattle.rules.proofs.ValidFacts.{valid-facts}
-use Rattle.rules.proofs.Inner.{step-inner, insert-inner, delete-inner}
+use Rattle.rules.proofs.Allowed.{first-told, first-none}
+use Rattle.rules.proofs.Inner.{call-inner, call-told}
 use Rattle.image_parts.proofs.Kept.{sized-after}
 use Rattle.image.specs.Image.{imageOf, startOf, callerPart, queueIn, Sound}
-use Rattle.image_parts.specs.Given.{Gives, Stepped}
+use Rattle.image_parts.specs.Given.{Gives, refusalIn, Called}
 use Rattle.image.specs.OneToOne.{Trim}
 use Rattle.image.proofs.Inverse.{trim-in, caller-part, read-write}
 use Rattle.image.proofs.Sizes.{sized-in}
 use Rattle.image.proofs.Lengths.{length-image}
 use Rattle.rules.specs.Demand3.{SameOutside}
-use Rattle.rules.specs.Runs.{Call, insert, deleteMin, steps, after}
+use Rattle.rules.specs.Runs.{Turn, calls, after}
 use Rattle.rules.proofs.Untouched.{untouched}
 use Rattle.rules.proofs.Valid.{kept-valid}
 use Rattle.image.proofs.Fields.{caller-is, node-is}
@@ -184,7 +186,7 @@ trim-after q u o t =
     }
 
 -- the record after a call of any kind: its image is read as it, and passes
-module _ (b : List ℕ) (s : Sound b) (c : Call) (u : Queue) (is : u ≡ after (queueIn b) c) where
+module _ (b : List ℕ) (s : Sound b) (c : Turn) (u : Queue) (is : u ≡ after (queueIn b) c) where
   pub back-after : queueIn (imageOf u) ≡ u
   unfolding queueIn
   back-after =
@@ -202,7 +204,7 @@ module _ (b : List ℕ) (s : Sound b) (c : Call) (u : Queue) (is : u ≡ after (
     passes = ap valid back-after ∙ ap valid is ∙ kept-valid (queueIn b) c (s .passes);
   }
 
-module _ (b : List ℕ) (s : Sound b) (c : Call) (o : Outcome) (is : o .queue ≡ after (queueIn b) c)
+module _ (b : List ℕ) (s : Sound b) (c : Turn) (o : Outcome) (is : o .queue ≡ after (queueIn b) c)
     (l : List ℕ) (r : Answer) (g : Gives o l r) where
   pub sound-after : Sound l
   sound-after = rw (g .bytes) (sound-image b s c (o .queue) is)
@@ -210,18 +212,10 @@ module _ (b : List ℕ) (s : Sound b) (c : Call) (o : Outcome) (is : o .queue �
   pub queue-after : queueIn l ≡ o .queue
   queue-after = ap queueIn (g .bytes) ∙ back-after b s c (o .queue) is
 
--- the inner forms are the calls
-module _ (b : List ℕ) (s : Sound b) (p : ℕ) where
-  pub step-is : stepValid (queueIn b) p .queue ≡ after (queueIn b) (steps p)
-  step-is = ap (λ (o : Outcome). o .queue) (sym (step-inner (queueIn b) p (s .passes)))
-
-  pub delete-is : beginDeleteValid (queueIn b) p .queue ≡ after (queueIn b) (deleteMin p)
-  delete-is = ap (λ (o : Outcome). o .queue) (sym (delete-inner (queueIn b) p (s .passes)))
-
-  pub insert-is : (due item height : ℕ) → beginInsertValid (queueIn b) p due item height .queue
-      ≡ after (queueIn b) (insert p due item height)
-  insert-is due item height =
-      ap (λ (o : Outcome). o .queue) (sym (insert-inner (queueIn b) p due item height (s .passes)))
+-- the inner form is the call
+pub call-is : (b : List ℕ) → Sound b → (c : Call) → calledValid (queueIn b) c .queue
+    ≡ after (queueIn b) (calls c)
+call-is b s c = ap (λ (o : Outcome). o .queue) (sym (call-inner (queueIn b) c (s .passes)))
 
 -- a refused call
 pub refuses : (b : List ℕ) → Sound b → (o : Outcome) (n : ℕ) (r : Answer) → o
@@ -231,31 +225,28 @@ refuses b s o n r e f = record {
   answer = f ∙ ap (λ (u : Outcome). u .answer) (sym e);
 }
 
--- the refusals
+module _ (b : List ℕ) (s : Sound b) (c : Call) where
+  -- what a call leaves passes again
+  pub kept-sound : (after : List ℕ) (r : Answer) → Gives (calledValid (queueIn b) c) after r →
+      Called b c after r
+  kept-sound after r g = (g, sound-after b s (calls c) _ (call-is b s c) after r g)
+
+  -- refused before a node is looked for, and for want of one
+  pub refused-early : (n : ℕ) → n ≡ refusalIn b c → 0 < n → (r : Answer) → r ≡ ans.Refused n →
+      Called b c b r
+  refused-early n e h r f =
+      let more = nodeRefusal c (chosen (queueIn b)) in
+      let at : refusalOf (queueIn b) c ≡ n =
+      ap (λ (m : ℕ). firstOf m more) (sym e) ∙ first-told n more h in
+      kept-sound b r (refuses b s _ n r (call-told (queueIn b) c n at h) f)
+
+  pub refused-late : refusalIn b c ≡ 0 → (n : ℕ) → nodeRefusal c (chosen (queueIn b)) ≡ n → 0 < n →
+      (r : Answer) → r ≡ ans.Refused n → Called b c b r
+  refused-late e n g h r f =
+      let at = first-none (refusalIn b c) (nodeRefusal c (chosen (queueIn b))) e ∙ g in
+      kept-sound b r (refuses b s _ n r (call-told (queueIn b) c n at h) f)
+
 module _ (b : List ℕ) (p : ℕ) (s : Sound b) (r : Answer) where
-  pub full : 999999 ≤ number32 b 3 → r ≡ ans.Refused 31 → Stepped b p b r
-  unfolding queueIn
-  full h = let c : maxNumber ≤ queueIn b .clock = h in refuses b s _ 31 r (simp (le-leb _ _ c))
-
-  module _ (early : number32 b 3 < 999999) where
-    pub none : getD b 0 0 ≤ p → r ≡ ans.Refused 32 → Stepped b p b r
-    unfolding queueIn
-    none h =
-        let c : queueIn b .clock < maxNumber = early in
-        let k : queueIn b .processors ≤ p = h in
-        refuses b s _ 32 r (simp (lt-leb _ _ c, le-leb _ _ k))
-
-    pub idle : p < getD b 0 0 → mine b p 5 ≡ 0 → r ≡ ans.Refused 34 → Stepped b p b r
-    unfolding queueIn
-    idle h t =
-        let c : queueIn b .clock < maxNumber = early in
-        let k : p < queueIn b .processors = h in
-        let many : getD b 0 0 ≤ 16 = valid-facts (queueIn b) (s .passes) .sizes .processors .high in
-        let g : isIdle (processorAt (queueIn b) p .stage) ≡ true =
-        ap (λ (c : Processor). isIdle (c .stage)) (caller-is b p many h)
-        ∙ ap (λ (t : ℕ). isIdle (stageOf (code t (mine b p 6) (mine b p 7) (mine b p 8)))) t in
-        refuses b s _ 34 r (simp (lt-leb _ _ c, lt-leb _ _ k, g))
-
   pub processors-high : getD b 0 0 ≤ 16
   unfolding queueIn
   processors-high = valid-facts (queueIn b) (s .passes) .sizes .processors .high
@@ -270,25 +261,25 @@ tag-low (stage.Insert (ins.FreeLevel a)) = omega arith
 tag-low (stage.Insert ins.FreeNode) = omega arith
 tag-low (stage.Insert ins.Stamp) = omega arith
 tag-low (stage.Insert (ins.Seek (seek.Approach a))) = omega arith
-tag-low (stage.Delete (del.Removal (rem.Seek (seek.Approach a)))) = omega arith
+tag-low (stage.Removal jobs.Deliver (rem.Seek (seek.Approach a))) = omega arith
 tag-low (stage.Insert (ins.Seek (seek.Take a))) = omega arith
-tag-low (stage.Delete (del.Removal (rem.Seek (seek.Take a)))) = omega arith
+tag-low (stage.Removal jobs.Deliver (rem.Seek (seek.Take a))) = omega arith
 tag-low (stage.Insert (ins.Seek (seek.Confirm a))) = omega arith
-tag-low (stage.Delete (del.Removal (rem.Seek (seek.Confirm a)))) = omega arith
+tag-low (stage.Removal jobs.Deliver (rem.Seek (seek.Confirm a))) = omega arith
 tag-low (stage.Insert (ins.Seek (seek.Release a b))) = omega arith
-tag-low (stage.Delete (del.Removal (rem.Seek (seek.Release a b)))) = omega arith
+tag-low (stage.Removal jobs.Deliver (rem.Seek (seek.Release a b))) = omega arith
 tag-low (stage.Delete (del.Next a)) = omega arith
 tag-low (stage.Delete (del.Stamped a)) = omega arith
 tag-low (stage.Delete (del.Mark a)) = omega arith
-tag-low (stage.Delete (del.Removal (rem.Search a))) = omega arith
-tag-low (stage.Delete (del.Removal (rem.HoldOwn a))) = omega arith
-tag-low (stage.Delete (del.Removal (rem.Unlink a))) = omega arith
-tag-low (stage.Delete (del.Removal (rem.Back a))) = omega arith
-tag-low (stage.Delete (del.Removal (rem.FreeOwn a))) = omega arith
-tag-low (stage.Delete (del.Removal (rem.FreeLevel a))) = omega arith
-tag-low (stage.Delete (del.Removal rem.HoldNode)) = omega arith
-tag-low (stage.Delete (del.Removal rem.FreeNode)) = omega arith
-tag-low (stage.Delete (del.Removal rem.Retire)) = omega arith
+tag-low (stage.Removal jobs.Deliver (rem.Search a)) = omega arith
+tag-low (stage.Removal jobs.Deliver (rem.HoldOwn a)) = omega arith
+tag-low (stage.Removal jobs.Deliver (rem.Unlink a)) = omega arith
+tag-low (stage.Removal jobs.Deliver (rem.Back a)) = omega arith
+tag-low (stage.Removal jobs.Deliver (rem.FreeOwn a)) = omega arith
+tag-low (stage.Removal jobs.Deliver (rem.FreeLevel a)) = omega arith
+tag-low (stage.Removal jobs.Deliver rem.HoldNode) = omega arith
+tag-low (stage.Removal jobs.Deliver rem.FreeNode) = omega arith
+tag-low (stage.Removal jobs.Deliver rem.Retire) = omega arith
 
 tag-of : (c : Processor) → getD (processorImage c) 5 0 ≡ stageCode (c .stage) .tag
 unfolding processorImage

@@ -10,7 +10,8 @@ use Rattle.image.specs.Image.{Sound}
 
 -- the key of node x
 abbrev pub keyIn : List ℕ → ℕ → ℕ → Key
-keyIn b base x = nodeKey (getD b 1 0) x (number32 b (base + 41 * x + 23)) (number32 b (base + 41 * x + 27))
+keyIn b base x =
+    nodeKey (getD b 1 0) x (number32 b (base + 41 * x + 23)) (number32 b (base + 41 * x + 27))
 
 pub record Placed (b : List ℕ) (base p tag : ℕ) : Type 0 where
   pub sound : Sound b
@@ -29,7 +30,8 @@ pub record Placed (b : List ℕ) (base p tag : ℕ) : Type 0 where
   pub entries-high : getD b 1 0 ≤ 200
   pub height-low : 1 ≤ getD b (base + 41 * getD b (7 + 17 * p + 4) 0 + 35) 0
   pub height-high : getD b (base + 41 * getD b (7 + 17 * p + 4) 0 + 35) 0 ≤ 8
-  pub next-low : getD b (base + 41 * getD b (7 + 17 * p + 6) 0 + (getD b (7 + 17 * p + 7) 0 - 1)) 0 ≤ getD b 1 0 + 1
+  pub next-low : getD b
+      (base + 41 * getD b (7 + 17 * p + 6) 0 + (getD b (7 + 17 * p + 7) 0 - 1)) 0 ≤ getD b 1 0 + 1
 
 -- a stage with an own node and no place
 pub record Owned (b : List ℕ) (base p tag : ℕ) : Type 0 where

@@ -8,8 +8,11 @@ use image::numbers::number_from;
 
 // Whether node x's key is before that of node y, which is an entry's.
 pub fn before(b: &[u8], base: usize, x: u8, y: u8) -> bool
-    requires { ⌜ (length (now b) ≡ base + 41 * (getD (now b) 1 0 + 2)) × (x ≤ getD (now b) 1 0 + 1) × (1 ≤ y) × (y ≤ getD (now b) 1 0) × (getD (now b) 1 0 ≤ 200) × (7 ≤ base) × (base ≤ 279) ⌝ }
-    ensures { λ r. ⌜ r ≡ keyBefore (keyIn (now (b .entry)) base x) (keyIn (now (b .entry)) base y) ⌝ }
+    requires { ⌜ (length (now b) ≡ base + 41 * (getD (now b) 1 0 + 2)) × (x ≤ getD (now b) 1 0 + 1)
+        × (1 ≤ y) × (y ≤ getD (now b) 1 0) × (getD (now b) 1 0 ≤ 200) × (7 ≤ base)
+        × (base ≤ 279) ⌝ }
+    ensures { λ r.
+        ⌜ r ≡ keyBefore (keyIn (now (b .entry)) base x) (keyIn (now (b .entry)) base y) ⌝ }
 {
     if x == 0 {
         return true;

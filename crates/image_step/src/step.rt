@@ -1,8 +1,11 @@
 // A step in place: the stage's tag tells which function makes it.
-ghost use Rattle.image.specs.Image.{Sound};
-ghost use Rattle.image_parts.specs.Given.{Stepped};
-use checks::limits::NUMBER;
-use image::numbers::number_from;
+ghost use mathlib.Core.Path.{_≡_};
+ghost use Prim.Native.Nat.{_+_, _*_, _≤_, _<_};
+ghost use lib.ListN.{getD};
+ghost use Rattle.image.specs.Image.{startOf, Sound};
+ghost use Rattle.image.specs.Numbers.{number32};
+ghost use Rattle.image_parts.specs.Given.{Called};
+ghost use Rattle.rules.specs.declared.calls.Call.the-variants as call;
 use image_delete::removals::back;
 use image_delete::removals::free_level;
 use image_delete::removals::free_node;
@@ -19,30 +22,23 @@ use image_insert::inserts::free_level as insert_free_level;
 use image_insert::inserts::free_node as insert_free_node;
 use image_insert::inserts::link;
 use image_insert::inserts::stamp;
+use image_parts::refused::refusal_at;
 use image_walks::walks::approach;
 use image_walks::walks::confirm;
 use image_walks::walks::release;
 use image_walks::walks::search;
 use image_walks::walks::take;
 use rules::Answer;
+use rules::Call;
 
-// A step of a processor, on the image of a record that passes check 21; the image that it leaves is
-// one again.
-pub fn step_at(image: &mut [u8], processor: u32) -> Answer
-    requires { ⌜ Sound (now image) ⌝ }
-    ensures { λ r. ⌜ Stepped (now (image .entry)) processor (now (image .exit)) r × Sound (now (image .exit)) ⌝ }
+// The step of the stage that processor p is in, by the stage's tag.
+fn stage_step(image: &mut [u8], base: usize, p: usize) -> Answer
+    requires { ⌜ Sound (now image) × (base ≡ startOf (now image)) × (p < getD (now image) 0 0)
+        × (number32 (now image) 3 < 999999) × (1 ≤ getD (now image) (7 + 17 * p + 5) 0) ⌝ }
+    ensures { λ r. ⌜ Called (now (image .entry)) (call.Step p) (now (image .exit)) r ⌝ }
 {
-    if NUMBER <= number_from(image, 3) {
-        return Answer::Refused(31);
-    }
-    if (image[0] as u32) <= processor {
-        return Answer::Refused(32);
-    }
-    let p = processor as usize;
-    let base = 7 + 17 * (image[0] as usize);
     let tag = image[7 + 17 * p + 5];
     match tag {
-        0 => return Answer::Refused(34),
         1 => return search(image, base, p, false),
         2 => return approach(image, base, p, false),
         3 => return take(image, base, p, false),
@@ -71,4 +67,18 @@ pub fn step_at(image: &mut [u8], processor: u32) -> Answer
         26 => return retire(image, base, p),
         _ => return Answer::Waits,
     }
+}
+
+// A step of a processor, on the image of a record that passes check 21; the image that it leaves is
+// one again.
+pub fn step_at(image: &mut [u8], processor: u32) -> Answer
+    requires { ⌜ Sound (now image) ⌝ }
+    ensures { λ r. ⌜ Called (now (image .entry)) (call.Step processor) (now (image .exit)) r ⌝ }
+{
+    let refusal = refusal_at(image, Call::Step(processor));
+    if 0 < refusal {
+        return Answer::Refused(refusal);
+    }
+    let base = 7 + 17 * (image[0] as usize);
+    stage_step(image, base, processor as usize)
 }

@@ -12,25 +12,14 @@ use Rattle.record.specs.declared.stages.Seek.{Seek}
 use Rattle.record.specs.declared.stages.Seek.the-variants as seek
 use Rattle.record.specs.declared.stages.Insert.the-variants as ins
 use Rattle.record.specs.declared.stages.Removal.the-variants as rem
+use Rattle.record.specs.declared.stages.Job.the-variants as jobs
 use Rattle.record.specs.declared.stages.Stage.{Stage}
 use Rattle.record.specs.declared.stages.Stage.the-variants as stage
-use Rattle.record.specs.Stages.{place, seekCarried, isIdle}
+use Rattle.record.specs.Stages.{place, seekPart, isIdle}
 use Rattle.rules.specs.declared.decisions.Effect.the-variants as eff
 use Rattle.rules.specs.declared.decisions.Sight.{Sight}
 use Rattle.rules.specs.Calls.{readingPlace}
-use Rattle.rules.specs.Decide.{
-  moved,
-  waits,
-  saving,
-  decide,
-  searchStep,
-  seekStep,
-  insertSearched,
-  insertSought,
-  removing,
-  removalSearched,
-  removalSought,
-}
+use Rattle.rules.specs.Decide.{moved, waits, saving, decide, removing}
 use Rattle.image.specs.Tags.{code, stageOf}
 use Rattle.image.specs.Pieces.{processorImage}
 use Rattle.image.specs.Puts.{putsIn}
@@ -39,20 +28,20 @@ use Rattle.image_walks.specs.Walks.{searchTag, seekTag}
 
 -- a stage of the Search, of the Lock-seek, and the one after the Lock-seek
 abbrev pub searching : Bool → Place → Stage
-searching true a = removing (rem.Search a)
+searching true a = removing jobs.Deliver (rem.Search a)
 searching false a = stage.Insert (ins.Search a)
 
 abbrev pub seeking : Bool → Seek → Stage
-seeking true k = removing (rem.Seek k)
+seeking true k = removing jobs.Deliver (rem.Seek k)
 seeking false k = stage.Insert (ins.Seek k)
 
 abbrev pub sought : Bool → Place → Stage
-sought true a = removing (rem.HoldOwn a)
+sought true a = removing jobs.Deliver (rem.HoldOwn a)
 sought false a = stage.Insert (ins.Copy a)
 
 -- the one after the Search
 abbrev pub after : Bool → Place → Stage
-after true a = removing rem.HoldNode
+after true a = removing jobs.Deliver rem.HoldNode
 after false a = stage.Insert (ins.Seek (seek.Approach a))
 
 -- by their tags
@@ -97,7 +86,7 @@ pub search-reads : (w : Bool) (a : Place) → readingPlace (searching w a) ≡ a
 search-reads true a = refl
 search-reads false a = refl
 
-pub seek-reads : (w : Bool) (k : Seek) → readingPlace (seeking w k) ≡ seekCarried k .place
+pub seek-reads : (w : Bool) (k : Seek) → readingPlace (seeking w k) ≡ seekPart k .place
 seek-reads true k = refl
 seek-reads false k = refl
 

@@ -1,5 +1,5 @@
--- Calls on a lent record, and making a queue in one. "A refusal returns its number and leaves everything lent untouched": the outcome of a refused call
--- has the record as it came.
+-- Calls on a lent record, and making a queue in one. "A refusal returns its number and leaves
+-- everything lent untouched": the outcome of a refused call has the record as it came.
 use mathlib.Core.Path.{_≡_}
 use mathlib.Core.Bool.{cond}
 use lib.Dec.{eqb}

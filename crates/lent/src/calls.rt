@@ -1,5 +1,5 @@
-// The calls on a lent record. The record after the call and the answer are those of the defined outcome: a refused call gives the record as it came,
-// so that it stays as it was.
+// The calls on a lent record. The record after the call and the answer are those of the defined
+// outcome: a refused call gives the record as it came, so that it stays as it was.
 ghost use Rattle.rules.specs.Calls.{beginInsert, beginDelete, step as stepOf};
 ghost use Rattle.lent.specs.Lent.{Gave};
 use record::Queue;
@@ -7,7 +7,8 @@ use rules::Answer;
 
 // The begin of an Insert by a processor: due minute, item and height are any numbers.
 pub fn begin_insert(q: &mut Queue, processor: u32, due: u32, item: u32, height: u32) -> Answer
-    ensures { λ a. ⌜ Gave (beginInsert (now (q .entry)) processor due item height) (now (q .exit)) a ⌝ }
+    ensures { λ a.
+        ⌜ Gave (beginInsert (now (q .entry)) processor due item height) (now (q .exit)) a ⌝ }
 {
     let o = queue::begin_insert(*q, processor, due, item, height);
     *q = o.queue;

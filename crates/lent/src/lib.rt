@@ -1,5 +1,5 @@
-// Thin entries for hosts in Rattle that keep the record: each takes it by reference, calls the call by value and stores the record that it gives.
-// No public function has a `requires`.
+// Thin entries for hosts in Rattle that keep the record: each takes it by reference, calls the call
+// by value and stores the record that it gives. No public function has a `requires`.
 pub mod calls;
 pub mod making;
 pub mod reads;

@@ -28,10 +28,13 @@ fn made_over(q: Queue, p: u32, n: u32, l: u32) -> Remade
     }
 }
 
-// Makes a queue for p processors (1 to 16; else 11), n nodes (1 to 200; else 12) and l levels (1 to 8; else 13) in the lent record, whatever it was,
-// and gives 0. A refusal gives its number and leaves the record as it was.
+// Makes a queue for p processors (1 to 16; else 11), n nodes (1 to 200; else 12) and l levels (1 to
+// 8; else 13) in the lent record, whatever it was, and gives 0. A refusal gives its number and
+// leaves the record as it was.
 pub fn make(q: &mut Queue, p: u32, n: u32, l: u32) -> u8
-    ensures { λ r. ⌜ (now (q .exit) ≡ remade (now (q .entry)) (made p n l) .queue) × (r ≡ remade (now (q .entry)) (made p n l) .refusal) ⌝ }
+    ensures { λ r.
+        ⌜ (now (q .exit) ≡ remade (now (q .entry)) (made p n l) .queue)
+        × (r ≡ remade (now (q .entry)) (made p n l) .refusal) ⌝ }
 {
     let m = made_over(*q, p, n, l);
     *q = m.queue;

@@ -7,7 +7,9 @@ use record::Queue;
 // How many entries are answered and not marked: of the nodes 1 to N those in use, stamped and
 // unmarked. 21 for a record that does not pass check 21.
 pub fn backlog(q: &Queue) -> Count
-    ensures { λ r. ⌜ (r ≡ backlogOf (now (q .entry))) × (reportedCount r ≡ reportedCount (backlogOf (now (q .entry)))) ⌝ }
+    ensures { λ r.
+        ⌜ (r ≡ backlogOf (now (q .entry)))
+        × (reportedCount r ≡ reportedCount (backlogOf (now (q .entry)))) ⌝ }
 {
     checks::backlog(*q)
 }

@@ -7,82 +7,37 @@ use native.Mathlib.Numerals.{add-one}
 use native.Mathlib.Omega.{arith}
 use lib.Dec.{ltb}
 use lib.ListN.{length, length-set}
-use borrow.Author.Tests.{eq-eqb, ne-eqb, ltb-true, ltb-false}
+use borrow.Author.Tests.{ltb-true, ltb-false}
 use Rattle.laws.proofs.Booleans.{cond-cases}
 use Rattle.record.specs.declared.queues.Queue.{Queue}
 use Rattle.record.specs.Queues.{freshQueue}
 use Rattle.rules.specs.declared.answers.Answer.{Answer}
 use Rattle.rules.specs.declared.answers.Outcome.{Outcome}
-use Rattle.rules.specs.Book.{agrees}
-use Rattle.rules.specs.Calls.{beginInsertValid, beginDeleteValid, stepValid}
-use Rattle.rules.specs.Runs.{Call, insert, deleteMin, steps, after, answered, reply, afterAll}
+use Rattle.rules.specs.declared.calls.Call.{Call}
+use Rattle.rules.specs.Calls.{called}
+use Rattle.rules.specs.Runs.{Turn, calls, after, afterAll}
 use Rattle.rules.proofs.Demand3.{demand-three}
-use Rattle.lists.specs.declared.runs.Asked.{Asked}
 use Rattle.lists.specs.declared.runs.Told.{Told}
-use Rattle.lists.specs.Plain.{askedAt, callOf, callAt, callsTo, recordTo, told, toldBy, put}
+use Rattle.lists.specs.Plain.{callFrom, callAt, callsTo, recordTo, told, put}
 use Rattle.lists.specs.Plain.{writtenTo, smaller, turns}
-use Rattle.lists.specs.InPlace.{Turned, listCode, bytesAfterList, answersAfterList, Agreed}
+use Rattle.lists.specs.InPlace.{listCode, bytesAfterList, answersAfterList, Agreed}
 use Rattle.image.specs.Image.{imageOf, queueIn, passesOf, Sound}
 use Rattle.image.specs.Numbers.{number32}
-use Rattle.image_parts.specs.Given.{Gives}
+use Rattle.image_parts.specs.Given.{Called}
 use Rattle.image_parts.proofs.Reached.{reached-read}
-use Rattle.image_parts.proofs.Sounds.{queue-after, insert-is, delete-is, step-is}
-use Rattle.rules.proofs.Inner.{step-inner}
-use Rattle.rules.proofs.Inner.{insert-inner, delete-inner}
-
--- each kind of call
-module _ (b : List ℕ) (a : Asked) (c : List ℕ) (r : Answer) (s : Sound b) (k : Call)
-    (is : callOf a ≡ k) where
-  turned : (o : Outcome) → o .queue ≡ after (queueIn b) k → answered (o .answer)
-      ≡ reply (queueIn b) k → Gives o c r × Sound c → Turned b a c r
-  turned o e f g = record {
-    sound = g .1;
-    queue = queue-after b s k o e c r (g .0) ∙ e ∙ ap (after (queueIn b)) (sym is);
-    answer = ap told (g .0 .answer) ∙ ap toldBy f
-        ∙ ap (λ (x : Call). toldBy (reply (queueIn b) x)) (sym is);
-  }
-
-module _ (b : List ℕ) (a : Asked) (c : List ℕ) (r : Answer) (s : Sound b) where
-  pub turned-insert : a .kind ≡ 1 →
-      Gives (beginInsertValid (queueIn b) (a .processor) (a .due) (a .item) (a .height)) c r ×
-      Sound c → Turned b a c r
-  turned-insert k =
-      turned b a c r s (insert (a .processor) (a .due) (a .item) (a .height))
-      (simp (eq-eqb (a .kind) 1 k))
-      (beginInsertValid (queueIn b) (a .processor) (a .due) (a .item) (a .height))
-      (insert-is b s (a .processor) (a .due) (a .item) (a .height))
-      (ap (λ (o : Outcome). answered (o .answer))
-      (sym (insert-inner (queueIn b) (a .processor) (a .due) (a .item) (a .height)
-      (s .passes))))
-
-  pub turned-delete : (a .kind ≡ 1 → ⊥) → a .kind ≡ 2 →
-      Gives (beginDeleteValid (queueIn b) (a .processor)) c r × Sound c → Turned b a c r
-  turned-delete j k =
-      turned b a c r s (deleteMin (a .processor))
-      (simp (ne-eqb (a .kind) 1 j, eq-eqb (a .kind) 2 k))
-      (beginDeleteValid (queueIn b) (a .processor)) (delete-is b s (a .processor))
-      (ap (λ (o : Outcome). answered (o .answer))
-      (sym (delete-inner (queueIn b) (a .processor) (s .passes))))
-
-  pub turned-step : (a .kind ≡ 1 → ⊥) → (a .kind ≡ 2 → ⊥) →
-      Gives (stepValid (queueIn b) (a .processor)) c r × Sound c → Turned b a c r
-  turned-step j k =
-      turned b a c r s (steps (a .processor)) (simp (ne-eqb (a .kind) 1 j, ne-eqb (a .kind) 2 k))
-      (stepValid (queueIn b) (a .processor)) (step-is b s (a .processor))
-      (ap (λ (o : Outcome). answered (o .answer))
-      (sym (step-inner (queueIn b) (a .processor) (s .passes))))
+use Rattle.image_call.proofs.Results.{queue-called, answer-called}
 
 -- one call more
 module _ (q : Queue) (l : List ℕ) (k : ℕ) where
-  pub record-more : recordTo q l (k + 1) ≡ after (recordTo q l k) (callAt l k)
+  pub record-more : recordTo q l (k + 1) ≡ called (recordTo q l k) (callAt l k) .queue
   unfolding recordTo
   record-more = rw add-one
 
   pub written-more :
       (a : List ℕ) →
       writtenTo q l a (k + 1)
-      ≡ put (writtenTo q l a k) (k * 5) (toldBy (reply (recordTo q l k) (callAt l k)))
-      (after (recordTo q l k) (callAt l k) .clock)
+      ≡ put (writtenTo q l a k) (k * 5) (told (called (recordTo q l k) (callAt l k) .answer))
+      (called (recordTo q l k) (callAt l k) .queue .clock)
   unfolding recordTo writtenTo
   written-more a = rw add-one
 
@@ -100,16 +55,16 @@ clock-is : (b : List ℕ) → number32 b 3 ≡ queueIn b .clock
 unfolding queueIn
 clock-is b = refl
 
-module _ (q : Queue) (l w : List ℕ) (i : ℕ) (b c : List ℕ) (x : Asked) (r : Answer)
-    (h : queueIn b ≡ recordTo q l i) (is : x ≡ askedAt l (i * 5)) (t : Turned b x c r) where
-  same-after : after (queueIn b) (callOf x) ≡ after (recordTo q l i) (callAt l i)
-  same-after = simp (h, is)
+module _ (q : Queue) (l w : List ℕ) (i : ℕ) (b c : List ℕ) (x : Call) (r : Answer) (s : Sound b)
+    (h : queueIn b ≡ recordTo q l i) (is : x ≡ callFrom l (i * 5)) (t : Called b x c r) where
+  same : called (queueIn b) x ≡ called (recordTo q l i) (callAt l i)
+  same = simp (h, is)
 
-  same-reply : reply (queueIn b) (callOf x) ≡ reply (recordTo q l i) (callAt l i)
-  same-reply = simp (h, is)
+  queue-is : queueIn c ≡ called (recordTo q l i) (callAt l i) .queue
+  queue-is = queue-called b s x c r t ∙ ap (λ (o : Outcome). o .queue) same
 
   pub queue-next : queueIn c ≡ recordTo q l (i + 1)
-  queue-next = t .queue ∙ same-after ∙ sym (record-more q l i)
+  queue-next = queue-is ∙ sym (record-more q l i)
 
   pub written-next :
       (v v′ : List ℕ) (y : Told) (clock : ℕ) → v ≡ writtenTo q l w i → y ≡ told r → clock
@@ -117,9 +72,8 @@ module _ (q : Queue) (l w : List ℕ) (i : ℕ) (b c : List ℕ) (x : Asked) (r 
   written-next v v′ y clock e f g k =
       k ∙ rw (
         e,
-        f ∙ t .answer ∙ ap toldBy same-reply,
-        g ∙ clock-is c
-            ∙ ap (λ (u : Queue). u .clock) (t .queue ∙ same-after),
+        f ∙ ap told (answer-called b s x c r t ∙ ap (λ (o : Outcome). o .answer) same),
+        g ∙ clock-is c ∙ ap (λ (u : Queue). u .clock) queue-is,
       ) (sym (written-more q l i w))
 
 pub image-at : (q : Queue) (l : List ℕ) (n : ℕ) (b : List ℕ) → Sound b → queueIn b
@@ -160,7 +114,7 @@ module _ (b l a : List ℕ) where
   all-run c w h e f = (rw h refl, (e ∙ rw h refl, f ∙ rw h refl))
 
 -- the calls of the list, as the book is fed them, lead to the same record
-after-one : (q : Queue) (cs : List Call) (c : Call) → afterAll q (cs ++ (c ∷ []))
+after-one : (q : Queue) (cs : List Turn) (c : Turn) → afterAll q (cs ++ (c ∷ []))
     ≡ after (afterAll q cs) c
 unfolding afterAll
 after-one q [] c = refl
@@ -170,11 +124,11 @@ record-all : (q : Queue) (l : List ℕ) (k : ℕ) → recordTo q l k ≡ afterAl
 unfolding recordTo callsTo afterAll
 record-all q l zero = refl
 record-all q l (suc k) =
-    ap (λ (z : Queue). after z (callAt l k)) (record-all q l k)
-    ∙ sym (after-one q (callsTo l k) (callAt l k))
+    ap (λ (z : Queue). after z (calls (callAt l k))) (record-all q l k)
+    ∙ sym (after-one q (callsTo l k) (calls (callAt l k)))
 
 after-both :
-    (q : Queue) (cs ds : List Call) → afterAll q (cs ++ ds) ≡ afterAll (afterAll q cs) ds
+    (q : Queue) (cs ds : List Turn) → afterAll q (cs ++ ds) ≡ afterAll (afterAll q cs) ds
 unfolding afterAll
 after-both q [] ds = refl
 after-both q (c ∷ cs) ds = after-both (after q c) cs ds

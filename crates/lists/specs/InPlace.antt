@@ -4,19 +4,11 @@ use mathlib.Core.Bool.{cond}
 use mathlib.Core.List.{List, _++_}
 use Prim.Native.Nat.{ℕ}
 use Rattle.record.specs.Queues.{freshQueue}
-use Rattle.rules.specs.declared.answers.Answer.{Answer}
 use Rattle.rules.specs.Book.{Book, emptyBook, agrees, judged}
 use Rattle.rules.specs.Demand3.{InRange}
-use Rattle.rules.specs.Runs.{Call, after, reply, afterAll}
-use Rattle.image.specs.Image.{imageOf, queueIn, passesOf, Sound}
-use Rattle.lists.specs.declared.runs.Asked.{Asked}
-use Rattle.lists.specs.Plain.{callOf, callsTo, told, toldBy, recordTo, writtenTo, turns}
-
--- one call: from the bytes b to c, with the answer r
-pub record Turned (b : List ℕ) (a : Asked) (c : List ℕ) (r : Answer) : Type 0 where
-  pub sound : Sound c
-  pub queue : queueIn c ≡ after (queueIn b) (callOf a)
-  pub answer : told r ≡ toldBy (reply (queueIn b) (callOf a))
+use Rattle.rules.specs.Runs.{Turn, afterAll}
+use Rattle.image.specs.Image.{imageOf, queueIn, passesOf}
+use Rattle.lists.specs.Plain.{callsTo, recordTo, writtenTo, turns}
 
 -- 21 where the bytes are not the image of a record that passes check 21: then nothing is called
 unfoldable pub listCode : List ℕ → ℕ
@@ -34,7 +26,7 @@ answersAfterList b l a = cond (passesOf b) (writtenTo (queueIn b) l a (turns l a
 -- call of the list is made on the record that these and those before it lead to; the book agrees
 -- with all that the definitions give back, to cs and then to the list's calls. The answers written
 -- are the numbers of the same replies.
-pub record AgreesOn (P N L : ℕ) (cs : List Call) (b l a : List ℕ) : Type 0 where
+pub record AgreesOn (P N L : ℕ) (cs : List Turn) (b l a : List ℕ) : Type 0 where
   pub read : queueIn b ≡ afterAll (freshQueue P N L) cs
   pub led :
       (k : ℕ) → recordTo (queueIn b) l k ≡ afterAll (freshQueue P N L) (cs ++ callsTo l k)
@@ -43,5 +35,5 @@ pub record AgreesOn (P N L : ℕ) (cs : List Call) (b l a : List ℕ) : Type 0 w
 
 abbrev pub Agreed : List ℕ → List ℕ → List ℕ → Type 0
 Agreed b l a =
-    (P N L : ℕ) → InRange P N L → (cs : List Call) →
+    (P N L : ℕ) → InRange P N L → (cs : List Turn) →
     b ≡ imageOf (afterAll (freshQueue P N L) cs) → AgreesOn P N L cs b l a

@@ -1,5 +1,6 @@
--- Calls and answers as plain numbers, five for each: of a call its kind, processor, due, item and height; of an answer its number, three
--- values and the clock after the call. Kind 1 begins an Insert, kind 2 begins a Delete_Min, every other kind is a step.
+-- Calls and answers as plain numbers, five for each: of a call its kind, processor, due, item and
+-- height; of an answer its number, three values and the clock after the call. Kind 1 begins an
+-- Insert, kind 2 begins a Delete_Min, every other kind is a step.
 use Prim.Native.Nat.{ℕ, zero, suc, _+_, _*_, _/_}
 use mathlib.Core.Bool.{cond}
 use mathlib.Core.List.{List, [], _∷_, _++_}
@@ -8,53 +9,60 @@ use lib.ListN.{length, getD, set}
 use Rattle.record.specs.declared.queues.Queue.{Queue}
 use Rattle.rules.specs.declared.answers.Answer.{Answer}
 use Rattle.rules.specs.Answers.{reported}
-use Rattle.rules.specs.Runs.{Call, insert, deleteMin, steps, after, Reply, answered, counted, reply}
-use Rattle.lists.specs.declared.runs.Asked.{Asked}
+use Rattle.rules.specs.declared.calls.Call.{Call}
+use Rattle.rules.specs.declared.calls.Call.the-variants as call
+use Rattle.rules.specs.Calls.{called}
+use Rattle.rules.specs.Runs.{Turn, calls}
 use Rattle.lists.specs.declared.runs.Told.{Told}
 
--- the call that begins at this place of the list
-abbrev pub askedAt : List ℕ → ℕ → Asked
-askedAt l i = record { kind = getD l i 0; processor = getD l (i + 1) 0; due = getD l (i + 2) 0; item = getD l (i + 3) 0; height = getD l (i + 4) 0 }
+-- a call by its kind, processor, due, item and height
+abbrev pub callOf : ℕ → ℕ → ℕ → ℕ → ℕ → Call
+callOf kind p due item height =
+    cond (eqb kind 1) (call.Insert p due item height)
+    (cond (eqb kind 2) (call.DeleteMin p) (call.Step p))
 
-abbrev pub callOf : Asked → Call
-callOf a =
-    cond (eqb (a .kind) 1) (insert (a .processor) (a .due) (a .item) (a .height))
-    (cond (eqb (a .kind) 2) (deleteMin (a .processor)) (steps (a .processor)))
+-- the call whose numbers begin at this place of the list
+abbrev pub callFrom : List ℕ → ℕ → Call
+callFrom l i =
+    callOf (getD l i 0) (getD l (i + 1) 0) (getD l (i + 2) 0) (getD l (i + 3) 0) (getD l (i + 4) 0)
 
 -- call number k, from 0
 abbrev pub callAt : List ℕ → ℕ → Call
-callAt l k = callOf (askedAt l (k * 5))
+callAt l k = callFrom l (k * 5)
 
 -- the first k calls
-unfoldable pub callsTo : List ℕ → ℕ → List Call
+unfoldable pub callsTo : List ℕ → ℕ → List Turn
 callsTo l zero = []
-callsTo l (suc k) = callsTo l k ++ (callAt l k ∷ [])
+callsTo l (suc k) = callsTo l k ++ (calls (callAt l k) ∷ [])
 
 -- the record after the first k calls
 unfoldable pub recordTo : Queue → List ℕ → ℕ → Queue
 recordTo q l zero = q
-recordTo q l (suc k) = after (recordTo q l k) (callAt l k)
+recordTo q l (suc k) = called (recordTo q l k) (callAt l k) .queue
 
 abbrev pub tell : ℕ → ℕ → ℕ → ℕ → Told
-tell number first second third = record { number = number; first = first; second = second; third = third }
+tell number first second third =
+    record { number = number; first = first; second = second; third = third }
 
 -- an answer in document 01's numbers: its number, its values, and 0 for a value that it has not
 abbrev pub told : Answer → Told
-told a = tell (reported a .number) (getD (reported a .values) 0 0) (getD (reported a .values) 1 0) (getD (reported a .values) 2 0)
-
--- no call of these lists is a Backlog, whose reply is a count
-abbrev pub toldBy : Reply → Told
-toldBy (answered a) = told a
-toldBy (counted k) = tell 0 0 0 0
+told a =
+    tell (reported a .number) (getD (reported a .values) 0 0) (getD (reported a .values) 1 0)
+    (getD (reported a .values) 2 0)
 
 -- an answer's five numbers, written from this place on
 abbrev pub put : List ℕ → ℕ → Told → ℕ → List ℕ
-put l i r clock = set (set (set (set (set l i (r .number)) (i + 1) (r .first)) (i + 2) (r .second)) (i + 3) (r .third)) (i + 4) clock
+put l i r clock =
+    set (set (set (set (set l i (r .number)) (i + 1) (r .first)) (i + 2) (r .second)) (i + 3)
+    (r .third)) (i + 4) clock
 
--- the list of answers, a at first, after the first k calls on the record q: answer k stands in the numbers 5k to 5k + 4
+-- the list of answers, a at first, after the first k calls on the record q: answer k stands in the
+-- numbers 5k to 5k + 4
 unfoldable pub writtenTo : Queue → List ℕ → List ℕ → ℕ → List ℕ
 writtenTo q l a zero = a
-writtenTo q l a (suc k) = put (writtenTo q l a k) (k * 5) (toldBy (reply (recordTo q l k) (callAt l k))) (recordTo q l (suc k) .clock)
+writtenTo q l a (suc k) =
+    put (writtenTo q l a k) (k * 5) (told (called (recordTo q l k) (callAt l k) .answer))
+    (recordTo q l (suc k) .clock)
 
 abbrev pub smaller : ℕ → ℕ → ℕ
 smaller x y = cond (ltb x y) x y

@@ -4,8 +4,9 @@ ghost use mathlib.Core.Path.{_≡_};
 ghost use Prim.Native.Nat.{ℕ, _+_, _*_, _/_, _≤_, _<_};
 ghost use lib.ListN.{length};
 ghost use Rattle.image.specs.Image.{imageOf, queueIn, Sound};
-ghost use Rattle.lists.specs.InPlace.{Turned};
-ghost use Rattle.lists.specs.Plain.{tell, askedAt, told, put as putOf, smaller as smallerOf};
+ghost use Rattle.image_parts.specs.Given.{Called};
+ghost use Rattle.lists.specs.Plain.{callFrom, tell, told, put as putOf};
+ghost use Rattle.lists.specs.Plain.{smaller as smallerOf};
 ghost use Rattle.lists.specs.Plain.{recordTo, writtenTo, turns};
 use image::numbers::number_from;
 use image_begin::begin_delete_at;
@@ -13,15 +14,6 @@ use image_begin::begin_insert_at;
 use image_step::step_at;
 use rules::Answer;
 use rules::Entry;
-
-// A call: kind 1 begins an Insert, 2 a Delete_Min, every other is a step.
-pub struct Asked {
-    pub kind: u32,
-    pub processor: u32,
-    pub due: u32,
-    pub item: u32,
-    pub height: u32,
-}
 
 // An answer: document 01's number, and its values or 0.
 pub struct Told {
@@ -68,17 +60,23 @@ pub fn numbers_of(a: Answer) -> Told
     }
 }
 
-fn asked_at(calls: &[u32], i: usize) -> Asked
-    requires { ⌜ i + 5 ≤ length (now calls) ⌝ }
-    ensures { λ r. ⌜ r ≡ askedAt (now (calls .entry)) i ⌝ }
+// The call whose five numbers begin at this place of the list: kind 1 begins an Insert, 2 a
+// Delete_Min, every other is a step. No `Call` is made of them: to store one and read it takes as
+// long as a step.
+fn turn(image: &mut [u8], calls: &[u32], i: usize) -> Answer
+    requires { ⌜ Sound (now image) × (i + 5 ≤ length (now calls)) ⌝ }
+    ensures { λ r.
+        ⌜ Called (now (image .entry)) (callFrom (now (calls .entry)) i) (now (image .exit)) r ⌝ }
 {
-    Asked {
-        kind: calls[i],
-        processor: calls[i + 1],
-        due: calls[i + 2],
-        item: calls[i + 3],
-        height: calls[i + 4],
+    let kind = calls[i];
+    let p = calls[i + 1];
+    if kind == 1 {
+        return begin_insert_at(image, p, calls[i + 2], calls[i + 3], calls[i + 4]);
     }
+    if kind == 2 {
+        return begin_delete_at(image, p);
+    }
+    step_at(image, p)
 }
 
 fn put(answers: &mut [u32], i: usize, r: Told, clock: u32)
@@ -92,20 +90,6 @@ fn put(answers: &mut [u32], i: usize, r: Told, clock: u32)
     answers[i + 4] = clock;
 }
 
-// One call.
-fn turn(image: &mut [u8], a: Asked) -> Answer
-    requires { ⌜ Sound (now image) ⌝ }
-    ensures { λ r. ⌜ Turned (now (image .entry)) a (now (image .exit)) r ⌝ }
-{
-    if a.kind == 1 {
-        return begin_insert_at(image, a.processor, a.due, a.item, a.height);
-    }
-    if a.kind == 2 {
-        return begin_delete_at(image, a.processor);
-    }
-    step_at(image, a.processor)
-}
-
 fn smaller(x: usize, y: usize) -> usize
     ensures { λ r. ⌜ r ≡ smallerOf x y ⌝ }
 {
@@ -117,17 +101,19 @@ pub fn run_calls(image: &mut [u8], calls: &[u32], answers: &mut [u32])
     requires { ⌜ Sound (now image) ⌝ }
     ensures { λ _.
         ⌜ now (image .exit)
-        ≡ imageOf (recordTo (queueIn (now (image .entry))) (now (calls .entry)) (turns (now (calls .entry)) (now (answers .entry)))) ⌝ }
+        ≡ imageOf
+        (recordTo (queueIn (now (image .entry))) (now (calls .entry))
+        (turns (now (calls .entry)) (now (answers .entry)))) ⌝ }
     ensures { λ _.
         ⌜ now (answers .exit)
-        ≡ writtenTo (queueIn (now (image .entry))) (now (calls .entry)) (now (answers .entry)) (turns (now (calls .entry)) (now (answers .entry))) ⌝ }
+        ≡ writtenTo (queueIn (now (image .entry))) (now (calls .entry)) (now (answers .entry))
+        (turns (now (calls .entry)) (now (answers .entry))) ⌝ }
 {
     let end = smaller(calls.len() / 5, answers.len() / 5);
     let mut i: usize = 0;
     while i < end {
         let from = i * 5;
-        let a = asked_at(calls, from);
-        let r = turn(image, a);
+        let r = turn(image, calls, from);
         put(answers, from, numbers_of(r), number_from(image, 3));
         i = i + 1;
     }

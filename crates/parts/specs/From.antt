@@ -1,5 +1,6 @@
--- What a step reads, from the three nodes that it reads: the place's (here), the operation's own, and the one after the place (ahead, whose
--- number is next). The calls' `sightOf` is this of the record's nodes.
+-- What a step reads, from the three nodes that it reads: the place's (here), the operation's own,
+-- and the one after the place (ahead, whose number is next). The calls' `sightOf` is this of the
+-- record's nodes.
 use Prim.Native.Nat.{ℕ, _+_, _-_}
 use lib.Dec.{eqb}
 use Rattle.record.specs.declared.nodes.Node.{Node}
@@ -9,7 +10,7 @@ use Rattle.record.specs.Keys.{keyBefore}
 use Rattle.record.specs.Nodes.{forwardAt, lockAt, keyOf, stampedBefore}
 use Rattle.record.specs.Queues.{savedAt}
 use Rattle.rules.specs.declared.decisions.Sight.{Sight}
-use Rattle.rules.specs.Calls.{entryOf}
+use Rattle.rules.specs.Calls.{keyFor, entryOf}
 
 abbrev pub sightFrom : Node → Node → Node → ℕ → Processor → Place → ℕ → ℕ → Sight
 sightFrom here own ahead next c a entries levels = record {
@@ -17,7 +18,7 @@ sightFrom here own ahead next c a entries levels = record {
   height = own .height;
   holder = own .lock;
   next = next;
-  before = keyBefore (keyOf entries next ahead) (keyOf entries (c .own) own);
+  before = keyBefore (keyOf entries next ahead) (keyFor (c .stage) (keyOf entries (c .own) own));
   tail = eqb next (entries + 1);
   guard = lockAt here (a .level);
   onward = forwardAt own (a .level);

@@ -1,7 +1,8 @@
 // What a decision changes: one node and the calling processor.
 ghost use mathlib.Core.Path.{_≡_};
 ghost use Prim.Native.Nat.{ℕ, _+_};
-ghost use Rattle.rules.specs.Effects.{nodeOf, changed as changedOf, beginAfter, savedAfter, processorAfter};
+ghost use Rattle.rules.specs.Effects.{nodeOf, changed as changedOf, beginAfter, savedAfter};
+ghost use Rattle.rules.specs.Effects.{processorAfter};
 use record::Node;
 use record::Place;
 use record::Processor;
@@ -30,7 +31,8 @@ pub fn node_of(e: Effect) -> u8
     }
 }
 
-// The node n after an effect: in a queue of these levels and this tail, by the processor whose locks bear the number h, at the time t.
+// The node n after an effect: in a queue of these levels and this tail, by the processor whose
+// locks bear the number h, at the time t.
 pub fn changed(levels: u8, tail: u8, h: u8, t: u32, e: Effect, n: Node) -> Node
     ensures { λ r. ⌜ r ≡ changedOf levels tail h t e n ⌝ }
 {

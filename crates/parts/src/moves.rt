@@ -1,7 +1,8 @@
 // A place, and the four forms that a step's decision has.
 ghost use mathlib.Core.Path.{_≡_};
 ghost use Rattle.record.specs.Stages.{place};
-ghost use Rattle.rules.specs.Decide.{moved as movedOf, waits as waitsOf, saving as savingOf, answers as answersOf};
+ghost use Rattle.rules.specs.Decide.{moved as movedOf, waits as waitsOf, saving as savingOf};
+ghost use Rattle.rules.specs.Decide.{answers as answersOf};
 use record::Place;
 use record::Stage;
 use rules::Answer;

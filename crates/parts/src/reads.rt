@@ -1,13 +1,16 @@
-// What a step reads: the place that its stage carries, and from three nodes the numbers that a decision takes.
+// What a step reads: the place that its stage carries, and from three nodes the numbers that a
+// decision takes.
 ghost use mathlib.Core.Path.{_≡_};
 ghost use Prim.Native.Nat.{ℕ, _+_, _-_};
 ghost use lib.Dec.{eqb};
+ghost use Rattle.record.specs.declared.stages.Stage.the-variants as stage;
 ghost use Rattle.record.specs.Queues.{savedAt};
 ghost use Rattle.record.specs.Stages.{carried, isIdle};
-ghost use Rattle.rules.specs.Calls.{walkPlace, readingPlace, entryOf};
+ghost use Rattle.rules.specs.Calls.{readingPlace, keyFor, entryOf};
 ghost use Rattle.parts.specs.From.{sightFrom};
 use crate::moves::at;
 use record::Delete;
+use record::Key;
 use record::Node;
 use record::Place;
 use record::Processor;
@@ -25,6 +28,7 @@ pub fn is_idle(g: Stage) -> bool
         Stage::Idle => true,
         Stage::Insert(_) => false,
         Stage::Delete(_) => false,
+        Stage::Removal(_, _) => false,
     }
 }
 
@@ -36,15 +40,14 @@ fn carried_place(g: Stage) -> Place
     k.place
 }
 
-// The walk reads at level 1, whatever level its place has (W1: read b at level 1).
+// A walk reads at level 1, whatever level its place has (01, W1).
 fn walk_place(d: Delete) -> Place
-    ensures { λ r. ⌜ r ≡ walkPlace d ⌝ }
+    ensures { λ r. ⌜ r ≡ readingPlace (stage.Delete d) ⌝ }
 {
     match d {
         Delete::Next(a) => at(a.node, 1),
         Delete::Stamped(a) => at(a.node, 1),
         Delete::Mark(a) => at(a.node, 1),
-        Delete::Removal(r) => carried_place(Stage::Delete(Delete::Removal(r))),
     }
 }
 
@@ -56,6 +59,19 @@ pub fn reading_place(g: Stage) -> Place
         Stage::Idle => Place::HEAD,
         Stage::Insert(i) => carried_place(Stage::Insert(i)),
         Stage::Delete(d) => walk_place(d),
+        Stage::Removal(job, r) => carried_place(Stage::Removal(job, r)),
+    }
+}
+
+// The operation's key: the own node's, which is k, at every stage that reads it.
+fn key_for(g: Stage, k: Key) -> Key
+    ensures { λ r. ⌜ r ≡ keyFor g k ⌝ }
+{
+    match g {
+        Stage::Idle => k,
+        Stage::Insert(_) => k,
+        Stage::Delete(_) => k,
+        Stage::Removal(_, _) => k,
     }
 }
 
@@ -109,13 +125,15 @@ pub fn sight_from(
 {
     let ahead_key = ahead.key(next, entries);
     let own_key = own.key(c.own, entries);
+    let stage = c.stage;
+    let goal = key_for(stage, own_key);
     let stamp = here.stamp;
     Sight {
         own: c.own,
         height: own.height,
         holder: own.lock,
         next: next,
-        before: ahead_key.before(own_key),
+        before: ahead_key.before(goal),
         tail: is_tail(next, entries),
         guard: here.lock_at(a.level),
         onward: own.forward_at(a.level),

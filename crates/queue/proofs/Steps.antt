@@ -1,27 +1,38 @@
--- The parts of a call, each over variables: what the code holds is what the definition says. Assumes nothing.
-use mathlib.Core.Path.{_≡_, _∙_}
-use Prim.Native.Nat.{ℕ, _+_}
+-- The parts of an accepted call, each over variables: what the code holds is what the definition
+-- says. Assumes nothing.
+use mathlib.Core.Path.{_≡_, sym, ap, _∙_}
+use mathlib.Core.Bool.{true}
+use Prim.Native.Nat.{ℕ, _+_, _<_}
 use lib.ListN.{set}
+use Rattle.checks.specs.Check.{valid}
 use Rattle.record.specs.declared.nodes.Node.{Node}
 use Rattle.record.specs.declared.queues.Processor.{Processor}
 use Rattle.record.specs.declared.queues.Queue.{Queue}
 use Rattle.record.specs.declared.stages.Place.{Place}
+use Rattle.record.specs.Limits.{nodeSlots}
 use Rattle.record.specs.Nodes.{forwardAt}
 use Rattle.record.specs.Queues.{nodeAt, processorAt}
-use Rattle.rules.specs.declared.answers.Outcome.{Outcome}
+use Rattle.rules.specs.declared.calls.Call.{Call}
+use Rattle.rules.specs.declared.calls.Call.the-variants as call
 use Rattle.rules.specs.declared.decisions.Decision.{Decision}
 use Rattle.rules.specs.declared.decisions.Sight.{Sight}
-use Rattle.rules.specs.Calls.{readingPlace, stepDecision}
+use Rattle.rules.specs.Calls.{readingPlace, nextOf, stepDecision, insertBegins, insertDecision}
+use Rattle.rules.specs.Calls.{decisionOf}
 use Rattle.rules.specs.Decide.{decide}
-use Rattle.rules.specs.Effects.{nodeOf, changed, processorAfter, accepted}
-use Rattle.rules.specs.Runs.{after}
+use Rattle.rules.specs.Effects.{nodeOf, changed, processorAfter, applied}
 use Rattle.parts.specs.From.{sightFrom}
+use Rattle.queue.specs.Taken.{taken}
+use Rattle.choosing.proofs.Bounds.{place-low, own-low, next-low}
 
--- the record and the answer after a decision that processor p takes: node w becomes m, the processor after
-abbrev pub stored : Queue → ℕ → ℕ → ℕ → Node → Processor → Decision → Outcome
-stored q p t w m after d = record {
-  queue = record { processors = q .processors; entries = q .entries; levels = q .levels; clock = t; nodes = set (q .nodes) w m; callers = set (q .callers) p after };
-  answer = d .answer;
+-- the record after a decision of processor p: node w becomes m, the processor after
+abbrev pub stored : Queue → ℕ → ℕ → ℕ → Node → Processor → Queue
+stored q p t w m after = record {
+  processors = q .processors;
+  entries = q .entries;
+  levels = q .levels;
+  clock = t;
+  nodes = set (q .nodes) w m;
+  callers = set (q .callers) p after;
 }
 
 module _ (q : Queue) (p : ℕ) where
@@ -37,16 +48,57 @@ module _ (q : Queue) (p : ℕ) where
       s ≡ sightFrom here own ahead next c a (q .entries) (q .levels) →
       d ≡ decide s (c .stage) →
       d ≡ stepDecision q (processorAt q p)
-  decided c a here own ahead next s d ec ea eh en eA eo es ed = ed ∙ simp (es, eo, eA, en, eh, ea, ec)
+  decided c a here own ahead next s d ec ea eh en eA eo es ed =
+      ed ∙ simp (es, eo, eA, en, eh, ea, ec)
 
   -- what is changed
   pub changes :
-      (d f : Decision) (c : Processor) (w : ℕ) (n m : Node) (after : Processor) →
-      d ≡ f →
+      (d : Decision) (c : Processor) (w : ℕ) (n m : Node) (after : Processor) →
       c ≡ processorAt q p →
       w ≡ nodeOf (d .effect) →
       n ≡ nodeAt q w →
       m ≡ changed (q .levels) (q .entries + 1) (p + 1) (q .clock + 1) (d .effect) n →
       after ≡ processorAfter (q .levels) (q .clock + 1) c d →
-      stored q p (q .clock + 1) w m after d ≡ accepted q p f
-  changes d f c w n m after ed ec ew en em ea = simp (ea, em, en, ew, ec, ed)
+      stored q p (q .clock + 1) w m after ≡ applied q p d
+  changes d c w n m after ec ew en em ea = simp (ea, em, en, ew, ec)
+
+-- the nodes that a step reads, as the code has their numbers
+module _
+    (q : Queue)
+    (p : ℕ)
+    (v : valid q ≡ true)
+    (h : p < q .processors)
+    (c : Processor)
+    (e : c ≡ processorAt q p) where
+  place-is : (a : Place) → a ≡ readingPlace (c .stage) → a ≡ readingPlace (processorAt q p .stage)
+  place-is a f = f ∙ ap (λ (x : Processor). readingPlace (x .stage)) e
+
+  pub here-low : (a : Place) → a ≡ readingPlace (c .stage) → a .node < nodeSlots
+  here-low a f = rw (place-is a f) (place-low q p v h)
+
+  pub ahead-low :
+      (a : Place) (here : Node) (next : ℕ) →
+      a ≡ readingPlace (c .stage) →
+      here ≡ nodeAt q (a .node) →
+      next ≡ forwardAt here (a .level) →
+      next < nodeSlots
+  ahead-low a here next f g k =
+      let there = ap (λ (n : Node). forwardAt n (a .level)) g in
+      let at : next ≡ nextOf q (readingPlace (processorAt q p .stage)) =
+      k ∙ (there ∙ ap (λ (b : Place). nextOf q b) (place-is a f)) in
+      rw at (next-low q p v h)
+
+  pub own-read-low : c .own < nodeSlots
+  own-read-low = rw e (own-low q p v h)
+
+-- the begin of an Insert that takes node x
+pub insert-decided :
+    (q : Queue) (c : Call) (p due item height x : ℕ) (d : Decision) →
+    c ≡ call.Insert p due item height →
+    x ≡ taken q c →
+    d ≡ insertBegins (q .levels) (q .clock + 1) x due item height →
+    d ≡ decisionOf q c
+insert-decided q c p due item height x d ec ex ed =
+    ed
+    ∙ (ap (λ (y : ℕ). insertDecision q y due item height) (ex ∙ ap (taken q) ec)
+    ∙ sym (ap (decisionOf q) ec))

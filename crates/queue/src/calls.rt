@@ -1,22 +1,60 @@
-// The calls: begin an Insert, begin a Delete_Min, step, on any record and with any numbers. Each is check 21 and then the inner form, which
-// a caller that keeps the record calls itself: it pays for no scan. The refusals stand in the order
-// of document 01's table, with document 02's 39: 21; 31, 32; 33 or 34; 35, 39, 36, 37. A refused
-// call gives its number and the record as it came.
+// The calls, on any record and with any numbers: check 21 and then the inner form, which a caller
+// that keeps the record calls itself, since it pays for no scan. The refusals stand in the order of
+// document 01's table, with document 02's 39: 21; 31, 32; 33 or 34; 35, 39, 36, 37. A refused call
+// gives its number and the record as it came.
 ghost use mathlib.Core.Path.{_≡_};
+ghost use mathlib.Core.Bool.{true};
+ghost use Rattle.checks.specs.Check.{valid as validOf};
 ghost use Rattle.rules.specs.Answers.{reported};
-ghost use Rattle.rules.specs.Calls.{beginInsert, beginDelete, step as stepOf};
-use crate::deleting::begin_delete_valid;
-use crate::inserting::begin_insert_valid;
-use crate::stepping::step_valid;
+ghost use Rattle.rules.specs.Calls.{calledValid, called, beginInsert, beginDelete, step as stepOf};
+use crate::applying::applied;
+use crate::deciding::decision_of;
+use crate::reading::idle_at;
+use crate::reading::taken;
 use checks::valid;
 use record::Queue;
+use refusals::node_refusal;
+use refusals::processor_of;
+use refusals::refusal_of;
 use rules::Answer;
+use rules::Call;
+use rules::Decision;
 use rules::Outcome;
 
-// The begin of an Insert by a processor: due minute, item and height are any numbers.
-pub fn begin_insert(q: Queue, processor: u32, due: u32, item: u32, height: u32) -> Outcome
-    ensures { λ r. ⌜ r ≡ beginInsert q processor due item height ⌝ }
-    ensures { λ r. ⌜ reported (r .answer) ≡ reported (beginInsert q processor due item height .answer) ⌝ }
+// A call on a record that passes check 21.
+pub fn call_valid(q: Queue, c: Call) -> Outcome
+    requires { ⌜ validOf q ≡ true ⌝ }
+    ensures { λ r. ⌜ (r ≡ calledValid q c) × (validOf (r .queue) ≡ true) ⌝ }
+{
+    let p = processor_of(c);
+    let idle = idle_at(q, p);
+    let refusal = refusal_of(c, q.clock, q.processors, q.levels, idle);
+    if 0 < refusal {
+        return Outcome {
+            queue: q,
+            answer: Answer::Refused(refusal),
+        };
+    }
+    let x = taken(q, c);
+    let missing = node_refusal(c, x);
+    if 0 < missing {
+        return Outcome {
+            queue: q,
+            answer: Answer::Refused(missing),
+        };
+    }
+    let d = decision_of(q, c, x);
+    let answer = d.answer;
+    let after = applied(q, p, d);
+    Outcome {
+        queue: after,
+        answer: answer,
+    }
+}
+
+// Any call, on any record.
+pub fn call(q: Queue, c: Call) -> Outcome
+    ensures { λ r. ⌜ r ≡ called q c ⌝ }
 {
     if !valid(q) {
         return Outcome {
@@ -24,7 +62,16 @@ pub fn begin_insert(q: Queue, processor: u32, due: u32, item: u32, height: u32) 
             answer: Answer::Refused(21),
         };
     }
-    begin_insert_valid(q, processor, due, item, height)
+    call_valid(q, c)
+}
+
+// The begin of an Insert by a processor: due minute, item and height are any numbers.
+pub fn begin_insert(q: Queue, processor: u32, due: u32, item: u32, height: u32) -> Outcome
+    ensures { λ r. ⌜ r ≡ beginInsert q processor due item height ⌝ }
+    ensures { λ r.
+        ⌜ reported (r .answer) ≡ reported (beginInsert q processor due item height .answer) ⌝ }
+{
+    call(q, Call::Insert(processor, due, item, height))
 }
 
 // The begin of a Delete_Min by a processor.
@@ -32,13 +79,7 @@ pub fn begin_delete_min(q: Queue, processor: u32) -> Outcome
     ensures { λ r. ⌜ r ≡ beginDelete q processor ⌝ }
     ensures { λ r. ⌜ reported (r .answer) ≡ reported (beginDelete q processor .answer) ⌝ }
 {
-    if !valid(q) {
-        return Outcome {
-            queue: q,
-            answer: Answer::Refused(21),
-        };
-    }
-    begin_delete_valid(q, processor)
+    call(q, Call::DeleteMin(processor))
 }
 
 // A step of a processor.
@@ -46,11 +87,5 @@ pub fn step(q: Queue, processor: u32) -> Outcome
     ensures { λ r. ⌜ r ≡ stepOf q processor ⌝ }
     ensures { λ r. ⌜ reported (r .answer) ≡ reported (stepOf q processor .answer) ⌝ }
 {
-    if !valid(q) {
-        return Outcome {
-            queue: q,
-            answer: Answer::Refused(21),
-        };
-    }
-    step_valid(q, processor)
+    call(q, Call::Step(processor))
 }

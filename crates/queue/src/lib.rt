@@ -1,13 +1,14 @@
-// The calls. In `stepping`, `inserting` and `deleting` one function holds the record: it reads and stores nodes and processors by index,
-// and hands single nodes and numbers to the functions of `parts` and `decisions`. Check 21 keeps every index in range.
+// The calls on a record by value. What a call asks of the record is read (reading), then it is
+// refused, or decided (deciding) and carried out on the record (applying); check 21 keeps every
+// index in range. Single nodes and numbers go to the functions of `refusals`, `parts`, `decisions`
+// and `choosing`.
+pub mod applying;
 pub mod calls;
-pub mod deleting;
-pub mod inserting;
-pub mod stepping;
+pub mod deciding;
+pub mod reading;
 
 pub use calls::begin_delete_min;
 pub use calls::begin_insert;
+pub use calls::call;
+pub use calls::call_valid;
 pub use calls::step;
-pub use deleting::begin_delete_valid;
-pub use inserting::begin_insert_valid;
-pub use stepping::step_valid;

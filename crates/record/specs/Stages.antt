@@ -1,21 +1,8 @@
--- The stages, and what each carries. "A processor is idle, or in one stage of an operation and carries what that stage needs."
---
---   Insert    Search    Search            Delete    Next      W1: read on from the place
---             Seek      Lock-seek                   Stamped   W2: test the place's stamp
---             Copy      I1                          Mark      W3: mark the place
---             Link      I2                          Removal   what follows a mark:
---             FreeLevel I3                Removal   Search    Search
---             FreeNode  I4                          HoldNode  L1
---             Stamp     I5                          Seek      Lock-seek
---   Seek      Approach  G1                          HoldOwn   L2
---             Take      G2                          Unlink    L3
---             Confirm   G3                          Back      L4
---             Release   G4                          FreeOwn   L5
---                                                   FreeLevel L6
---                                                   FreeNode  L7
---                                                   Retire    L8
-use Prim.Native.Nat.{ℕ}
-use mathlib.Core.Bool.{Bool, true, false}
+-- The stages of an operation in one table, from which the rest follows: what a stage carries
+-- (below), the locks that it claims (rules/specs/Locks), where it reads (rules/specs/Calls) and its
+-- numbers in the image (image/specs/Tags).
+use Prim.Native.Nat.{ℕ, _+_}
+use mathlib.Core.Bool.{Bool, true, false, cond}
 use Rattle.record.specs.declared.stages.Place.{Place}
 use Rattle.record.specs.declared.stages.Seek.{Seek}
 use Rattle.record.specs.declared.stages.Seek.the-variants as seek
@@ -32,49 +19,120 @@ use Rattle.record.specs.declared.stages.Carried.{Carried}
 abbrev pub place : ℕ → ℕ → Place
 place x i = record { node = x; level = i }
 
--- whether the stage has an own node, and its place: the head at level 1 where it carries none
-abbrev pub at : Bool → Place → Carried
-at own a = record { own = own; place = a; ahead = a .node; marking = false }
+-- a line of the table
+pub record Row : Type 0 where
+  pub tag : ℕ  -- its number in the image
+  pub owns : Bool  -- the operation has an own node
+  pub placed : Bool  -- it carries a place
+  pub walks : Bool  -- it reads at level 1, whatever level its place has
+  pub marks : Bool  -- its place is marked next
+  pub holdsPlace : Bool  -- it holds the lock of its place: the node's, at the level
+  pub holdsOwn : Bool  -- it holds the own node's lock at the level of its place
+  pub holdsNode : Bool  -- it holds the own node's node lock
+  pub place : Place  -- its place; the head at level 1 where it carries none
+  pub releases : Bool  -- it carries the node that G3 read
+  pub ahead : ℕ  -- that node; 0 where it carries none
 
-abbrev pub seekCarried : Seek → Carried
-seekCarried (seek.Approach a) = at true a
-seekCarried (seek.Take a) = at true a
-seekCarried (seek.Confirm a) = at true a
-seekCarried (seek.Release a b) = record { own = true; place = a; ahead = b; marking = false }
+-- yes and no, as wide as each other
+abbrev pub ● : Bool
+● = true
 
-abbrev pub insertCarried : Insert → Carried
-insertCarried (ins.Search a) = at true a
-insertCarried (ins.Seek k) = seekCarried k
-insertCarried (ins.Copy a) = at true a
-insertCarried (ins.Link a) = at true a
-insertCarried (ins.FreeLevel a) = at true a
-insertCarried ins.FreeNode = at true (place 0 1)
-insertCarried ins.Stamp = at true (place 0 1)
+abbrev pub ○ : Bool
+○ = false
 
-abbrev pub removalCarried : Removal → Carried
-removalCarried (rem.Search a) = at true a
-removalCarried rem.HoldNode = at true (place 0 1)
-removalCarried (rem.Seek k) = seekCarried k
-removalCarried (rem.HoldOwn a) = at true a
-removalCarried (rem.Unlink a) = at true a
-removalCarried (rem.Back a) = at true a
-removalCarried (rem.FreeOwn a) = at true a
-removalCarried (rem.FreeLevel a) = at true a
-removalCarried rem.FreeNode = at true (place 0 1)
-removalCarried rem.Retire = at true (place 0 1)
+-- a stage that is in no Lock-seek
+abbrev pub row : ℕ → Bool → Bool → Bool → Bool → Bool → Bool → Bool → Place → Row
+row tag owns placed walks marks holdsPlace holdsOwn holdsNode a = record {
+  tag = tag;
+  owns = owns;
+  placed = placed;
+  walks = walks;
+  marks = marks;
+  holdsPlace = holdsPlace;
+  holdsOwn = holdsOwn;
+  holdsNode = holdsNode;
+  place = a;
+  releases = ○;
+  ahead = 0;
+}
 
-abbrev pub deleteCarried : Delete → Carried
-deleteCarried (del.Next a) = at false a
-deleteCarried (del.Stamped a) = at false a
-deleteCarried (del.Mark a) = record { own = false; place = a; ahead = a .node; marking = true }
-deleteCarried (del.Removal r) = removalCarried r
+-- a Lock-seek: what its four stages differ in, and the row from the tag of its first one on
+abbrev pub seekPart :
+    Seek → record { tag : ℕ; holds : Bool; place : Place; releases : Bool; ahead : ℕ }
+seekPart (seek.Approach a) {- G1 -} =
+    record { tag = 0; holds = ○; place = a; releases = ○; ahead = 0 }
+seekPart (seek.Take a) {- G2 -} =
+    record { tag = 1; holds = ○; place = a; releases = ○; ahead = 0 }
+seekPart (seek.Confirm a) {- G3 -} =
+    record { tag = 2; holds = ●; place = a; releases = ○; ahead = 0 }
+seekPart (seek.Release a b) {- G4 -} =
+    record { tag = 3; holds = ●; place = a; releases = ●; ahead = b }
+
+abbrev pub seekRow : ℕ → Seek → Row
+seekRow first k = record {
+  tag = first + seekPart k .tag;
+  owns = ●;
+  placed = ●;
+  walks = ○;
+  marks = ○;
+  holdsPlace = seekPart k .holds;
+  holdsOwn = ○;
+  holdsNode = ●;
+  place = seekPart k .place;
+  releases = seekPart k .releases;
+  ahead = seekPart k .ahead;
+}
+
+-- The table: the stage, its step in document 01, its tag, and then the columns
+--   o owns   p placed   w walks   m marks   P holdsPlace   O holdsOwn   N holdsNode   its place
+--                                          tag o p w m P O N
+abbrev pub insertRow : Insert → Row
+insertRow (ins.Search a) {-  Search -} = row 01 ● ● ○ ○ ○ ○ ● a
+insertRow (ins.Seek k) {-  G1 to G4 -} = seekRow 2 k
+insertRow (ins.Copy a) {-        I1 -} = row 06 ● ● ○ ○ ● ○ ● a
+insertRow (ins.Link a) {-        I2 -} = row 07 ● ● ○ ○ ● ○ ● a
+insertRow (ins.FreeLevel a) {-   I3 -} = row 08 ● ● ○ ○ ● ○ ● a
+insertRow ins.FreeNode {-        I4 -} = row 09 ● ○ ○ ○ ○ ○ ● (place 0 1)
+insertRow ins.Stamp {-           I5 -} = row 10 ● ○ ○ ○ ○ ○ ○ (place 0 1)
+
+abbrev pub deleteRow : Delete → Row
+deleteRow (del.Next a) {-        W1 -} = row 11 ○ ● ● ○ ○ ○ ○ a
+deleteRow (del.Stamped a) {-     W2 -} = row 12 ○ ● ● ○ ○ ○ ○ a
+deleteRow (del.Mark a) {-        W3 -} = row 13 ○ ● ● ● ○ ○ ○ a
+
+-- what follows a mark, whatever its job
+abbrev pub removalRow : Removal → Row
+removalRow (rem.Search a) {- Search -} = row 14 ● ● ○ ○ ○ ○ ○ a
+removalRow rem.HoldNode {-       L1 -} = row 15 ● ○ ○ ○ ○ ○ ○ (place 0 1)
+removalRow (rem.Seek k) {- G1 to G4 -} = seekRow 16 k
+removalRow (rem.HoldOwn a) {-    L2 -} = row 20 ● ● ○ ○ ● ○ ● a
+removalRow (rem.Unlink a) {-     L3 -} = row 21 ● ● ○ ○ ● ● ● a
+removalRow (rem.Back a) {-       L4 -} = row 22 ● ● ○ ○ ● ● ● a
+removalRow (rem.FreeOwn a) {-    L5 -} = row 23 ● ● ○ ○ ● ● ● a
+removalRow (rem.FreeLevel a) {-  L6 -} = row 24 ● ● ○ ○ ● ○ ● a
+removalRow rem.FreeNode {-       L7 -} = row 25 ● ○ ○ ○ ○ ○ ● (place 0 1)
+removalRow rem.Retire {-         L8 -} = row 26 ● ○ ○ ○ ○ ○ ○ (place 0 1)
+
+abbrev pub rowOf : Stage → Row
+rowOf stage.Idle {-                 -} = row 00 ○ ○ ○ ○ ○ ○ ○ (place 0 1)
+rowOf (stage.Insert i) = insertRow i
+rowOf (stage.Delete d) = deleteRow d
+rowOf (stage.Removal job r) = removalRow r
+
+-- the numbers that a stage carries
+abbrev pub carriedOf : Row → Carried
+carriedOf r = record {
+  own = r .owns;
+  place = r .place;
+  ahead = cond (r .releases) (r .ahead) (r .place .node);
+  marking = r .marks;
+}
 
 abbrev pub carried : Stage → Carried
-carried stage.Idle = at false (place 0 1)
-carried (stage.Insert i) = insertCarried i
-carried (stage.Delete d) = deleteCarried d
+carried g = carriedOf (rowOf g)
 
 abbrev pub isIdle : Stage → Bool
 isIdle stage.Idle = true
 isIdle (stage.Insert i) = false
 isIdle (stage.Delete d) = false
+isIdle (stage.Removal job r) = false

@@ -1,7 +1,10 @@
-// The stages of an operation. Each case carries what its next step needs beside the processor's begin time, own node and saved
-// nodes. The table in specs/Stages.antt ties each case to its line of document 01.
+// The stages of an operation. Each case carries what its next step needs beside the processor's
+// begin time, own node and saved nodes. The table in specs/Stages.antt ties each case to its line
+// of document 01.
 ghost use mathlib.Core.Path.{_≡_};
-ghost use Rattle.record.specs.Stages.{place, at, seekCarried, insertCarried, removalCarried, deleteCarried, carried};
+ghost use mathlib.Core.Bool.{false};
+ghost use Rattle.record.specs.Stages.{seekRow, insertRow, deleteRow, removalRow};
+ghost use Rattle.record.specs.Stages.{carriedOf, carried};
 
 // A node and a level, from 1.
 pub struct Place {
@@ -28,7 +31,8 @@ pub enum Insert {
     Stamp,
 }
 
-// What every operation does that has marked a node, from its Search on: L1, the Lock-seeks, L2 to L8.
+// What every operation does that has marked a node, from its Search on: L1, the Lock-seeks, L2 to
+// L8.
 pub enum Removal {
     Search(Place),
     HoldNode,
@@ -42,22 +46,28 @@ pub enum Removal {
     Retire,
 }
 
-// A Delete_Min: W1, W2, W3, and the removal of the node that W3 marked.
+// What a marked node is removed for: it is handed out.
+pub enum Job {
+    Deliver,
+}
+
+// A Delete_Min before its mark: W1, W2, W3.
 pub enum Delete {
     Next(Place),
     Stamped(Place),
     Mark(Place),
-    Removal(Removal),
 }
 
 pub enum Stage {
     Idle,
     Insert(Insert),
     Delete(Delete),
+    Removal(Job, Removal),
 }
 
-// The numbers that a stage carries: whether the operation has an own node, the place (the head at level 1 where the stage has none),
-// the node that G3 read (elsewhere the place's node), and whether the place is to be marked next (W3).
+// The numbers that a stage carries: whether the operation has an own node, the place (the head at
+// level 1 where the stage has none), the node that G3 read (elsewhere the place's node), and
+// whether the place is to be marked next (W3).
 pub struct Carried {
     pub own: bool,
     pub place: Place,
@@ -70,7 +80,7 @@ impl Place {
 }
 
 fn at(own: bool, a: Place) -> Carried
-    ensures { λ r. ⌜ r ≡ at own a ⌝ }
+    ensures { λ r. ⌜ r ≡ record { own = own; place = a; ahead = a .node; marking = false } ⌝ }
 {
     Carried {
         own: own,
@@ -81,7 +91,7 @@ fn at(own: bool, a: Place) -> Carried
 }
 
 fn seek_carried(g: Seek) -> Carried
-    ensures { λ r. ⌜ r ≡ seekCarried g ⌝ }
+    ensures { λ r. ⌜ r ≡ carriedOf (seekRow 0 g) ⌝ }
 {
     match g {
         Seek::Approach(a) => at(true, a),
@@ -97,7 +107,7 @@ fn seek_carried(g: Seek) -> Carried
 }
 
 fn insert_carried(g: Insert) -> Carried
-    ensures { λ r. ⌜ r ≡ insertCarried g ⌝ }
+    ensures { λ r. ⌜ r ≡ carriedOf (insertRow g) ⌝ }
 {
     match g {
         Insert::Search(a) => at(true, a),
@@ -111,7 +121,7 @@ fn insert_carried(g: Insert) -> Carried
 }
 
 fn removal_carried(g: Removal) -> Carried
-    ensures { λ r. ⌜ r ≡ removalCarried g ⌝ }
+    ensures { λ r. ⌜ r ≡ carriedOf (removalRow g) ⌝ }
 {
     match g {
         Removal::Search(a) => at(true, a),
@@ -128,7 +138,7 @@ fn removal_carried(g: Removal) -> Carried
 }
 
 fn delete_carried(g: Delete) -> Carried
-    ensures { λ r. ⌜ r ≡ deleteCarried g ⌝ }
+    ensures { λ r. ⌜ r ≡ carriedOf (deleteRow g) ⌝ }
 {
     match g {
         Delete::Next(a) => at(false, a),
@@ -139,7 +149,6 @@ fn delete_carried(g: Delete) -> Carried
             ahead: a.node,
             marking: true,
         },
-        Delete::Removal(r) => removal_carried(r),
     }
 }
 
@@ -150,5 +159,6 @@ pub fn carried_by(g: Stage) -> Carried
         Stage::Idle => at(false, Place::HEAD),
         Stage::Insert(i) => insert_carried(i),
         Stage::Delete(d) => delete_carried(d),
+        Stage::Removal(_j, r) => removal_carried(r),
     }
 }

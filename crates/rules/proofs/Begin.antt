@@ -8,13 +8,14 @@ use lib.Dec.{eqb}
 use borrow.Author.Tests.{eqb-true}
 use mathlib.Core.Bool.{cond}
 use Rattle.record.specs.declared.stages.Insert.the-variants as ins
-use Rattle.record.specs.declared.stages.Delete.the-variants as del
+use Rattle.record.specs.declared.stages.Stage.{Stage}
 use Rattle.record.specs.declared.stages.Stage.the-variants as stage
 use Rattle.record.specs.Stages.{place}
 use Rattle.laws.specs.Update.{upd}
 use Rattle.laws.proofs.Updating.{upd-same, upd-other}
 use Rattle.rules.proofs.Put.{ever}
-use Rattle.rules.proofs.View.{Pr, View, Info, info, claim, key, tail, last, rank, entryRank}
+use Rattle.rules.proofs.View.{Pr, View, Info, info, walking, claim, key, tail, last, rank}
+use Rattle.rules.proofs.View.{entryRank}
 use Rattle.rules.proofs.Facts.{kind-any}
 use Rattle.rules.proofs.Machine.{filled}
 use Rattle.rules.proofs.Inv.{Next, Core, Entered, Busy, Readable, Near, Eligible, Unlinking, Led, back, unlinking, Inv, sought, One, Yields}
@@ -23,35 +24,13 @@ use Rattle.rules.proofs.Move.{near-none}
 use Rattle.rules.proofs.InsertSteps.{head-readable}
 use Rattle.rules.proofs.Lead.{sure}
 
-abbrev pub walker : View → ℕ → Pr
-walker v p = record { begin = v .clock + 1; own = 0; stage = stage.Delete (del.Next (place 0 1)); saved = v .pr p .saved }
-
--- the begin of a Delete_Min
-pub begin-delete : (v : View) (u : ℕ → ℕ → ℕ) (I : Inv v u) (room : v .clock + 1 < ever) (p : ℕ) → claim v p .kind ≡ 0 → Inv (ticked v p (walker v p)) u
-begin-delete v u I room p idle =
-    let G = head-readable v u I (v .clock + 1) last 1 (I .core .levels) (omega arith) (omega arith) in
-    assembled-new v u p (walker v p) core
-    (λ b. record {
-      begun = omega arith;
-      begun-by = omega arith;
-      low = omega arith;
-      high = I .core .levels;
-      place = G;
-      read = G;
-      saved = λ j f j≥ j≤. absurd (omega (arith, I .core .levels-high));
-      holds-place = λ h. absurd (omega arith);
-      holds-own = λ h. absurd (omega arith);
-      holds-node = λ h. absurd (omega arith);
-      near = near-none _ _ _ _ _ _;
-      inserts = λ h. absurd (omega arith);
-      within = λ h. absurd (omega arith);
-      removes = λ h. absurd (omega arith);
-      walks = λ h. record {
-        ownless = refl;
-        stamped = λ k. absurd (omega arith);
-        ahead = λ x L. omega (arith, I .core .ends .head-key, I .core .ends .keys x (L .low) (omega (arith, L .high)) .0);
-      };
-    })
+-- the begin of an operation that takes no node
+pub begin-ownless : (v : View) (u : ℕ → ℕ → ℕ) (I : Inv v u) (room : v .clock + 1 < ever) (p : ℕ) →
+    claim v p .kind ≡ 0 → (c : Pr) → c .begin ≡ v .clock + 1 →
+    info (v .ht (c .own)) (c .stage) .kind ≡ 2 →
+    Busy (ticked v p c) u p c (info (v .ht (c .own)) (c .stage)) → Inv (ticked v p c) u
+begin-ownless v u I room p idle c began two mine =
+    assembled-new v u p c core (λ b. mine)
     (λ q ne b. let B = I .busy q b in
     record {
       begun = B .begun;
@@ -71,11 +50,12 @@ begin-delete v u I room p idle =
       walks = B .walks;
     })
     (λ q n i ne b i≥ n< s lt. led q n i (I .led q n i b i≥ n< s lt))
-    (λ n i i≥ s lt. omega (arith, I .core .past n i i≥ lt))
-    (one-new v u p (walker v p) (I .one) (λ q ne b k t o. t refl))
-    (yields-new v u p (walker v p) (I .yields) (λ h. absurd (omega arith)) (λ h. absurd (omega arith)))
+    (λ n i i≥ s lt. omega (arith, began, I .core .past n i i≥ lt))
+    (one-new v u p c (I .one) (λ q ne b k t o. t two))
+    (yields-new v u p c (I .yields) (λ h. absurd (omega (arith, two)))
+    (λ h. absurd (omega (arith, two))))
   where
-    core : Core (ticked v p (walker v p)) u
+    core : Core (ticked v p c) u
     core =
         let C = I .core in
         record {
@@ -103,10 +83,52 @@ begin-delete v u I room p idle =
               };
         }
 
-    led : (q n i : ℕ) → Led v u (v .pr q .begin) n i → Led (ticked v p (walker v p)) u (v .pr q .begin) n i
+    led : (q n i : ℕ) → Led v u (v .pr q .begin) n i → Led (ticked v p c) u (v .pr q .begin) n i
     led q n i (back k) = back k
-    led q n i (unlinking x l) = unlinking x (unlinking-other v u p (walker v p) x n i (λ e. omega (arith, idle, (rw e at (l .kind))))
+    led q n i (unlinking x l) =
+        unlinking x (unlinking-other v u p c x n i (λ e. omega (arith, idle, (rw e at (l .kind))))
         (record { kind = l .kind; nx = l .nx; hp = l .hp; ho = l .ho; own = l .own; level = l .level }))
+
+abbrev pub walker : View → ℕ → Stage → Pr
+walker v p s = record { begin = v .clock + 1; own = 0; stage = s; saved = v .pr p .saved }
+
+-- the begin of a walk
+pub begin-walk : (v : View) (u : ℕ → ℕ → ℕ) (I : Inv v u) (room : v .clock + 1 < ever) (p : ℕ) →
+    claim v p .kind ≡ 0 → (s : Stage) → info (v .ht 0) s ≡ walking 2 0 (place 0 1) →
+    Inv (ticked v p (walker v p s)) u
+begin-walk v u I room p idle s is =
+    let G = head-readable v u I (v .clock + 1) last 1 (I .core .levels) (omega arith)
+    (omega arith) in
+    begin-ownless v u I room p idle (walker v p s) refl (ap (λ (f : Info). f .kind) is)
+    (subst (λ (f : Info). Busy (ticked v p (walker v p s)) u p (walker v p s) f) (sym is)
+    (record {
+      begun = omega arith;
+      begun-by = omega arith;
+      low = omega arith;
+      high = I .core .levels;
+      place = G;
+      read = G;
+      saved = λ j f j≥ j≤. absurd (omega (arith, I .core .levels-high));
+      holds-place = λ h. absurd (omega arith);
+      holds-own = λ h. absurd (omega arith);
+      holds-node = λ h. absurd (omega arith);
+      near = near-none _ _ _ _ _ _;
+      inserts = λ h. absurd (omega arith);
+      within = λ h. absurd (omega arith);
+      removes = λ h. absurd (omega arith);
+      walks = λ h. record {
+        ownless = refl;
+        entry = λ k. absurd (omega arith);
+        named = λ k. absurd (omega arith);
+        stamped = λ k. absurd (omega arith);
+        ahead = λ l x L. omega (
+          arith,
+          I .core .ends .head-key,
+          I .core .ends .keys x (L .low)
+              (omega (arith, L .high)) .0,
+        );
+      };
+    }))
 
 -- the rank of an entry, and of a node that did not change
 pub rank-entry : (n : ℕ) (due tick : ℕ → ℕ) (x : ℕ) → 1 ≤ x → x ≤ n → rank n due tick x ≡ entryRank (due x) (tick x)
@@ -286,11 +308,16 @@ module _ (v : View) (u : ℕ → ℕ → ℕ) (I : Inv v u) (room : v .clock + 1
     o-ne : v .pr q .own ≡ x → ⊥
     o-ne = own-ne q b
 
-    goal : sought (key w) (v .pr q .own) (claim v q .kind) ≡ sought (key v) (v .pr q .own) (claim v q .kind)
-    goal = ap (λ (k : ℕ). cond (eqb (claim v q .kind) 2) last k) (key-same (v .pr q .own) o-ne)
+    goal : sought (key w) (v .pr q .own) (claim v q .kind) (claim v q .goal) ≡ sought (key v)
+        (v .pr q .own) (claim v q .kind) (claim v q .goal)
+    goal = ap (λ (k : ℕ). cond (eqb (claim v q .kind) 2) (claim v q .goal) k)
+        (key-same (v .pr q .own) o-ne)
 
-    readable : (n i : ℕ) → 1 ≤ i → Readable u (key v) (tail v) (v .pr q .begin) (sought (key v) (v .pr q .own) (claim v q .kind)) n i →
-        Readable u′ (key w) (tail v) (v .pr q .begin) (sought (key w) (v .pr q .own) (claim v q .kind)) n i
+    readable : (n i : ℕ) → 1 ≤ i →
+        Readable u (key v) (tail v) (v .pr q .begin)
+        (sought (key v) (v .pr q .own) (claim v q .kind) (claim v q .goal)) n i →
+        Readable u′ (key w) (tail v) (v .pr q .begin)
+        (sought (key w) (v .pr q .own) (claim v q .kind) (claim v q .goal)) n i
     readable n i i≥ G =
         let ne = seen-ne q n i b i≥ (G .seen) in
         record { below = G .below; seen = rw (u-same n i ne) (G .seen); before = omega (arith, goal, key-same n ne, G .before) }
@@ -359,13 +386,16 @@ module _ (v : View) (u : ℕ → ℕ → ℕ) (I : Inv v u) (room : v .clock + 1
           };
           walks = λ k. let W = B .walks k in record {
             ownless = W .ownless;
-            ahead = λ y L. let ye = eligible y L in rw (key-same _ a-ne, key-same y ye) (W .ahead y (record {
-              low = L .low;
-              high = L .high;
-              used = rw (upd-other (v .us) x 1 y ye) at (L .used);
-              stamped = rw (upd-other (v .st) x ever y ye) at (L .stamped);
-              unmarked = rw (upd-other (v .mk) x 0 y ye) at (L .unmarked);
-            }));
+            ahead = λ l y L. let ye = eligible y L in
+                rw (key-same _ a-ne, key-same y ye) (W .ahead l y (record {
+                  low = L .low;
+                  high = L .high;
+                  used = rw (upd-other (v .us) x 1 y ye) at (L .used);
+                  stamped = rw (upd-other (v .st) x ever y ye) at (L .stamped);
+                  unmarked = rw (upd-other (v .mk) x 0 y ye) at (L .unmarked);
+                }));
+            entry = W .entry;
+            named = λ l. rw (key-same _ a-ne) (W .named l);
             stamped = λ l. rw (upd-other (v .st) x ever _ a-ne) (W .stamped l);
           };
         }

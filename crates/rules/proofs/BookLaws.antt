@@ -18,9 +18,10 @@ use Rattle.record.specs.declared.queues.Queue.{Queue}
 use Rattle.rules.specs.declared.answers.Answer.{Answer}
 use Rattle.rules.specs.declared.answers.Answer.the-variants as ans
 use Rattle.rules.specs.declared.answers.Entry.{Entry}
-use Rattle.rules.specs.Book.{Line, Open, nothing, inserting, deleting, delivering, Book, Verdict, agrees, differs, provided, now, turned, pick, gives, withAnswer, withMark, withHandOut, insertBegins, deleteBegins, inserted, marks, empties, handsOut, moves, feedInsert, feedDelete, feedStep, feed, thenFeed, judged}
+use Rattle.rules.specs.Book.{Line, Open, nothing, inserting, deleting, delivering, Book, Verdict, agrees, differs, provided, now, turned, pick, gives, withAnswer, withMark, withHandOut, beginsInsert, beginsDelete, inserted, marks, empties, handsOut, moves, feedInsert, feedDelete, feedStep, feed, thenFeed, judged}
 use Rattle.rules.specs.Book.{pendingIn, feedBacklog}
-use Rattle.rules.specs.Runs.{Call, insert, deleteMin, steps, backlog, Reply, answered, counted, after, reply}
+use Rattle.rules.specs.declared.calls.Call.the-variants as call
+use Rattle.rules.specs.Runs.{Turn, calls, backlog, Reply, answered, counted, after, reply}
 
 -- what holds of the book of an answer that agrees
 abbrev pub Right : (Book → Type 0) → Verdict → Type 0
@@ -77,13 +78,13 @@ module _ (flag : Line → Bool) (t : ℕ) (answer-keeps : (l : Line) (n : ℕ) �
     opens-only : (p : ℕ) (o : Open) → Stays flag t (turned b (b .entry) p o)
     opens-only p o = record { low = omega arith; up = S .up }
 
-    insert-begins : (p due item x : ℕ) (o : Open) → K (insertBegins b p due item x o)
+    insert-begins : (p due item x : ℕ) (o : Open) → K (beginsInsert b p due item x o)
     insert-begins p due item x nothing = right-provided (Stays flag t) (eqb x (now b)) _ (λ e. written b p (inserting x) x _ (λ g. absurd (omega (arith, eqb-true x (now b) e))) S)
     insert-begins p due item x (inserting y) = tt
     insert-begins p due item x (deleting y) = tt
     insert-begins p due item x (delivering y) = tt
 
-    delete-begins : (p x : ℕ) (o : Open) → K (deleteBegins b p x o)
+    delete-begins : (p x : ℕ) (o : Open) → K (beginsDelete b p x o)
     delete-begins p x nothing = right-provided (Stays flag t) (eqb x (now b)) _ (λ e. opens-only p (deleting x))
     delete-begins p x (inserting y) = tt
     delete-begins p x (deleting y) = tt
@@ -156,13 +157,11 @@ module _ (flag : Line → Bool) (t : ℕ) (answer-keeps : (l : Line) (n : ℕ) �
     fed-backlog (count.Pending k) =
         right-provided (Stays flag t) (eqb k (howMany (pendingIn b) (b .count))) b (λ _. S)
 
-    fed : (c : Call) (r : Reply) → K (feed b c r)
-    fed (insert p due item height) (answered a) = fed-insert p due item a
-    fed (insert p due item height) (counted k) = tt
-    fed (deleteMin p) (answered a) = fed-delete p a
-    fed (deleteMin p) (counted k) = tt
-    fed (steps p) (answered a) = fed-step p a
-    fed (steps p) (counted k) = tt
+    fed : (c : Turn) (r : Reply) → K (feed b c r)
+    fed (calls (call.Insert p due item height)) (answered a) = fed-insert p due item a
+    fed (calls (call.DeleteMin p)) (answered a) = fed-delete p a
+    fed (calls (call.Step p)) (answered a) = fed-step p a
+    fed (calls c) (counted k) = tt
     fed backlog (answered a) = tt
     fed backlog (counted k) = fed-backlog k
 
@@ -170,7 +169,7 @@ module _ (flag : Line → Bool) (t : ℕ) (answer-keeps : (l : Line) (n : ℕ) �
   then-fed (agrees b) f S h = h b S
   then-fed differs f S h = tt
 
-  pub stays : (cs : List Call) (q : Queue) (b : Book) → Stays flag t b → Right (Stays flag t) (judged b q cs)
+  pub stays : (cs : List Turn) (q : Queue) (b : Book) → Stays flag t b → Right (Stays flag t) (judged b q cs)
   unfolding judged
   stays [] q b S = S
   stays (c ∷ cs) q b S = then-fed (feed b c (reply q c)) (λ b′. judged b′ (after q c) cs) (fed b S c (reply q c)) (stays cs (after q c))

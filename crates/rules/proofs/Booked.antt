@@ -16,6 +16,8 @@ use Rattle.record.specs.declared.stages.Delete.the-variants as del
 use Rattle.record.specs.declared.stages.Removal.{Removal}
 use Rattle.record.specs.declared.stages.Removal.the-variants as rem
 use Rattle.record.specs.declared.stages.Stage.{Stage}
+use Rattle.record.specs.declared.stages.Job.{Job}
+use Rattle.record.specs.declared.stages.Job.the-variants as jobs
 use Rattle.record.specs.declared.stages.Stage.the-variants as stage
 use Rattle.rules.specs.declared.answers.Entry.{Entry}
 use Rattle.rules.specs.declared.decisions.Decision.{Decision}
@@ -26,18 +28,18 @@ use Rattle.rules.specs.declared.decisions.Sought.{Sought}
 use Rattle.rules.specs.declared.decisions.Sought.the-variants as sght
 use Rattle.record.specs.Stages.{place}
 use Rattle.rules.specs.Decide.{insertSearched, insertSought, removalSearched, removalSought, seekStep, searchStep}
-use Rattle.record.specs.Stages.{seekCarried}
+use Rattle.record.specs.Stages.{seekPart}
 use Rattle.laws.proofs.Booleans.{cond-elim}
 use Rattle.laws.specs.Update.{upd}
 use Rattle.laws.proofs.Updating.{upd-same, upd-other}
 use Rattle.rules.proofs.Put.{ever}
-use Rattle.rules.proofs.View.{Pr, View, info, claim, key, tail}
+use Rattle.rules.proofs.View.{Pr, View, info, walking, claim, key, tail}
 use Rattle.rules.proofs.Inv.{Inv, Eligible, Inserts, NodeHeld}
 use Rattle.rules.proofs.Assemble.{ticked}
 use Rattle.rules.proofs.Machine.{decision, entryAt, sight, withStatus}
 use Rattle.rules.proofs.Move.{busy-at, kind-at}
 use Rattle.rules.proofs.InsertSteps.{idle}
-use Rattle.rules.proofs.WalkSteps.{empty-right, mark-pick}
+use Rattle.rules.proofs.WalkSteps.{empty-right, mark-able, mark-first}
 use Rattle.rules.proofs.Begin.{rank-entry}
 use Rattle.rules.specs.Book.{Line, Open, nothing, delivering, Book, turned, pick, gives, withAnswer, withMark, withHandOut}
 use Rattle.rules.proofs.Picks.{order, Candidate, Picked, none, one, picked}
@@ -62,31 +64,36 @@ kind-seek-insert h (seek.Take a) = refl
 kind-seek-insert h (seek.Confirm a) = refl
 kind-seek-insert h (seek.Release a b) = refl
 
-kind-seek-delete : (h : ℕ) (k : Seek) → info h (stage.Delete (del.Removal (rem.Seek k))) .kind ≡ 3
-kind-seek-delete h (seek.Approach a) = refl
-kind-seek-delete h (seek.Take a) = refl
-kind-seek-delete h (seek.Confirm a) = refl
-kind-seek-delete h (seek.Release a b) = refl
+kind-seek-delete : (job : Job) (h : ℕ) (k : Seek) →
+    info h (stage.Removal job (rem.Seek k)) .kind ≡ 3
+kind-seek-delete job h (seek.Approach a) = refl
+kind-seek-delete job h (seek.Take a) = refl
+kind-seek-delete job h (seek.Confirm a) = refl
+kind-seek-delete job h (seek.Release a b) = refl
 
-quiet-insert-sought : (s : Sight) (r : Sought) → sought-quiet r → Quiet (s .own) 1 (insertSought s r)
-quiet-insert-sought s (sght.Goes e k) q = record { answer = tt; effect = q; own-same = refl; begin-same = λ t b. refl; kind-same = λ h. kind-seek-insert h k }
-quiet-insert-sought s (sght.Waits k) q = record { answer = tt; effect = tt; own-same = refl; begin-same = λ t b. refl; kind-same = λ h. kind-seek-insert h k }
-quiet-insert-sought s (sght.Done a) q = record { answer = tt; effect = tt; own-same = refl; begin-same = λ t b. refl; kind-same = λ h. refl }
+quiet-insert-sought : (s : Sight) (j : Seek) (r : Sought) → sought-quiet r →
+    Quiet (s .own) (stage.Insert (ins.Seek j)) (insertSought s r)
+quiet-insert-sought s j (sght.Goes e k) q = record { answer = tt; effect = q; own-same = refl; begin-same = λ t b. refl; kind-same = λ h. kind-seek-insert h k ∙ sym (kind-seek-insert h j); opens-same = λ t b. refl }
+quiet-insert-sought s j (sght.Waits k) q = record { answer = tt; effect = tt; own-same = refl; begin-same = λ t b. refl; kind-same = λ h. kind-seek-insert h k ∙ sym (kind-seek-insert h j); opens-same = λ t b. refl }
+quiet-insert-sought s j (sght.Done a) q = record { answer = tt; effect = tt; own-same = refl; begin-same = λ t b. refl; kind-same = λ h. sym (kind-seek-insert h j); opens-same = λ t b. refl }
 
-quiet-delete-sought : (s : Sight) (r : Sought) → sought-quiet r → Quiet (s .own) 3 (removalSought s r)
-quiet-delete-sought s (sght.Goes e k) q = record { answer = tt; effect = q; own-same = refl; begin-same = λ t b. refl; kind-same = λ h. kind-seek-delete h k }
-quiet-delete-sought s (sght.Waits k) q = record { answer = tt; effect = tt; own-same = refl; begin-same = λ t b. refl; kind-same = λ h. kind-seek-delete h k }
-quiet-delete-sought s (sght.Done a) q = record { answer = tt; effect = tt; own-same = refl; begin-same = λ t b. refl; kind-same = λ h. refl }
+quiet-delete-sought : (job : Job) (s : Sight) (j : Seek) (r : Sought) → sought-quiet r →
+    Quiet (s .own) (stage.Removal job (rem.Seek j)) (removalSought job s r)
+quiet-delete-sought job s j (sght.Goes e k) q = record { answer = tt; effect = q; own-same = refl; begin-same = λ t b. refl; kind-same = λ h. kind-seek-delete job h k ∙ sym (kind-seek-delete job h j); opens-same = λ t b. refl }
+quiet-delete-sought job s j (sght.Waits k) q = record { answer = tt; effect = tt; own-same = refl; begin-same = λ t b. refl; kind-same = λ h. kind-seek-delete job h k ∙ sym (kind-seek-delete job h j); opens-same = λ t b. refl }
+quiet-delete-sought job s j (sght.Done a) q = record { answer = tt; effect = tt; own-same = refl; begin-same = λ t b. refl; kind-same = λ h. sym (kind-seek-delete job h j); opens-same = λ t b. refl }
 
-quiet-insert-searched : (s : Sight) (a : Place) (r : Searched) → Quiet (s .own) 1 (insertSearched s a r)
-quiet-insert-searched s a (srch.Ahead b) = record { answer = tt; effect = tt; own-same = refl; begin-same = λ t b. refl; kind-same = λ h. refl }
-quiet-insert-searched s a (srch.Down b) = record { answer = tt; effect = tt; own-same = refl; begin-same = λ t b. refl; kind-same = λ h. refl }
-quiet-insert-searched s a (srch.Left b) = record { answer = tt; effect = tt; own-same = refl; begin-same = λ t b. refl; kind-same = λ h. refl }
+quiet-insert-searched : (s : Sight) (a : Place) (r : Searched) →
+    Quiet (s .own) (stage.Insert (ins.Search a)) (insertSearched s a r)
+quiet-insert-searched s a (srch.Ahead b) = record { answer = tt; effect = tt; own-same = refl; begin-same = λ t b. refl; kind-same = λ h. refl; opens-same = λ t b. refl }
+quiet-insert-searched s a (srch.Down b) = record { answer = tt; effect = tt; own-same = refl; begin-same = λ t b. refl; kind-same = λ h. refl; opens-same = λ t b. refl }
+quiet-insert-searched s a (srch.Left b) = record { answer = tt; effect = tt; own-same = refl; begin-same = λ t b. refl; kind-same = λ h. refl; opens-same = λ t b. refl }
 
-quiet-delete-searched : (s : Sight) (a : Place) (r : Searched) → Quiet (s .own) 3 (removalSearched s a r)
-quiet-delete-searched s a (srch.Ahead b) = record { answer = tt; effect = tt; own-same = refl; begin-same = λ t b. refl; kind-same = λ h. refl }
-quiet-delete-searched s a (srch.Down b) = record { answer = tt; effect = tt; own-same = refl; begin-same = λ t b. refl; kind-same = λ h. refl }
-quiet-delete-searched s a (srch.Left b) = record { answer = tt; effect = tt; own-same = refl; begin-same = λ t b. refl; kind-same = λ h. refl }
+quiet-delete-searched : (job : Job) (s : Sight) (a : Place) (r : Searched) →
+    Quiet (s .own) (stage.Removal job (rem.Search a)) (removalSearched job s a r)
+quiet-delete-searched job s a (srch.Ahead b) = record { answer = tt; effect = tt; own-same = refl; begin-same = λ t b. refl; kind-same = λ h. refl; opens-same = λ t b. refl }
+quiet-delete-searched job s a (srch.Down b) = record { answer = tt; effect = tt; own-same = refl; begin-same = λ t b. refl; kind-same = λ h. refl; opens-same = λ t b. refl }
+quiet-delete-searched job s a (srch.Left b) = record { answer = tt; effect = tt; own-same = refl; begin-same = λ t b. refl; kind-same = λ h. refl; opens-same = λ t b. refl }
 
 -- a node in use is known by its ticket, among those that are or were used and whose entry has their due
 pub ticket-apart : (v : View) (u : ℕ → ℕ → ℕ) (I : Inv v u) (b : Book) (R : Rel v b) (n m : ℕ) → 1 ≤ n → n ≤ v .nodes → 1 ≤ m → m ≤ v .nodes → v .us n ≡ 1 → 1 ≤ v .us m →
@@ -165,7 +172,8 @@ module _ (v : View) (u : ℕ → ℕ → ℕ) (I : Inv v u) (b : Book) (R : Rel 
     (mk-same : (n : ℕ) → (n ≡ o → ⊥) → mk n ≡ v .mk n) (st-same : (n : ℕ) → (n ≡ o → ⊥) → st n ≡ v .st n) (us-same : (n : ℕ) → (n ≡ o → ⊥) → us n ≡ v .us n)
     (l-written : l .written ≡ b .entry (v .tick o) .written) (l-due : l .due ≡ b .entry (v .tick o) .due) (l-item : l .item ≡ b .entry (v .tick o) .item)
     (kept-o : us o ≡ 1 → l ≡ lineOf (v .due) (v .item) st mk o) (found-o : l .marked ≡ false → Found us (v .tick) (v .nodes) (v .tick o))
-    (opened-p : op ≡ opens (info (v .ht (c .own)) (c .stage) .kind) (c .begin) (v .tick (c .own))) (not-insert : info (v .ht (c .own)) (c .stage) .kind ≡ 1 → ⊥) where
+    (opened-p : op ≡ opens (c .stage) (c .begin) (v .tick (c .own)))
+    (not-insert : info (v .ht (c .own)) (c .stage) .kind ≡ 1 → ⊥) where
   rel-line : Rel (ticked (withStatus v mk st us) p c) (turned b (upd (b .entry) (v .tick o) l) p op)
   rel-line = record {
     count = omega (arith, R .count);
@@ -176,7 +184,8 @@ module _ (v : View) (u : ℕ → ℕ → ℕ) (I : Inv v u) (b : Book) (R : Rel 
     late = λ t. late t (ℕ-discrete t (v .tick o));
   }
     where
-      opened : (q : ℕ) → Dec (q ≡ p) → upd (b .opened) p op q ≡ opens (info (v .ht (upd (v .pr) p c q .own)) (upd (v .pr) p c q .stage) .kind) (upd (v .pr) p c q .begin) (v .tick (upd (v .pr) p c q .own))
+      opened : (q : ℕ) → Dec (q ≡ p) → upd (b .opened) p op q ≡ opens (upd (v .pr) p c q .stage)
+          (upd (v .pr) p c q .begin) (v .tick (upd (v .pr) p c q .own))
       opened q (yes e) = rw (e, upd-same (v .pr) p c, upd-same (b .opened) p op) opened-p
       opened q (no d) = rw (upd-other (v .pr) p c q d, upd-other (b .opened) p op q d) (R .opened q)
 
@@ -213,7 +222,8 @@ module _ (v : View) (u : ℕ → ℕ → ℕ) (I : Inv v u) (b : Book) (R : Rel 
       late t (no d) = rw (upd-other (b .entry) (v .tick o) l t d) λ w. still-past (R .late t w)
 
 -- what one processor has open changes, and no entry
-pub rel-open : (v : View) (b : Book) (R : Rel v b) (p : ℕ) (c : Pr) (op : Open) → op ≡ opens (info (v .ht (c .own)) (c .stage) .kind) (c .begin) (v .tick (c .own)) →
+pub rel-open : (v : View) (b : Book) (R : Rel v b) (p : ℕ) (c : Pr) (op : Open) →
+    op ≡ opens (c .stage) (c .begin) (v .tick (c .own)) →
     (info (v .ht (c .own)) (c .stage) .kind ≡ 1 → ⊥) → Rel (ticked v p c) (turned b (b .entry) p op)
 rel-open v b R p c op e not-insert = record { count = omega (arith, R .count); opened = λ q. opened q (ℕ-discrete q p); kept = R .kept; found = R .found; filed = λ q. filed q (ℕ-discrete q p); late = λ t w. still-past (R .late t w) }
   where
@@ -221,7 +231,8 @@ rel-open v b R p c op e not-insert = record { count = omega (arith, R .count); o
     filed q (yes f) = rw (f, upd-same (v .pr) p c) λ k. absurd (not-insert k)
     filed q (no d) = rw (upd-other (v .pr) p c q d) (R .filed q)
 
-    opened : (q : ℕ) → Dec (q ≡ p) → upd (b .opened) p op q ≡ opens (info (v .ht (upd (v .pr) p c q .own)) (upd (v .pr) p c q .stage) .kind) (upd (v .pr) p c q .begin) (v .tick (upd (v .pr) p c q .own))
+    opened : (q : ℕ) → Dec (q ≡ p) → upd (b .opened) p op q ≡ opens (upd (v .pr) p c q .stage)
+        (upd (v .pr) p c q .begin) (v .tick (upd (v .pr) p c q .own))
     opened q (yes f) = rw (f, upd-same (v .pr) p c, upd-same (b .opened) p op) e
     opened q (no d) = rw (upd-other (v .pr) p c q d, upd-other (b .opened) p op q d) (R .opened q)
 
@@ -230,8 +241,10 @@ in-use-filed : (v : View) (b : Book) (R : Rel v b) (n : ℕ) → 1 ≤ n → n �
 in-use-filed v b R n n≥ n≤ nu = let l = R .kept n n≥ n≤ nu in record { written = ap (λ (x : Line). x .written) l; due = ap (λ (x : Line). x .due) l; item = ap (λ (x : Line). x .item) l }
 
 module _ (v : View) (u : ℕ → ℕ → ℕ) (I : Inv v u) (H : NodeHeld v) (room : v .clock + 1 < ever) (b : Book) (R : Rel v b) (p : ℕ) where
-  open-at : (s : Stage) → v .pr p .stage ≡ s → b .opened p ≡ opens (info (v .ht (v .pr p .own)) s .kind) (v .pr p .begin) (v .tick (v .pr p .own))
-  open-at s e = R .opened p ∙ ap (λ (k : ℕ). opens k (v .pr p .begin) (v .tick (v .pr p .own))) (kind-at v u I p s e)
+  open-at : (s : Stage) → v .pr p .stage ≡ s →
+      b .opened p ≡ opens s (v .pr p .begin) (v .tick (v .pr p .own))
+  open-at s e = R .opened p ∙ ap (λ (k : Stage). opens k (v .pr p .begin) (v .tick (v .pr p .own)))
+      e
 
   stamp-booked : v .pr p .stage ≡ stage.Insert ins.Stamp → Booked v p b (decision v p (stage.Insert ins.Stamp))
   stamp-booked e =
@@ -253,26 +266,54 @@ module _ (v : View) (u : ℕ → ℕ → ℕ) (I : Inv v u) (H : NodeHeld v) (ro
       insert-used S (yes k) = omega arith
       insert-used S (no d) = omega (arith, S .later d)
 
-  retire-booked : v .pr p .stage ≡ stage.Delete (del.Removal rem.Retire) → Booked v p b (decision v p (stage.Delete (del.Removal rem.Retire)))
-  retire-booked e =
-      let s = stage.Delete (del.Removal rem.Retire) in
+  retire-booked : (job : Job) → v .pr p .stage ≡ stage.Removal job rem.Retire →
+      Booked v p b (decision v p (stage.Removal job rem.Retire))
+  retire-booked job e =
       let o = v .pr p .own in
-      let S = busy-at v u I p s e (omega arith) .removes refl in
+      let S = busy-at v u I p (stage.Removal job rem.Retire) e (omega arith) .removes refl in
       let l = R .kept o (S .low) (S .high) (S .used) in
       let F = in-use-filed v b R o (S .low) (S .high) (S .used) in
       let same = gives-true b (entryAt v o) (v .tick o) (sym (F .due)) (sym (F .item)) refl in
       let marked : b .entry (v .tick o) .marked ≡ true = ap (λ (x : Line). x .marked) l ∙ lt-ltb 0 (v .mk o) (S .marked) in
-      record {
-        after = turned b (upd (b .entry) (v .tick o) (withHandOut (b .entry (v .tick o)))) p nothing;
-        fed = rw (open-at s e, same, ap (λ (x : Line). x .handedOut) l);
-        rel = rel-line v u I b R p (idle (v .top) (v .pr p)) (v .mk) (v .st) (upd (v .us) o (v .clock + 1 + 2)) o
-            (withHandOut (b .entry (v .tick o))) nothing (S .low) (S .high) (omega (arith, S .used)) F (λ n d. refl) (λ n d. refl) (λ n d. upd-other (v .us) o (v .clock + 1 + 2) n d)
-            refl refl refl
-            (λ nu. absurd (omega (arith, upd-same (v .us) o (v .clock + 1 + 2)))) (λ m. absurd (true≢false (sym marked ∙ m))) refl (λ k. omega arith);
+      go job e same (ap (λ (x : Line). x .handedOut) l)
+      (λ x h d i m. rel-line v u I b R p (idle (v .top) (v .pr p)) (v .mk) (v .st)
+      (upd (v .us) o (v .clock + 1 + 2)) o
+      x nothing (S .low) (S .high) (omega (arith, S .used)) F (λ n d. refl) (λ n d. refl)
+      (λ n d. upd-other (v .us) o (v .clock + 1 + 2) n d)
+      h d i (λ nu. absurd (omega (arith, upd-same (v .us) o (v .clock + 1 + 2))))
+      (λ n. absurd (true≢false (sym marked ∙ sym m ∙ n))) refl (λ k. omega arith))
+    where
+      go : (job : Job) → v .pr p .stage ≡ stage.Removal job rem.Retire →
+          gives b (entryAt v (v .pr p .own)) (v .tick (v .pr p .own)) ≡ true →
+          b .entry (v .tick (v .pr p .own)) .handedOut ≡ false →
+          ((x : Line) → x .written ≡ b .entry (v .tick (v .pr p .own)) .written →
+          x .due ≡ b .entry (v .tick (v .pr p .own)) .due →
+          x .item ≡ b .entry (v .tick (v .pr p .own)) .item →
+          x .marked ≡ b .entry (v .tick (v .pr p .own)) .marked →
+          Rel (ticked (withStatus v (v .mk) (v .st) (upd (v .us) (v .pr p .own) (v .clock + 1 + 2)))
+          p (idle (v .top) (v .pr p)))
+          (turned b (upd (b .entry) (v .tick (v .pr p .own)) x) p nothing)) →
+          Booked v p b (decision v p (stage.Removal job rem.Retire))
+      go jobs.Deliver e same out rel = record {
+        after = turned b
+            (upd (b .entry) (v .tick (v .pr p .own))
+            (withHandOut (b .entry (v .tick (v .pr p .own))))) p nothing;
+        fed = rw (open-at (stage.Removal jobs.Deliver rem.Retire) e, same, out);
+        rel = rel (withHandOut (b .entry (v .tick (v .pr p .own)))) refl refl refl refl;
       }
 
-  quiet-step : (s : Stage) → v .pr p .stage ≡ s → 1 ≤ info (v .ht (v .pr p .own)) s .kind → (d : Decision) → Quiet (v .pr p .own) (info (v .ht (v .pr p .own)) s .kind) d → Booked v p b d
-  quiet-step s e k d Q = quiet-booked v p b d R (omega (arith, kind-at v u I p s e)) (subst (λ (n : ℕ). Quiet (v .pr p .own) n d) (sym (kind-at v u I p s e)) Q)
+  quiet-step : (s : Stage) → v .pr p .stage ≡ s → 1 ≤ info (v .ht (v .pr p .own)) s .kind →
+      (d : Decision) → Quiet (v .pr p .own) s d → Booked v p b d
+  quiet-step s e k d Q = quiet-booked v p b d R (omega (arith, kind-at v u I p s e))
+      (subst (λ (n : Stage). Quiet (v .pr p .own) n d) (sym e) Q)
+
+  -- EMPTY of a walk
+  nothing-left : (s : Stage) → v .pr p .stage ≡ s →
+      (a : Place) → info (v .ht (v .pr p .own)) s ≡ walking 2 0 a → v .fwd (a .node) 1 ≡ tail v →
+      pick b (v .pr p .begin) ≡ 0
+  nothing-left s e a is t =
+      pick-none v u I b R (v .pr p .begin)
+      (λ n L. empty-right v u I room p s e 2 0 a is H refl t n L)
 
   empty-booked : (a : Place) → v .pr p .stage ≡ stage.Delete (del.Next a) → Booked v p b (decision v p (stage.Delete (del.Next a)))
   empty-booked a e = go (eqb (v .fwd (a .node) 1) (tail v)) refl
@@ -280,53 +321,84 @@ module _ (v : View) (u : ℕ → ℕ → ℕ) (I : Inv v u) (H : NodeHeld v) (ro
       go : (t : Bool) → eqb (v .fwd (a .node) 1) (tail v) ≡ t → Booked v p b (decision v p (stage.Delete (del.Next a)))
       go true x = rw x (record {
         after = turned b (b .entry) p nothing;
-        fed = rw (open-at (stage.Delete (del.Next a)) e, eq-eqb (pick b (v .pr p .begin)) 0 (pick-none v u I b R (v .pr p .begin) (λ n L. empty-right v u I H room p a e (eqb-true _ _ x) n L)));
+        fed = rw (
+          open-at (stage.Delete (del.Next a)) e,
+          eq-eqb (pick b (v .pr p .begin)) 0
+              (nothing-left (stage.Delete (del.Next a)) e a refl (eqb-true _ _ x)),
+        );
         rel = rel-open v b R p (idle (v .top) (v .pr p)) nothing refl (λ k. omega arith);
       })
-      go false x = rw x (quiet-step (stage.Delete (del.Next a)) e (omega arith) _ (record { answer = tt; effect = tt; own-same = refl; begin-same = λ t b. refl; kind-same = λ h. refl }))
+      go false x = rw x (quiet-step (stage.Delete (del.Next a)) e (omega arith) _ (record { answer = tt; effect = tt; own-same = refl; begin-same = λ t b. refl; kind-same = λ h. refl; opens-same = λ t b. refl }))
+
+  -- the mark of a node in use, in the book
+  rel-mark : (job : Job) (n : ℕ) → 1 ≤ n → n ≤ v .nodes → v .us n ≡ 1 →
+      Rel (ticked (withStatus v (upd (v .mk) n 1) (v .st) (v .us)) p (record { begin = v .pr p .begin; own = n; stage = stage.Removal job (rem.Search (place 0 (v .top))); saved = v .pr p .saved }))
+      (turned b (upd (b .entry) (v .tick n) (withMark (b .entry (v .tick n)))) p
+      (opens (stage.Removal job (rem.Search (place 0 (v .top)))) (v .pr p .begin) (v .tick n)))
+  rel-mark job n low high used =
+      let l = R .kept n low high used in
+      rel-line v u I b R p (record { begin = v .pr p .begin; own = n; stage = stage.Removal job (rem.Search (place 0 (v .top))); saved = v .pr p .saved }) (upd (v .mk) n 1) (v .st) (v .us) n
+      (withMark (b .entry (v .tick n))) _ low high (omega (arith, used))
+      (in-use-filed v b R n low high used) (λ m d. upd-other (v .mk) n 1 m d) (λ m d. refl)
+      (λ m d. refl)
+      refl refl refl (λ nu. rw (l, upd-same (v .mk) n 1)) (λ m. absurd (true≢false m)) refl
+      (λ k. omega arith)
 
   mark-booked : (a : Place) → v .pr p .stage ≡ stage.Delete (del.Mark a) → Booked v p b (decision v p (stage.Delete (del.Mark a)))
   mark-booked a e = go (ltb 0 (v .mk (a .node))) refl
     where
       go : (t : Bool) → ltb 0 (v .mk (a .node)) ≡ t → Booked v p b (decision v p (stage.Delete (del.Mark a)))
-      go true x = rw x (quiet-step (stage.Delete (del.Mark a)) e (omega arith) _ (record { answer = tt; effect = tt; own-same = refl; begin-same = λ t b. refl; kind-same = λ h. refl }))
+      go true x = rw x (quiet-step (stage.Delete (del.Mark a)) e (omega arith) _ (record { answer = tt; effect = tt; own-same = refl; begin-same = λ t b. refl; kind-same = λ h. refl; opens-same = λ t b. refl }))
       go false x =
           let s = stage.Delete (del.Mark a) in
           let n = a .node in
-          let M = mark-pick v u I room p a e (omega (arith, ltb-false 0 (v .mk (a .node)) x)) in
-          let L = M .0 in
+          let L = mark-able v u I room p s e 1 2 a refl refl
+          (omega (arith, ltb-false 0 (v .mk (a .node)) x)) in
           let l = R .kept n (L .low) (L .high) (L .used) in
-          let is = pick-is v u I b R (v .pr p .begin) n L (M .1) in
+          let is = pick-is v u I b R (v .pr p .begin) n L
+          (mark-first v u I room p s e 1 2 a refl (omega arith)) in
           let same = gives-true b (entryAt v n) (v .tick n) (sym (ap (λ (x : Line). x .due) l)) (sym (ap (λ (x : Line). x .item) l)) refl in
           let late = R .late (v .tick n) (ap (λ (x : Line). x .written) l) in
           let pos = lt-ltb 0 (v .tick n) (late .0) in
           rw x (record {
             after = turned b (upd (b .entry) (v .tick n) (withMark (b .entry (v .tick n)))) p (delivering (v .tick n));
             fed = rw (open-at s e, is, pos, same);
-            rel = rel-line v u I b R p (record { begin = v .pr p .begin; own = n; stage = stage.Delete (del.Removal (rem.Search (place 0 (v .top)))); saved = v .pr p .saved }) (upd (v .mk) n 1) (v .st) (v .us) n
-                (withMark (b .entry (v .tick n))) (delivering (v .tick n)) (L .low) (L .high) (omega (arith, L .used)) (in-use-filed v b R n (L .low) (L .high) (L .used)) (λ m d. upd-other (v .mk) n 1 m d) (λ m d. refl) (λ m d. refl)
-                refl refl refl (λ nu. rw (l, upd-same (v .mk) n 1)) (λ m. absurd (true≢false m)) refl (λ k. omega arith);
+            rel = rel-mark jobs.Deliver n (L .low) (L .high) (L .used);
           })
 
   pub booked : (s : Stage) → v .pr p .stage ≡ s → 1 ≤ info (v .ht (v .pr p .own)) s .kind → Booked v p b (decision v p s)
   booked stage.Idle e k = absurd (omega arith)
-  booked (stage.Insert (ins.Search a)) e k = quiet-step (stage.Insert (ins.Search a)) e k _ (quiet-insert-searched (sight v (v .pr p) a) a (searchStep (sight v (v .pr p) a) a))
-  booked (stage.Insert (ins.Seek j)) e k = quiet-step (stage.Insert (ins.Seek j)) e k _ (subst (λ (n : ℕ). Quiet (v .pr p .own) n (decision v p (stage.Insert (ins.Seek j)))) (sym (kind-seek-insert (v .ht (v .pr p .own)) j)) (quiet-insert-sought (sight v (v .pr p) (seekCarried j .place)) (seekStep (sight v (v .pr p) (seekCarried j .place)) j) (seek-quiet (sight v (v .pr p) (seekCarried j .place)) j)))
-  booked (stage.Insert (ins.Copy a)) e k = quiet-step (stage.Insert (ins.Copy a)) e k _ (record { answer = tt; effect = tt; own-same = refl; begin-same = λ t b. refl; kind-same = λ h. refl })
-  booked (stage.Insert (ins.Link a)) e k = quiet-step (stage.Insert (ins.Link a)) e k _ (record { answer = tt; effect = tt; own-same = refl; begin-same = λ t b. refl; kind-same = λ h. refl })
-  booked (stage.Insert (ins.FreeLevel a)) e k = quiet-step (stage.Insert (ins.FreeLevel a)) e k _ (cond-elim (Quiet (v .pr p .own) 1) (ltb (a .level) (v .ht (v .pr p .own))) _ _ (record { answer = tt; effect = tt; own-same = refl; begin-same = λ t b. refl; kind-same = λ h. refl }) (record { answer = tt; effect = tt; own-same = refl; begin-same = λ t b. refl; kind-same = λ h. refl }))
-  booked (stage.Insert ins.FreeNode) e k = quiet-step (stage.Insert ins.FreeNode) e k _ (record { answer = tt; effect = tt; own-same = refl; begin-same = λ t b. refl; kind-same = λ h. refl })
+  booked (stage.Insert (ins.Search a)) e k =
+      quiet-step (stage.Insert (ins.Search a)) e k _
+      (quiet-insert-searched (sight v (v .pr p) (key v (v .pr p .own)) a) a
+      (searchStep (sight v (v .pr p) (key v (v .pr p .own)) a) a))
+  booked (stage.Insert (ins.Seek j)) e k =
+      quiet-step (stage.Insert (ins.Seek j)) e k _
+      (quiet-insert-sought (sight v (v .pr p) (key v (v .pr p .own)) (seekPart j .place)) j
+      (seekStep (sight v (v .pr p) (key v (v .pr p .own)) (seekPart j .place)) j)
+      (seek-quiet (sight v (v .pr p) (key v (v .pr p .own)) (seekPart j .place)) j))
+  booked (stage.Insert (ins.Copy a)) e k = quiet-step (stage.Insert (ins.Copy a)) e k _ (record { answer = tt; effect = tt; own-same = refl; begin-same = λ t b. refl; kind-same = λ h. refl; opens-same = λ t b. refl })
+  booked (stage.Insert (ins.Link a)) e k = quiet-step (stage.Insert (ins.Link a)) e k _ (record { answer = tt; effect = tt; own-same = refl; begin-same = λ t b. refl; kind-same = λ h. refl; opens-same = λ t b. refl })
+  booked (stage.Insert (ins.FreeLevel a)) e k = quiet-step (stage.Insert (ins.FreeLevel a)) e k _ (cond-elim (Quiet (v .pr p .own) (stage.Insert (ins.FreeLevel a))) (ltb (a .level) (v .ht (v .pr p .own))) _ _ (record { answer = tt; effect = tt; own-same = refl; begin-same = λ t b. refl; kind-same = λ h. refl; opens-same = λ t b. refl }) (record { answer = tt; effect = tt; own-same = refl; begin-same = λ t b. refl; kind-same = λ h. refl; opens-same = λ t b. refl }))
+  booked (stage.Insert ins.FreeNode) e k = quiet-step (stage.Insert ins.FreeNode) e k _ (record { answer = tt; effect = tt; own-same = refl; begin-same = λ t b. refl; kind-same = λ h. refl; opens-same = λ t b. refl })
   booked (stage.Insert ins.Stamp) e k = stamp-booked e
   booked (stage.Delete (del.Next a)) e k = empty-booked a e
-  booked (stage.Delete (del.Stamped a)) e k = quiet-step (stage.Delete (del.Stamped a)) e k _ (cond-elim (Quiet (v .pr p .own) 2) (ltb (v .st (a .node)) (v .pr p .begin)) _ _ (record { answer = tt; effect = tt; own-same = refl; begin-same = λ t b. refl; kind-same = λ h. refl }) (record { answer = tt; effect = tt; own-same = refl; begin-same = λ t b. refl; kind-same = λ h. refl }))
+  booked (stage.Delete (del.Stamped a)) e k = quiet-step (stage.Delete (del.Stamped a)) e k _ (cond-elim (Quiet (v .pr p .own) (stage.Delete (del.Stamped a))) (ltb (v .st (a .node)) (v .pr p .begin)) _ _ (record { answer = tt; effect = tt; own-same = refl; begin-same = λ t b. refl; kind-same = λ h. refl; opens-same = λ t b. refl }) (record { answer = tt; effect = tt; own-same = refl; begin-same = λ t b. refl; kind-same = λ h. refl; opens-same = λ t b. refl }))
   booked (stage.Delete (del.Mark a)) e k = mark-booked a e
-  booked (stage.Delete (del.Removal (rem.Search a))) e k = quiet-step (stage.Delete (del.Removal (rem.Search a))) e k _ (quiet-delete-searched (sight v (v .pr p) a) a (searchStep (sight v (v .pr p) a) a))
-  booked (stage.Delete (del.Removal rem.HoldNode)) e k = quiet-step (stage.Delete (del.Removal rem.HoldNode)) e k _ (cond-elim (Quiet (v .pr p .own) 3) (eqb (v .nl (v .pr p .own)) 0) _ _ (record { answer = tt; effect = tt; own-same = refl; begin-same = λ t b. refl; kind-same = λ h. refl }) (record { answer = tt; effect = tt; own-same = refl; begin-same = λ t b. refl; kind-same = λ h. refl }))
-  booked (stage.Delete (del.Removal (rem.Seek j))) e k = quiet-step (stage.Delete (del.Removal (rem.Seek j))) e k _ (subst (λ (n : ℕ). Quiet (v .pr p .own) n (decision v p (stage.Delete (del.Removal (rem.Seek j))))) (sym (kind-seek-delete (v .ht (v .pr p .own)) j)) (quiet-delete-sought (sight v (v .pr p) (seekCarried j .place)) (seekStep (sight v (v .pr p) (seekCarried j .place)) j) (seek-quiet (sight v (v .pr p) (seekCarried j .place)) j)))
-  booked (stage.Delete (del.Removal (rem.HoldOwn a))) e k = quiet-step (stage.Delete (del.Removal (rem.HoldOwn a))) e k _ (cond-elim (Quiet (v .pr p .own) 3) (eqb (v .lk (v .pr p .own) (a .level)) 0) _ _ (record { answer = tt; effect = tt; own-same = refl; begin-same = λ t b. refl; kind-same = λ h. refl }) (record { answer = tt; effect = tt; own-same = refl; begin-same = λ t b. refl; kind-same = λ h. refl }))
-  booked (stage.Delete (del.Removal (rem.Unlink a))) e k = quiet-step (stage.Delete (del.Removal (rem.Unlink a))) e k _ (record { answer = tt; effect = tt; own-same = refl; begin-same = λ t b. refl; kind-same = λ h. refl })
-  booked (stage.Delete (del.Removal (rem.Back a))) e k = quiet-step (stage.Delete (del.Removal (rem.Back a))) e k _ (record { answer = tt; effect = tt; own-same = refl; begin-same = λ t b. refl; kind-same = λ h. refl })
-  booked (stage.Delete (del.Removal (rem.FreeOwn a))) e k = quiet-step (stage.Delete (del.Removal (rem.FreeOwn a))) e k _ (record { answer = tt; effect = tt; own-same = refl; begin-same = λ t b. refl; kind-same = λ h. refl })
-  booked (stage.Delete (del.Removal (rem.FreeLevel a))) e k = quiet-step (stage.Delete (del.Removal (rem.FreeLevel a))) e k _ (cond-elim (Quiet (v .pr p .own) 3) (leb (a .level) 1) _ _ (record { answer = tt; effect = tt; own-same = refl; begin-same = λ t b. refl; kind-same = λ h. refl }) (record { answer = tt; effect = tt; own-same = refl; begin-same = λ t b. refl; kind-same = λ h. refl }))
-  booked (stage.Delete (del.Removal rem.FreeNode)) e k = quiet-step (stage.Delete (del.Removal rem.FreeNode)) e k _ (record { answer = tt; effect = tt; own-same = refl; begin-same = λ t b. refl; kind-same = λ h. refl })
-  booked (stage.Delete (del.Removal rem.Retire)) e k = retire-booked e
+  booked (stage.Removal job (rem.Search a)) e k =
+      quiet-step (stage.Removal job (rem.Search a)) e k _
+      (quiet-delete-searched job (sight v (v .pr p) (key v (v .pr p .own)) a) a
+      (searchStep (sight v (v .pr p) (key v (v .pr p .own)) a) a))
+  booked (stage.Removal job rem.HoldNode) e k = quiet-step (stage.Removal job rem.HoldNode) e k _ (cond-elim (Quiet (v .pr p .own) (stage.Removal job rem.HoldNode)) (eqb (v .nl (v .pr p .own)) 0) _ _ (record { answer = tt; effect = tt; own-same = refl; begin-same = λ t b. refl; kind-same = λ h. refl; opens-same = λ t b. refl }) (record { answer = tt; effect = tt; own-same = refl; begin-same = λ t b. refl; kind-same = λ h. refl; opens-same = λ t b. refl }))
+  booked (stage.Removal job (rem.Seek j)) e k =
+      quiet-step (stage.Removal job (rem.Seek j)) e k _
+      (quiet-delete-sought job (sight v (v .pr p) (key v (v .pr p .own)) (seekPart j .place)) j
+      (seekStep (sight v (v .pr p) (key v (v .pr p .own)) (seekPart j .place)) j)
+      (seek-quiet (sight v (v .pr p) (key v (v .pr p .own)) (seekPart j .place)) j))
+  booked (stage.Removal job (rem.HoldOwn a)) e k = quiet-step (stage.Removal job (rem.HoldOwn a)) e k _ (cond-elim (Quiet (v .pr p .own) (stage.Removal job (rem.HoldOwn a))) (eqb (v .lk (v .pr p .own) (a .level)) 0) _ _ (record { answer = tt; effect = tt; own-same = refl; begin-same = λ t b. refl; kind-same = λ h. refl; opens-same = λ t b. refl }) (record { answer = tt; effect = tt; own-same = refl; begin-same = λ t b. refl; kind-same = λ h. refl; opens-same = λ t b. refl }))
+  booked (stage.Removal job (rem.Unlink a)) e k = quiet-step (stage.Removal job (rem.Unlink a)) e k _ (record { answer = tt; effect = tt; own-same = refl; begin-same = λ t b. refl; kind-same = λ h. refl; opens-same = λ t b. refl })
+  booked (stage.Removal job (rem.Back a)) e k = quiet-step (stage.Removal job (rem.Back a)) e k _ (record { answer = tt; effect = tt; own-same = refl; begin-same = λ t b. refl; kind-same = λ h. refl; opens-same = λ t b. refl })
+  booked (stage.Removal job (rem.FreeOwn a)) e k = quiet-step (stage.Removal job (rem.FreeOwn a)) e k _ (record { answer = tt; effect = tt; own-same = refl; begin-same = λ t b. refl; kind-same = λ h. refl; opens-same = λ t b. refl })
+  booked (stage.Removal job (rem.FreeLevel a)) e k = quiet-step (stage.Removal job (rem.FreeLevel a)) e k _ (cond-elim (Quiet (v .pr p .own) (stage.Removal job (rem.FreeLevel a))) (leb (a .level) 1) _ _ (record { answer = tt; effect = tt; own-same = refl; begin-same = λ t b. refl; kind-same = λ h. refl; opens-same = λ t b. refl }) (record { answer = tt; effect = tt; own-same = refl; begin-same = λ t b. refl; kind-same = λ h. refl; opens-same = λ t b. refl }))
+  booked (stage.Removal job rem.FreeNode) e k = quiet-step (stage.Removal job rem.FreeNode) e k _ (record { answer = tt; effect = tt; own-same = refl; begin-same = λ t b. refl; kind-same = λ h. refl; opens-same = λ t b. refl })
+  booked (stage.Removal job rem.Retire) e k = retire-booked job e

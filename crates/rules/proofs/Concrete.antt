@@ -8,6 +8,7 @@ use lib.Dec.{ltb, eqb}
 use lib.ListN.{getD}
 use borrow.Author.Tests.{le-ltb, ne-eqb}
 use mathlib.Core.Bool.{cond}
+use Rattle.record.specs.declared.keys.Key.{Key}
 use Rattle.record.specs.declared.nodes.Node.{Node}
 use Rattle.record.specs.declared.queues.Queue.{Queue}
 use Rattle.record.specs.declared.queues.Processor.{Processor}
@@ -17,13 +18,13 @@ use Rattle.record.specs.declared.nodes.Use.{Use}
 use Rattle.record.specs.declared.nodes.Use.the-variants as use′
 use Rattle.record.specs.Keys.{keyBefore}
 use Rattle.record.specs.Queues.{nodeAt, processorAt}
-use Rattle.rules.specs.Calls.{sightOf}
+use Rattle.rules.specs.Calls.{keyFor, sightOf}
 use Rattle.record.specs.Nodes.{stampedBefore, keyOf}
 use Rattle.record.specs.declared.stages.Place.{Place}
 use Rattle.rules.proofs.Put.{ever}
-use Rattle.rules.proofs.View.{Pr, View, rank}
+use Rattle.rules.proofs.View.{Pr, View, rankFor, rank}
 use Rattle.rules.proofs.Machine.{sight}
-use Rattle.rules.proofs.Ranks.{before-rank, rank-at}
+use Rattle.rules.proofs.Ranks.{Ranked, node-ranked, before-ranked, ranked-for, rank-at}
 
 abbrev pub levelOf : List ℕ → ℕ → ℕ
 levelOf l i = cond (eqb i 0) 0 (getD l (i - 1) 0)
@@ -89,17 +90,31 @@ module _ (q : Queue) (c : Processor) (a : Place) (a≥ : 1 ≤ a .level) (T≤ :
   next-same : getD (nodeAt q (a .node) .forward) (a .level - 1) 0 ≡ v .fwd (a .node) (a .level)
   next-same = level-pos (nodeAt q (a .node) .forward) (a .level) a≥
 
-  before-same : (y : ℕ) → y ≤ q .entries + 1 → keyBefore (keyOf (q .entries) y (nodeAt q y)) (keyOf (q .entries) (c .own) (nodeAt q (c .own))) ≡ ltb (rank (q .entries) (v .due) (v .tick) y) (rank (q .entries) (v .due) (v .tick) (c .own))
-  before-same y y≤ = rw (rank-at (q .entries) (v .due) (v .tick) y, rank-at (q .entries) (v .due) (v .tick) (c .own))
-      (before-rank (q .entries) y (nodeAt q y .due) (nodeAt q y .ticket) (c .own) (nodeAt q (c .own) .due) (nodeAt q (c .own) .ticket) (small y y≤ .0) (small y y≤ .1) (small (c .own) own≤ .0) (small (c .own) own≤ .1))
+  ranked : (y : ℕ) → y ≤ q .entries + 1 →
+      Ranked (keyOf (q .entries) y (nodeAt q y)) (rank (q .entries) (v .due) (v .tick) y)
+  ranked y y≤ =
+      rw (rank-at (q .entries) (v .due) (v .tick) y)
+      (node-ranked (q .entries) y (nodeAt q y .due) (nodeAt q y .ticket) (small y y≤ .0)
+      (small y y≤ .1))
 
-  pub sight-same : sightOf q c a ≡ sight v (prOf c) a
+  abbrev goal : Key
+  goal = keyFor (c .stage) (keyOf (q .entries) (c .own) (nodeAt q (c .own)))
+
+  abbrev goal-rank : ℕ
+  goal-rank = rankFor (c .stage) (rank (q .entries) (v .due) (v .tick) (c .own))
+
+  goal-ranked : Ranked goal goal-rank
+  goal-ranked = ranked-for (c .stage) _ _ (ranked (c .own) own≤)
+
+  pub sight-same : sightOf q c a ≡ sight v (prOf c) goal-rank a
   sight-same = λ i. record {
     own = c .own;
     height = nodeAt q (c .own) .height;
     holder = nodeAt q (c .own) .lock;
     next = next-same i;
-    before = (ap (λ (y : ℕ). keyBefore (keyOf (q .entries) y (nodeAt q y)) (keyOf (q .entries) (c .own) (nodeAt q (c .own)))) next-same ∙ before-same (v .fwd (a .node) (a .level)) next≤) i;
+    before = (ap (λ (y : ℕ). keyBefore (keyOf (q .entries) y (nodeAt q y)) goal) next-same
+        ∙ before-ranked _ goal _ goal-rank (ranked (v .fwd (a .node) (a .level)) next≤) goal-ranked)
+        i;
     guard = level-pos (nodeAt q (a .node) .locks) (a .level) a≥ i;
     onward = level-pos (nodeAt q (c .own) .forward) (a .level) a≥ i;
     latch = level-pos (nodeAt q (c .own) .locks) (a .level) a≥ i;

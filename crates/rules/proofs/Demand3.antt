@@ -7,7 +7,8 @@ use Rattle.record.specs.declared.queues.Queue.{Queue}
 use Rattle.record.specs.Queues.{freshQueue}
 use Rattle.rules.specs.Book.{Book, emptyBook, agrees, feed, judged}
 use Rattle.rules.specs.Demand3.{InRange, Demand3, ReachedIsValid, OutsideIsUntouched}
-use Rattle.rules.specs.Runs.{Call, insert, deleteMin, steps, backlog, after, reply, afterAll}
+use Rattle.rules.specs.declared.calls.Call.the-variants as call
+use Rattle.rules.specs.Runs.{Turn, calls, backlog, after, reply, afterAll}
 use Rattle.rules.proofs.Backlog.{backlog-agrees}
 use Rattle.rules.proofs.Sound.{Sound, insert-agrees, delete-agrees, step-agrees}
 use Rattle.rules.proofs.Fresh.{fresh-sound}
@@ -15,24 +16,24 @@ use Rattle.rules.proofs.Untouched.{untouched-all}
 use Rattle.rules.proofs.Valid.{reached-valid}
 
 -- a call: the book agrees, and what is kept is kept
-pub record Turned (q : Queue) (b : Book) (c : Call) : Type 0 where
+pub record Turned (q : Queue) (b : Book) (c : Turn) : Type 0 where
   pub book : Book
   pub fed : feed b c (reply q c) ≡ agrees book
   pub sound : Sound (after q c) book
 
-pub turned-by : (q : Queue) (b : Book) → Sound q b → (c : Call) → Turned q b c
-turned-by q b S (insert p due item height) = let A = insert-agrees q b S p due item height in record { book = A .book; fed = A .fed; sound = A .sound }
-turned-by q b S (deleteMin p) = let A = delete-agrees q b S p in record { book = A .book; fed = A .fed; sound = A .sound }
-turned-by q b S (steps p) = let A = step-agrees q b S p in record { book = A .book; fed = A .fed; sound = A .sound }
+pub turned-by : (q : Queue) (b : Book) → Sound q b → (c : Turn) → Turned q b c
+turned-by q b S (calls (call.Insert p due item height)) = let A = insert-agrees q b S p due item height in record { book = A .book; fed = A .fed; sound = A .sound }
+turned-by q b S (calls (call.DeleteMin p)) = let A = delete-agrees q b S p in record { book = A .book; fed = A .fed; sound = A .sound }
+turned-by q b S (calls (call.Step p)) = let A = step-agrees q b S p in record { book = A .book; fed = A .fed; sound = A .sound }
 turned-by q b S backlog = record { book = b; fed = backlog-agrees q b S; sound = S }
 
 -- a list of calls from any record and book for which all of it holds
-pub record Judged (q : Queue) (b : Book) (cs : List Call) : Type 0 where
+pub record Judged (q : Queue) (b : Book) (cs : List Turn) : Type 0 where
   pub book : Book
   pub judges : judged b q cs ≡ agrees book
   pub sound : Sound (afterAll q cs) book
 
-pub all-judged : (cs : List Call) (q : Queue) (b : Book) → Sound q b → Judged q b cs
+pub all-judged : (cs : List Turn) (q : Queue) (b : Book) → Sound q b → Judged q b cs
 unfolding judged afterAll
 all-judged [] q b S = record { book = b; judges = refl; sound = S }
 all-judged (c ∷ cs) q b S =
@@ -41,7 +42,7 @@ all-judged (c ∷ cs) q b S =
     record { book = J .book; judges = rw (T .fed) (J .judges); sound = J .sound }
 
 -- a list of calls on a queue that is just made
-pub reached : (P N L : ℕ) → InRange P N L → (cs : List Call) → Judged (freshQueue P N L) emptyBook cs
+pub reached : (P N L : ℕ) → InRange P N L → (cs : List Turn) → Judged (freshQueue P N L) emptyBook cs
 reached P N L R cs = all-judged cs (freshQueue P N L) emptyBook (fresh-sound P N L (R .processors-high) (R .entries-high) (R .levels-low) (R .levels-high))
 
 pub demand-three : Demand3

@@ -17,6 +17,7 @@ use Rattle.record.specs.declared.stages.Delete.the-variants as del
 use Rattle.record.specs.declared.stages.Removal.{Removal}
 use Rattle.record.specs.declared.stages.Removal.the-variants as rem
 use Rattle.record.specs.declared.stages.Stage.{Stage}
+use Rattle.record.specs.declared.stages.Job.{Job}
 use Rattle.record.specs.declared.stages.Stage.the-variants as stage
 use Rattle.rules.specs.declared.decisions.Effect.{Effect}
 use Rattle.rules.specs.declared.decisions.Effect.the-variants as eff
@@ -31,8 +32,8 @@ use Rattle.rules.specs.Decide.{insertSearched, insertSought, removalSear
 use Rattle.laws.proofs.Updating.{upd-same, upd-other}
 use Rattle.rules.proofs.Put.{put, put-at, Where, here, away}
 use Rattle.laws.proofs.Booleans.{cond-elim}
-use Rattle.record.specs.Stages.{seekCarried}
-use Rattle.rules.proofs.View.{Pr, View, Info, info, claim, tail}
+use Rattle.record.specs.Stages.{seekPart}
+use Rattle.rules.proofs.View.{Pr, View, Info, info, claim, key, tail}
 use Rattle.rules.proofs.Assemble.{ticked}
 use Rattle.rules.proofs.Machine.{effected, prAfter, carried, decision, sight, relevel}
 use Rattle.rules.proofs.Facts.{info-any}
@@ -201,10 +202,11 @@ insert-searched h s a (srch.Ahead b) = (record { keeps = λ h l H. held-by (λ x
 insert-searched h s a (srch.Down b) = (record { keeps = λ h l H. held-by (λ x e. absurd (omega arith)) (λ x e. absurd (omega arith)) (λ x e. inr (by-node refl e)) H; gains = (λ h l t. absurd t) })
 insert-searched h s a (srch.Left b) = (record { keeps = λ h l H. held-by (λ x e. absurd (omega arith)) (λ x e. absurd (omega arith)) (λ x e. inr (by-node refl e)) H; gains = (λ h l t. absurd t) })
 
-removal-searched : (h : ℕ) (s : Sight) (a : Place) (r : Searched) → Passes (info h (stage.Delete (del.Removal (rem.Search a)))) (s .own) (removalSearched s a r)
-removal-searched h s a (srch.Ahead b) = (record { keeps = λ h l H. held-by (λ x e. absurd (omega arith)) (λ x e. absurd (omega arith)) (λ x e. absurd (omega arith)) H; gains = (λ h l t. absurd t) })
-removal-searched h s a (srch.Down b) = (record { keeps = λ h l H. held-by (λ x e. absurd (omega arith)) (λ x e. absurd (omega arith)) (λ x e. absurd (omega arith)) H; gains = (λ h l t. absurd t) })
-removal-searched h s a (srch.Left b) = (record { keeps = λ h l H. held-by (λ x e. absurd (omega arith)) (λ x e. absurd (omega arith)) (λ x e. absurd (omega arith)) H; gains = (λ h l t. absurd t) })
+removal-searched : (job : Job) (h : ℕ) (s : Sight) (a : Place) (r : Searched) →
+    Passes (info h (stage.Removal job (rem.Search a))) (s .own) (removalSearched job s a r)
+removal-searched job h s a (srch.Ahead b) = (record { keeps = λ h l H. held-by (λ x e. absurd (omega arith)) (λ x e. absurd (omega arith)) (λ x e. absurd (omega arith)) H; gains = (λ h l t. absurd t) })
+removal-searched job h s a (srch.Down b) = (record { keeps = λ h l H. held-by (λ x e. absurd (omega arith)) (λ x e. absurd (omega arith)) (λ x e. absurd (omega arith)) H; gains = (λ h l t. absurd t) })
+removal-searched job h s a (srch.Left b) = (record { keeps = λ h l H. held-by (λ x e. absurd (omega arith)) (λ x e. absurd (omega arith)) (λ x e. absurd (omega arith)) H; gains = (λ h l t. absurd t) })
 
 insert-seek : (h : ℕ) (s : Sight) (k : Seek) → Passes (info h (stage.Insert (ins.Seek k))) (s .own) (insertSought s (seekStep s k))
 insert-seek h s (seek.Approach a) = cond-elim (λ r. Passes (info h (stage.Insert (ins.Seek (seek.Approach a)))) (s .own) (insertSought s r)) (s .before)
@@ -215,20 +217,30 @@ insert-seek h s (seek.Confirm a) = cond-elim (λ r. Passes (info h (stage.Insert
     (sght.Goes eff.Keep (seek.Release a (s .next))) (sght.Done a) (record { keeps = λ h l H. held-by (λ x e. inr (by-place refl e)) (λ x e. absurd (omega arith)) (λ x e. inr (by-node refl e)) H; gains = (λ h l t. absurd t) }) (record { keeps = λ h l H. held-by (λ x e. inr (by-place refl e)) (λ x e. absurd (omega arith)) (λ x e. inr (by-node refl e)) H; gains = (λ h l t. absurd t) })
 insert-seek h s (seek.Release a b) = (record { keeps = λ h l H. held-by (λ x e. inl e) (λ x e. absurd (omega arith)) (λ x e. inr (by-node refl e)) H; gains = (λ h l t. absurd t) })
 
-removal-seek : (h : ℕ) (s : Sight) (k : Seek) → Passes (info h (stage.Delete (del.Removal (rem.Seek k)))) (s .own) (removalSought s (seekStep s k))
-removal-seek h s (seek.Approach a) = cond-elim (λ r. Passes (info h (stage.Delete (del.Removal (rem.Seek (seek.Approach a))))) (s .own) (removalSought s r)) (s .before)
+removal-seek : (job : Job) (h : ℕ) (s : Sight) (k : Seek) →
+    Passes (info h (stage.Removal job (rem.Seek k))) (s .own) (removalSought job s (seekStep s k))
+removal-seek job h s (seek.Approach a) =
+    cond-elim (λ r. Passes (info h (stage.Removal job (rem.Seek (seek.Approach a)))) (s .own)
+    (removalSought job s r)) (s .before)
     (sght.Goes eff.Keep (seek.Approach (place (s .next) (a .level)))) (sght.Goes eff.Keep (seek.Take a)) (record { keeps = λ h l H. held-by (λ x e. absurd (omega arith)) (λ x e. absurd (omega arith)) (λ x e. inr (by-node refl e)) H; gains = (λ h l t. absurd t) }) (record { keeps = λ h l H. held-by (λ x e. absurd (omega arith)) (λ x e. absurd (omega arith)) (λ x e. inr (by-node refl e)) H; gains = (λ h l t. absurd t) })
-removal-seek h s (seek.Take a) = cond-elim (λ r. Passes (info h (stage.Delete (del.Removal (rem.Seek (seek.Take a))))) (s .own) (removalSought s r)) (eqb (s .guard) 0)
+removal-seek job h s (seek.Take a) =
+    cond-elim (λ r. Passes (info h (stage.Removal job (rem.Seek (seek.Take a)))) (s .own)
+    (removalSought job s r)) (eqb (s .guard) 0)
     (sght.Goes (eff.HoldLevel a) (seek.Confirm a)) (sght.Waits (seek.Take a)) (record { keeps = λ h l H. held-by (λ x e. absurd (omega arith)) (λ x e. absurd (omega arith)) (λ x e. inr (by-node refl e)) H; gains = (λ h l t. by-place refl t) }) (record { keeps = λ h l H. held-by (λ x e. absurd (omega arith)) (λ x e. absurd (omega arith)) (λ x e. inr (by-node refl e)) H; gains = (λ h l t. absurd t) })
-removal-seek h s (seek.Confirm a) = cond-elim (λ r. Passes (info h (stage.Delete (del.Removal (rem.Seek (seek.Confirm a))))) (s .own) (removalSought s r)) (s .before)
+removal-seek job h s (seek.Confirm a) =
+    cond-elim (λ r. Passes (info h (stage.Removal job (rem.Seek (seek.Confirm a)))) (s .own)
+    (removalSought job s r)) (s .before)
     (sght.Goes eff.Keep (seek.Release a (s .next))) (sght.Done a) (record { keeps = λ h l H. held-by (λ x e. inr (by-place refl e)) (λ x e. absurd (omega arith)) (λ x e. inr (by-node refl e)) H; gains = (λ h l t. absurd t) }) (record { keeps = λ h l H. held-by (λ x e. inr (by-place refl e)) (λ x e. absurd (omega arith)) (λ x e. inr (by-node refl e)) H; gains = (λ h l t. absurd t) })
-removal-seek h s (seek.Release a b) = (record { keeps = λ h l H. held-by (λ x e. inl e) (λ x e. absurd (omega arith)) (λ x e. inr (by-node refl e)) H; gains = (λ h l t. absurd t) })
+removal-seek job h s (seek.Release a b) = (record { keeps = λ h l H. held-by (λ x e. inl e) (λ x e. absurd (omega arith)) (λ x e. inr (by-node refl e)) H; gains = (λ h l t. absurd t) })
 
 -- every step passes its locks on
 pub passes : (v : View) (p h : ℕ) (s : Stage) → Passes (info h s) (v .pr p .own) (decision v p s)
 passes v p h stage.Idle = (record { keeps = λ h l H. held-by (λ x e. absurd (omega arith)) (λ x e. absurd (omega arith)) (λ x e. absurd (omega arith)) H; gains = (λ h l t. absurd t) })
-passes v p h (stage.Insert (ins.Search a)) = insert-searched h (sight v (v .pr p) a) a (searchStep (sight v (v .pr p) a) a)
-passes v p h (stage.Insert (ins.Seek k)) = insert-seek h (sight v (v .pr p) (seekCarried k .place)) k
+passes v p h (stage.Insert (ins.Search a)) =
+    insert-searched h (sight v (v .pr p) (key v (v .pr p .own)) a) a
+    (searchStep (sight v (v .pr p) (key v (v .pr p .own)) a) a)
+passes v p h (stage.Insert (ins.Seek k)) =
+    insert-seek h (sight v (v .pr p) (key v (v .pr p .own)) (seekPart k .place)) k
 passes v p h (stage.Insert (ins.Copy a)) = (record { keeps = λ h l H. held-by (λ x e. inr (by-place refl e)) (λ x e. absurd (omega arith)) (λ x e. inr (by-node refl e)) H; gains = (λ h l t. absurd t) })
 passes v p h (stage.Insert (ins.Link a)) = (record { keeps = λ h l H. held-by (λ x e. inr (by-place refl e)) (λ x e. absurd (omega arith)) (λ x e. inr (by-node refl e)) H; gains = (λ h l t. absurd t) })
 passes v p h (stage.Insert (ins.FreeLevel a)) = cond-elim (Passes (info h (stage.Insert (ins.FreeLevel a))) (v .pr p .own)) (ltb (a .level) (v .ht (v .pr p .own))) _ _ (record { keeps = λ h l H. held-by (λ x e. inl e) (λ x e. absurd (omega arith)) (λ x e. inr (by-node refl e)) H; gains = (λ h l t. absurd t) }) (record { keeps = λ h l H. held-by (λ x e. inl e) (λ x e. absurd (omega arith)) (λ x e. inr (by-node refl e)) H; gains = (λ h l t. absurd t) })
@@ -237,15 +249,22 @@ passes v p h (stage.Insert ins.Stamp) = (record { keeps = λ h l H. held-by (λ 
 passes v p h (stage.Delete (del.Next a)) = cond-elim (Passes (info h (stage.Delete (del.Next a))) (v .pr p .own)) (eqb (v .fwd (a .node) 1) (tail v)) _ _ (record { keeps = λ h l H. held-by (λ x e. absurd (omega arith)) (λ x e. absurd (omega arith)) (λ x e. absurd (omega arith)) H; gains = (λ h l t. absurd t) }) (record { keeps = λ h l H. held-by (λ x e. absurd (omega arith)) (λ x e. absurd (omega arith)) (λ x e. absurd (omega arith)) H; gains = (λ h l t. absurd t) })
 passes v p h (stage.Delete (del.Stamped a)) = cond-elim (Passes (info h (stage.Delete (del.Stamped a))) (v .pr p .own)) (ltb (v .st (a .node)) (v .pr p .begin)) _ _ (record { keeps = λ h l H. held-by (λ x e. absurd (omega arith)) (λ x e. absurd (omega arith)) (λ x e. absurd (omega arith)) H; gains = (λ h l t. absurd t) }) (record { keeps = λ h l H. held-by (λ x e. absurd (omega arith)) (λ x e. absurd (omega arith)) (λ x e. absurd (omega arith)) H; gains = (λ h l t. absurd t) })
 passes v p h (stage.Delete (del.Mark a)) = cond-elim (Passes (info h (stage.Delete (del.Mark a))) (v .pr p .own)) (ltb 0 (v .mk (a .node))) _ _ (record { keeps = λ h l H. held-by (λ x e. absurd (omega arith)) (λ x e. absurd (omega arith)) (λ x e. absurd (omega arith)) H; gains = (λ h l t. absurd t) }) (record { keeps = λ h l H. held-by (λ x e. absurd (omega arith)) (λ x e. absurd (omega arith)) (λ x e. absurd (omega arith)) H; gains = (λ h l t. absurd t) })
-passes v p h (stage.Delete (del.Removal (rem.Search a))) = removal-searched h (sight v (v .pr p) a) a (searchStep (sight v (v .pr p) a) a)
-passes v p h (stage.Delete (del.Removal rem.HoldNode)) = cond-elim (Passes (info h (stage.Delete (del.Removal rem.HoldNode))) (v .pr p .own)) (eqb (v .nl (v .pr p .own)) 0) _ _
+passes v p h (stage.Removal job (rem.Search a)) =
+    removal-searched job h (sight v (v .pr p) (key v (v .pr p .own)) a) a
+    (searchStep (sight v (v .pr p) (key v (v .pr p .own)) a) a)
+passes v p h (stage.Removal job rem.HoldNode) =
+    cond-elim (Passes (info h (stage.Removal job rem.HoldNode)) (v .pr p .own))
+    (eqb (v .nl (v .pr p .own)) 0) _ _
     (record { keeps = λ h l H. held-by (λ x e. absurd (omega arith)) (λ x e. absurd (omega arith)) (λ x e. absurd (omega arith)) H; gains = (λ h l t. by-node refl t) }) (record { keeps = λ h l H. held-by (λ x e. absurd (omega arith)) (λ x e. absurd (omega arith)) (λ x e. absurd (omega arith)) H; gains = (λ h l t. absurd t) })
-passes v p h (stage.Delete (del.Removal (rem.Seek k))) = removal-seek h (sight v (v .pr p) (seekCarried k .place)) k
-passes v p h (stage.Delete (del.Removal (rem.HoldOwn a))) = cond-elim (Passes (info h (stage.Delete (del.Removal (rem.HoldOwn a)))) (v .pr p .own)) (eqb (v .lk (v .pr p .own) (a .level)) 0) _ _
+passes v p h (stage.Removal job (rem.Seek k)) =
+    removal-seek job h (sight v (v .pr p) (key v (v .pr p .own)) (seekPart k .place)) k
+passes v p h (stage.Removal job (rem.HoldOwn a)) =
+    cond-elim (Passes (info h (stage.Removal job (rem.HoldOwn a))) (v .pr p .own))
+    (eqb (v .lk (v .pr p .own) (a .level)) 0) _ _
     (record { keeps = λ h l H. held-by (λ x e. inr (by-place refl e)) (λ x e. absurd (omega arith)) (λ x e. inr (by-node refl e)) H; gains = (λ h l t. by-own refl t) }) (record { keeps = λ h l H. held-by (λ x e. inr (by-place refl e)) (λ x e. absurd (omega arith)) (λ x e. inr (by-node refl e)) H; gains = (λ h l t. absurd t) })
-passes v p h (stage.Delete (del.Removal (rem.Unlink a))) = (record { keeps = λ h l H. held-by (λ x e. inr (by-place refl e)) (λ x e. inr (by-own refl e)) (λ x e. inr (by-node refl e)) H; gains = (λ h l t. absurd t) })
-passes v p h (stage.Delete (del.Removal (rem.Back a))) = (record { keeps = λ h l H. held-by (λ x e. inr (by-place refl e)) (λ x e. inr (by-own refl e)) (λ x e. inr (by-node refl e)) H; gains = (λ h l t. absurd t) })
-passes v p h (stage.Delete (del.Removal (rem.FreeOwn a))) = (record { keeps = λ h l H. held-by (λ x e. inr (by-place refl e)) (λ x e. inl e) (λ x e. inr (by-node refl e)) H; gains = (λ h l t. absurd t) })
-passes v p h (stage.Delete (del.Removal (rem.FreeLevel a))) = cond-elim (Passes (info h (stage.Delete (del.Removal (rem.FreeLevel a)))) (v .pr p .own)) (leb (a .level) 1) _ _ (record { keeps = λ h l H. held-by (λ x e. inl e) (λ x e. absurd (omega arith)) (λ x e. inr (by-node refl e)) H; gains = (λ h l t. absurd t) }) (record { keeps = λ h l H. held-by (λ x e. inl e) (λ x e. absurd (omega arith)) (λ x e. inr (by-node refl e)) H; gains = (λ h l t. absurd t) })
-passes v p h (stage.Delete (del.Removal rem.FreeNode)) = (record { keeps = λ h l H. held-by (λ x e. absurd (omega arith)) (λ x e. absurd (omega arith)) (λ x e. inl e) H; gains = (λ h l t. absurd t) })
-passes v p h (stage.Delete (del.Removal rem.Retire)) = (record { keeps = λ h l H. held-by (λ x e. absurd (omega arith)) (λ x e. absurd (omega arith)) (λ x e. absurd (omega arith)) H; gains = (λ h l t. absurd t) })
+passes v p h (stage.Removal job (rem.Unlink a)) = (record { keeps = λ h l H. held-by (λ x e. inr (by-place refl e)) (λ x e. inr (by-own refl e)) (λ x e. inr (by-node refl e)) H; gains = (λ h l t. absurd t) })
+passes v p h (stage.Removal job (rem.Back a)) = (record { keeps = λ h l H. held-by (λ x e. inr (by-place refl e)) (λ x e. inr (by-own refl e)) (λ x e. inr (by-node refl e)) H; gains = (λ h l t. absurd t) })
+passes v p h (stage.Removal job (rem.FreeOwn a)) = (record { keeps = λ h l H. held-by (λ x e. inr (by-place refl e)) (λ x e. inl e) (λ x e. inr (by-node refl e)) H; gains = (λ h l t. absurd t) })
+passes v p h (stage.Removal job (rem.FreeLevel a)) = cond-elim (Passes (info h (stage.Removal job (rem.FreeLevel a))) (v .pr p .own)) (leb (a .level) 1) _ _ (record { keeps = λ h l H. held-by (λ x e. inl e) (λ x e. absurd (omega arith)) (λ x e. inr (by-node refl e)) H; gains = (λ h l t. absurd t) }) (record { keeps = λ h l H. held-by (λ x e. inl e) (λ x e. absurd (omega arith)) (λ x e. inr (by-node refl e)) H; gains = (λ h l t. absurd t) })
+passes v p h (stage.Removal job rem.FreeNode) = (record { keeps = λ h l H. held-by (λ x e. absurd (omega arith)) (λ x e. absurd (omega arith)) (λ x e. inl e) H; gains = (λ h l t. absurd t) })
+passes v p h (stage.Removal job rem.Retire) = (record { keeps = λ h l H. held-by (λ x e. absurd (omega arith)) (λ x e. absurd (omega arith)) (λ x e. absurd (omega arith)) H; gains = (λ h l t. absurd t) })

@@ -102,14 +102,16 @@ pub record Eligible (us st mk : ℕ → ℕ) (n T x : ℕ) : Type 0 where
   pub stamped : st x < T
   pub unmarked : mk x ≡ 0
 
-pub record Walks (us st mk k : ℕ → ℕ) (n T own a i strict early : ℕ) : Type 0 where
+pub record Walks (us st mk k : ℕ → ℕ) (n T own a i strict early found : ℕ) : Type 0 where
   pub ownless : own ≡ 0
-  pub ahead : (x : ℕ) → Eligible us st mk n T x → k a + strict ≤ k x
-  pub stamped : early ≡ 1 → st a < T
+  pub ahead : 1 ≤ strict → (x : ℕ) → Eligible us st mk n T x → k a + strict ≤ k x + 1
+  pub entry : 1 ≤ early → 1 ≤ a
+  pub stamped : early ≡ 2 → st a < T
+  pub named : 1 ≤ found → k a ≡ found
 
--- the key that a processor seeks: a walk has none
-abbrev pub sought : (ℕ → ℕ) → ℕ → ℕ → ℕ
-sought k own kind = cond (eqb kind 2) last (k own)
+-- the key that a processor seeks: its goal while it has no own node
+abbrev pub sought : (ℕ → ℕ) → ℕ → ℕ → ℕ → ℕ
+sought k own kind goal = cond (eqb kind 2) goal (k own)
 
 -- processor q, its record c and what it claims, f
 pub record Busy (v : View) (until : ℕ → ℕ → ℕ) (q : ℕ) (c : Pr) (f : Info) : Type 0 where
@@ -117,9 +119,13 @@ pub record Busy (v : View) (until : ℕ → ℕ → ℕ) (q : ℕ) (c : Pr) (f :
   pub begun-by : c .begin ≤ v .clock
   pub low : 1 ≤ f .level
   pub high : f .level ≤ v .top
-  pub place : Readable until (key v) (tail v) (c .begin) (sought (key v) (c .own) (f .kind)) (f .node) (f .level)
-  pub read : Readable until (key v) (tail v) (c .begin) (sought (key v) (c .own) (f .kind)) (f .b) (f .level)
-  pub saved : (j : ℕ) → f .from ≤ j → 1 ≤ j → j ≤ v .top → Readable until (key v) (tail v) (c .begin) (sought (key v) (c .own) (f .kind)) (c .saved j) j
+  pub place : Readable until (key v) (tail v) (c .begin)
+      (sought (key v) (c .own) (f .kind) (f .goal)) (f .node) (f .level)
+  pub read : Readable until (key v) (tail v) (c .begin)
+      (sought (key v) (c .own) (f .kind) (f .goal)) (f .b) (f .level)
+  pub saved : (j : ℕ) → f .from ≤ j → 1 ≤ j → j ≤ v .top →
+      Readable until (key v) (tail v) (c .begin) (sought (key v) (c .own) (f .kind) (f .goal))
+      (c .saved j) j
   pub holds-place : f .hp ≡ 1 → v .lk (f .node) (f .level) ≡ suc q
   pub holds-own : f .ho ≡ 1 → v .lk (c .own) (f .level) ≡ suc q
   pub holds-node : f .hn ≡ 1 → v .nl (c .own) ≡ suc q
@@ -127,7 +133,8 @@ pub record Busy (v : View) (until : ℕ → ℕ → ℕ) (q : ℕ) (c : Pr) (f :
   pub inserts : f .kind ≡ 1 → Inserts until (v .us) (v .st) (v .tick) (v .nodes) (c .begin) (c .own) (f .lo) (f .hn)
   pub within : f .from ≡ 1 → f .level ≤ v .ht (c .own)
   pub removes : f .kind ≡ 3 → Removes until (v .us) (v .mk) (v .nl) (v .ht) (v .nodes) (c .own) (f .lo) (f .past)
-  pub walks : f .kind ≡ 2 → Walks (v .us) (v .st) (v .mk) (key v) (v .nodes) (c .begin) (c .own) (f .node) (f .level) (f .strict) (f .early)
+  pub walks : f .kind ≡ 2 → Walks (v .us) (v .st) (v .mk) (key v) (v .nodes) (c .begin) (c .own)
+      (f .node) (f .level) (f .strict) (f .early) (f .found)
 
 -- C4
 pub record Back (fwd until : ℕ → ℕ → ℕ) (k : ℕ → ℕ) (tail T n i : ℕ) : Type 0 where

@@ -24,6 +24,8 @@ use Rattle.record.specs.declared.stages.Insert.{Insert}
 use Rattle.record.specs.declared.stages.Insert.the-variants as ins
 use Rattle.record.specs.declared.stages.Removal.{Removal}
 use Rattle.record.specs.declared.stages.Removal.the-variants as rem
+use Rattle.record.specs.declared.stages.Job.{Job}
+use Rattle.record.specs.declared.stages.Job.the-variants as jobs
 use Rattle.record.specs.declared.stages.Delete.{Delete}
 use Rattle.record.specs.declared.stages.Delete.the-variants as del
 use Rattle.record.specs.declared.stages.Seek.{Seek}
@@ -33,7 +35,6 @@ use Rattle.record.specs.declared.stages.Stage.the-variants as stage
 use Rattle.record.specs.Limits.{maxNumber}
 use Rattle.record.specs.Nodes.{freshNode}
 use Rattle.record.specs.Queues.{nodeAt, processorAt}
-use Rattle.record.specs.Stages.{isIdle}
 use Rattle.rules.specs.declared.answers.Outcome.{Outcome}
 use Rattle.rules.specs.declared.decisions.Effect.{Effect}
 use Rattle.rules.specs.declared.decisions.Effect.the-variants as eff
@@ -44,17 +45,19 @@ use Rattle.rules.specs.declared.decisions.Sight.{Sight}
 use Rattle.rules.specs.declared.decisions.Sought.{Sought}
 use Rattle.rules.specs.declared.decisions.Sought.the-variants as sght
 use Rattle.rules.specs.Answers.{refused}
-use Rattle.rules.specs.Calls.{sightOf, nextOf, readingPlace, stepDecision, insertDecision}
-use Rattle.rules.specs.Calls.{deleteDecision, onRecord, onProcessor, onIdle, onNumbers}
-use Rattle.rules.specs.Calls.{beginInsert, beginDelete, step}
+use Rattle.rules.specs.declared.calls.Call.{Call}
+use Rattle.rules.specs.declared.calls.Call.the-variants as call
+use Rattle.rules.specs.Calls.{sightOf, nextOf, readingPlace, insertDecision, decisionOf}
+use Rattle.rules.specs.Calls.{processorOf, refusalOf, called}
 use Rattle.rules.specs.Choice.{chosen}
 use Rattle.rules.specs.Decide.{decide, searchStep, seekStep}
 use Rattle.rules.specs.Decide.{insertSearched, insertSought, insertStep}
 use Rattle.rules.specs.Decide.{removalSearched, removalSought, removalStep, deleteStep}
 use Rattle.rules.specs.Effects.{changed, nodeOf, applied, accepted}
 use Rattle.rules.specs.Items.{Renaming, renamedNode, renamed, renamedEntry, renamedAnswer}
+use Rattle.rules.specs.Items.{renamedCall, itemOf}
 use Rattle.rules.specs.Items.{zeroFor, CheckSeesNoItem, NoRuleSeesAnItem, ItemZeroGoesOn}
-use Rattle.rules.specs.Runs.{insert, deleteMin, steps, backlog, Reply, answered, counted}
+use Rattle.rules.specs.Runs.{calls, deleteMin, steps, backlog, Reply, answered, counted}
 
 -- a choice of images is the image of the choice
 cond-pair :
@@ -162,44 +165,45 @@ module _ (f : ℕ → ℕ) where
   insert-decides s ins.Stamp = refl
 
   removal-searched :
-      (s : Sight) (a : Place) (r : Searched) →
-      removalSearched (renamedSight s) a r ≡ renamedDecision (removalSearched s a r)
-  removal-searched s a (srch.Ahead b) = refl
-  removal-searched s a (srch.Down b) = refl
-  removal-searched s a (srch.Left b) = refl
+      (job : Job) (s : Sight) (a : Place) (r : Searched) →
+      removalSearched job (renamedSight s) a r ≡ renamedDecision (removalSearched job s a r)
+  removal-searched job s a (srch.Ahead b) = refl
+  removal-searched job s a (srch.Down b) = refl
+  removal-searched job s a (srch.Left b) = refl
 
   removal-sought :
-      (s : Sight) (r : Sought) →
-      removalSought (renamedSight s) (renamedSought r) ≡ renamedDecision (removalSought s r)
-  removal-sought s (sght.Goes e k) = refl
-  removal-sought s (sght.Waits k) = refl
-  removal-sought s (sght.Done a) = refl
+      (job : Job) (s : Sight) (r : Sought) →
+      removalSought job (renamedSight s) (renamedSought r) ≡ renamedDecision (removalSought job s r)
+  removal-sought job s (sght.Goes e k) = refl
+  removal-sought job s (sght.Waits k) = refl
+  removal-sought job s (sght.Done a) = refl
 
   removal-decides :
-      (s : Sight) (r : Removal) → removalStep (renamedSight s) r ≡ renamedDecision (removalStep s r)
-  removal-decides s (rem.Search a) = removal-searched s a (searchStep s a)
-  removal-decides s rem.HoldNode = cond-image renamedDecision (eqb (s .holder) 0) _ _
-  removal-decides s (rem.Seek k) =
-      ap (removalSought (renamedSight s)) (seeking s k) ∙ removal-sought s (seekStep s k)
-  removal-decides s (rem.HoldOwn a) = cond-image renamedDecision (eqb (s .latch) 0) _ _
-  removal-decides s (rem.Unlink a) = refl
-  removal-decides s (rem.Back a) = refl
-  removal-decides s (rem.FreeOwn a) = refl
-  removal-decides s (rem.FreeLevel a) = cond-image renamedDecision (leb (a .level) 1) _ _
-  removal-decides s rem.FreeNode = refl
-  removal-decides s rem.Retire = refl
+      (job : Job) (s : Sight) (r : Removal) →
+      removalStep job (renamedSight s) r ≡ renamedDecision (removalStep job s r)
+  removal-decides job s (rem.Search a) = removal-searched job s a (searchStep s a)
+  removal-decides job s rem.HoldNode = cond-image renamedDecision (eqb (s .holder) 0) _ _
+  removal-decides job s (rem.Seek k) =
+      ap (removalSought job (renamedSight s)) (seeking s k) ∙ removal-sought job s (seekStep s k)
+  removal-decides job s (rem.HoldOwn a) = cond-image renamedDecision (eqb (s .latch) 0) _ _
+  removal-decides job s (rem.Unlink a) = refl
+  removal-decides job s (rem.Back a) = refl
+  removal-decides job s (rem.FreeOwn a) = refl
+  removal-decides job s (rem.FreeLevel a) = cond-image renamedDecision (leb (a .level) 1) _ _
+  removal-decides job s rem.FreeNode = refl
+  removal-decides jobs.Deliver s rem.Retire = refl
 
   delete-decides :
       (s : Sight) (d : Delete) → deleteStep (renamedSight s) d ≡ renamedDecision (deleteStep s d)
   delete-decides s (del.Next a) = cond-image renamedDecision (s .tail) _ _
   delete-decides s (del.Stamped a) = cond-image renamedDecision (s .stamped) _ _
   delete-decides s (del.Mark a) = cond-image renamedDecision (s .marked) _ _
-  delete-decides s (del.Removal r) = removal-decides s r
 
   decides : (s : Sight) (g : Stage) → decide (renamedSight s) g ≡ renamedDecision (decide s g)
   decides s stage.Idle = refl
   decides s (stage.Insert i) = insert-decides s i
   decides s (stage.Delete d) = delete-decides s d
+  decides s (stage.Removal job r) = removal-decides job s r
 
   -- what changes
   changes :
@@ -316,57 +320,41 @@ module _ (f : ℕ → ℕ) where
         accepted (renamed f q) p e ≡ renamedOutcome (accepted q p d)
     accepts q p d e h = ap (accepted (renamed f q) p) h ∙ applies q p d
 
-    on-processor :
-        (q : Queue) (p : ℕ) (o r : Outcome) → r ≡ renamedOutcome o →
-        onRecord (renamed f q) (onProcessor (renamed f q) p r)
-        ≡ renamedOutcome (onRecord q (onProcessor q p o))
-    on-processor q p o r h =
-        cond-pair renamedOutcome _ (valid q) _ _ _ _ (valid-same q)
-        (cond-pair renamedOutcome _ (leb maxNumber (q .clock)) _ _ _ _ refl refl
-        (cond-pair renamedOutcome _ (leb (q .processors) p) _ _ _ _ refl refl h)) refl
-
-    on-idle :
-        (q : Queue) (p : ℕ) (o r : Outcome) → r ≡ renamedOutcome o →
-        onIdle (renamed f q) p r ≡ renamedOutcome (onIdle q p o)
-    on-idle q p o r h =
-        cond-pair renamedOutcome _ (isIdle (processorAt q p .stage)) _ _ _ _ refl h refl
-
-    on-numbers :
-        (q : Queue) (due item height : ℕ) (o r : Outcome) →
-        (f item ≡ 0 → item ≡ 0) → r ≡ renamedOutcome o →
-        onNumbers (renamed f q) due (f item) height r
-        ≡ renamedOutcome (onNumbers q due item height o)
-    on-numbers q due item height o r h e =
+    refusal-same :
+        (q : Queue) (c : Call) → (f (itemOf c) ≡ 0 → itemOf c ≡ 0) →
+        refusalOf (renamed f q) (renamedCall f c) ≡ refusalOf q c
+    refusal-same q (call.Insert p due item height) h =
         let large = ap (λ (b : Bool). ltb maxNumber due || b) (too-large item) in
-        let none = ap (λ (x : ℕ). eqb x 0) (chosen-same q) in
-        cond-pair renamedOutcome _ (ltb maxNumber due || ltb maxNumber item) (refused q 35) _ _ _
-        large refl
-        (cond-pair renamedOutcome _ (eqb item 0) (refused q 39) _ _ _ (no-item item h) refl
-        (cond-pair renamedOutcome _ (outside height (q .levels)) (refused q 36) _ _ _ refl refl
-        (cond-pair renamedOutcome _ (eqb (chosen q) 0) (refused q 37) o _ r none refl e)))
+        rw (large, no-item item h, chosen-same q) refl
+    refusal-same q (call.DeleteMin p) h = refl
+    refusal-same q (call.Step p) h = refl
 
-    step-same : (q : Queue) (p : ℕ) → step (renamed f q) p ≡ renamedOutcome (step q p)
-    step-same q p =
+    decision-same :
+        (q : Queue) (c : Call) →
+        decisionOf (renamed f q) (renamedCall f c) ≡ renamedDecision (decisionOf q c)
+    decision-same q (call.Insert p due item height) =
+        ap (λ (x : ℕ). insertDecision q x due (f item) height) (chosen-same q)
+    decision-same q (call.DeleteMin p) = refl
+    decision-same q (call.Step p) =
         let c = processorAt q p in
         let g = c .stage in
-        let same = ap (λ (s : Sight). decide s g) (sights q c (readingPlace g)) ∙ decides _ g in
-        on-processor q p _ _
-        (cond-pair renamedOutcome _ (isIdle g) _ _ _ _ refl refl
-        (accepts q p (stepDecision q c) _ same))
+        ap (λ (s : Sight). decide s g) (sights q c (readingPlace g)) ∙ decides _ g
 
-    delete-same :
-        (q : Queue) (p : ℕ) → beginDelete (renamed f q) p ≡ renamedOutcome (beginDelete q p)
-    delete-same q p = on-processor q p _ _ (on-idle q p _ _ (accepts q p (deleteDecision q) _ refl))
+    processor-same : (c : Call) → processorOf (renamedCall f c) ≡ processorOf c
+    processor-same (call.Insert p due item height) = refl
+    processor-same (call.DeleteMin p) = refl
+    processor-same (call.Step p) = refl
 
-    insert-same :
-        (q : Queue) (p due item height : ℕ) → (f item ≡ 0 → item ≡ 0) →
-        beginInsert (renamed f q) p due (f item) height
-        ≡ renamedOutcome (beginInsert q p due item height)
-    insert-same q p due item height h =
-        let d = insertDecision q (chosen q) due item height in
-        let same = ap (λ (x : ℕ). insertDecision q x due (f item) height) (chosen-same q) in
-        on-processor q p _ _
-        (on-idle q p _ _ (on-numbers q due item height _ _ h (accepts q p d _ same)))
+    call-same :
+        (q : Queue) (c : Call) → (f (itemOf c) ≡ 0 → itemOf c ≡ 0) →
+        called (renamed f q) (renamedCall f c) ≡ renamedOutcome (called q c)
+    call-same q c h =
+        let same = refusal-same q c h in
+        cond-pair renamedOutcome _ (valid q) _ _ _ _ (valid-same q)
+        (cond-pair renamedOutcome _ (eqb (refusalOf q c) 0) _ _ _ _ (ap (λ (n : ℕ). eqb n 0) same)
+        (ap (λ (p : ℕ). accepted (renamed f q) p (decisionOf (renamed f q) (renamedCall f c)))
+        (processor-same c) ∙ accepts q (processorOf c) (decisionOf q c) _ (decision-same q c))
+        (ap (refused (renamed f q)) same)) refl
 
     backlog-same : (q : Queue) → backlogOf (renamed f q) ≡ backlogOf q
     backlog-same q = rw (valid-same q, pending-same q (q .entries)) refl
@@ -381,14 +369,8 @@ abbrev given-in : Outcome → Reply
 given-in o = answered (o .answer)
 
 pub no-rule-sees-an-item : NoRuleSeesAnItem
-no-rule-sees-an-item f R q (insert p due item height) h =
-    let e = insert-same f R q p due item height h in
-    record { left = ap left-in e; given = ap given-in e }
-no-rule-sees-an-item f R q (deleteMin p) h =
-    let e = delete-same f R q p in
-    record { left = ap left-in e; given = ap given-in e }
-no-rule-sees-an-item f R q (steps p) h =
-    let e = step-same f R q p in
+no-rule-sees-an-item f R q (calls c) h =
+    let e = call-same f R q c h in
     record { left = ap left-in e; given = ap given-in e }
 no-rule-sees-an-item f R q backlog h =
     record { left = refl; given = ap counted (backlog-same f R q) }

@@ -1,6 +1,6 @@
 -- A step keeps the invariant.
-use mathlib.Core.Path.{_≡_, refl}
-use mathlib.Core.Bool.{Bool}
+use mathlib.Core.Path.{_≡_, refl, ap}
+use mathlib.Core.Bool.{Bool, cond}
 use Prim.Native.Nat.{ℕ, _+_, _≤_, _<_}
 use native.Mathlib.Omega.{arith}
 use lib.Dec.{ltb, leb, eqb}
@@ -15,13 +15,18 @@ use Rattle.record.specs.declared.stages.Delete.the-variants as del
 use Rattle.record.specs.declared.stages.Removal.{Removal}
 use Rattle.record.specs.declared.stages.Removal.the-variants as rem
 use Rattle.record.specs.declared.stages.Stage.{Stage}
+use Rattle.record.specs.declared.stages.Job.{Job}
+use Rattle.record.specs.declared.stages.Job.the-variants as jobs
+use Rattle.rules.specs.declared.decisions.Effect.the-variants as eff
+use Rattle.record.specs.Stages.{place}
 use Rattle.record.specs.declared.stages.Stage.the-variants as stage
 use Rattle.laws.proofs.Booleans.{cond-cases}
 use Rattle.rules.proofs.Put.{ever, put}
-use Rattle.rules.proofs.View.{View, info, key, tail}
+use Rattle.rules.proofs.View.{View, Info, info, walking, key, tail, last}
 use Rattle.rules.proofs.Inv.{Inv, NodeHeld}
 use Rattle.rules.proofs.Machine.{decision, carried, sight}
-use Rattle.rules.specs.Decide.{insertSearched, insertSought, removalSearched, removalSought}
+use Rattle.rules.specs.Decide.{moved, marking, insertSearched, insertSought, removalSearched}
+use Rattle.rules.specs.Decide.{removalSought}
 use Rattle.rules.proofs.Move.{busy-at, approach-ahead, approach-take, take-waits, take-confirm, confirm-release, release-take}
 use Rattle.rules.proofs.Search.{search-ahead, search-down}
 use Rattle.rules.proofs.InsertSteps
@@ -41,23 +46,30 @@ untilAfter v u p (stage.Insert ins.Stamp) = u
 untilAfter v u p (stage.Delete (del.Next a)) = u
 untilAfter v u p (stage.Delete (del.Stamped a)) = u
 untilAfter v u p (stage.Delete (del.Mark a)) = u
-untilAfter v u p (stage.Delete (del.Removal (rem.Search a))) = u
-untilAfter v u p (stage.Delete (del.Removal rem.HoldNode)) = u
-untilAfter v u p (stage.Delete (del.Removal (rem.Seek k))) = u
-untilAfter v u p (stage.Delete (del.Removal (rem.HoldOwn a))) = u
-untilAfter v u p (stage.Delete (del.Removal (rem.Unlink a))) = put u (v .pr p .own) (a .level) (v .clock + 1)
-untilAfter v u p (stage.Delete (del.Removal (rem.Back a))) = u
-untilAfter v u p (stage.Delete (del.Removal (rem.FreeOwn a))) = u
-untilAfter v u p (stage.Delete (del.Removal (rem.FreeLevel a))) = u
-untilAfter v u p (stage.Delete (del.Removal rem.FreeNode)) = u
-untilAfter v u p (stage.Delete (del.Removal rem.Retire)) = u
+untilAfter v u p (stage.Removal job (rem.Search a)) = u
+untilAfter v u p (stage.Removal job rem.HoldNode) = u
+untilAfter v u p (stage.Removal job (rem.Seek k)) = u
+untilAfter v u p (stage.Removal job (rem.HoldOwn a)) = u
+untilAfter v u p (stage.Removal job (rem.Unlink a)) = put u (v .pr p .own) (a .level) (v .clock + 1)
+untilAfter v u p (stage.Removal job (rem.Back a)) = u
+untilAfter v u p (stage.Removal job (rem.FreeOwn a)) = u
+untilAfter v u p (stage.Removal job (rem.FreeLevel a)) = u
+untilAfter v u p (stage.Removal job rem.FreeNode) = u
+untilAfter v u p (stage.Removal job rem.Retire) = u
 
 module _ (v : View) (u : ℕ → ℕ → ℕ) (I : Inv v u) (H : NodeHeld v) (room : v .clock + 1 < ever) (p : ℕ) where
   insert-own : (i : Insert) → v .pr p .stage ≡ stage.Insert i → 1 ≤ info (v .ht (v .pr p .own)) (stage.Insert i) .kind → info (v .ht (v .pr p .own)) (stage.Insert i) .kind ≡ 1 → (1 ≤ v .pr p .own) × (v .pr p .own ≤ v .nodes)
   insert-own i e b k = let S = busy-at v u I p (stage.Insert i) e b .inserts k in (S .low, S .high)
 
-  remove-own : (d : Delete) → v .pr p .stage ≡ stage.Delete d → 1 ≤ info (v .ht (v .pr p .own)) (stage.Delete d) .kind → info (v .ht (v .pr p .own)) (stage.Delete d) .kind ≡ 3 → (1 ≤ v .pr p .own) × (v .pr p .own ≤ v .nodes)
-  remove-own d e b k = let S = busy-at v u I p (stage.Delete d) e b .removes k in (S .low, S .high)
+  remove-own : (job : Job) (d : Removal) → v .pr p .stage ≡ stage.Removal job d →
+      1 ≤ info (v .ht (v .pr p .own)) (stage.Removal job d) .kind →
+      info (v .ht (v .pr p .own)) (stage.Removal job d) .kind ≡ 3 →
+      (1 ≤ v .pr p .own) × (v .pr p .own ≤ v .nodes)
+  remove-own job d e b k = let S = busy-at v u I p (stage.Removal job d) e b .removes k in
+      (S .low, S .high)
+
+  own-high : 1 ≤ v .pr p .own → v .pr p .own ≤ v .nodes → key v (v .pr p .own) ≤ last
+  own-high o≥ o≤ = omega (arith, I .core .ends .keys (v .pr p .own) o≥ (omega arith) .1)
 
   abbrev Kept : Stage → Type 0
   Kept s = Inv (carried v p (decision v p s)) (untilAfter v u p s)
@@ -68,69 +80,151 @@ module _ (v : View) (u : ℕ → ℕ → ℕ) (I : Inv v u) (H : NodeHeld v) (ro
   insert-search : (a : Place) → v .pr p .stage ≡ stage.Insert (ins.Search a) → Kept (stage.Insert (ins.Search a))
   insert-search a e =
       let own = insert-own (ins.Search a) e (omega arith) refl in
-      cond-cases (λ r. Inv (carried v p (insertSearched (sight v (v .pr p) a) a r)) u) (before a) _ _
-      (λ x. search-ahead v u I room p (λ b. stage.Insert (ins.Search b)) 1 1 0 (λ b. refl) (omega arith) (λ h. omega arith) (own .0) (own .1) refl a e (ltb-true _ _ x))
-      (λ x. cond-cases (λ r. Inv (carried v p (insertSearched (sight v (v .pr p) a) a r)) u) (leb (a .level) 1) _ _
+      cond-cases (λ r. Inv
+      (carried v p (insertSearched (sight v (v .pr p) (key v (v .pr p .own)) a) a r)) u)
+      (before a) _ _
+      (λ x. search-ahead v u I room p (λ b. stage.Insert (ins.Search b)) 1 1 0 0
+      (key v (v .pr p .own)) (λ b. refl) (omega arith) (λ h. absurd (omega arith))
+      (own-high (own .0) (own .1)) refl a e (ltb-true _ _ x))
+      (λ x. cond-cases
+      (λ r. Inv (carried v p (insertSearched (sight v (v .pr p) (key v (v .pr p .own)) a) a r)) u)
+      (leb (a .level) 1) _ _
       (λ y. InsertSteps.insert-left v u I room p a e (leb-true _ _ y))
-      (λ y. search-down v u I room p (λ b. stage.Insert (ins.Search b)) 1 1 0 (λ b. refl) (omega arith) (λ h. omega arith) (own .0) (own .1) refl a e (leb-false _ _ y)))
+      (λ y. search-down v u I room p (λ b. stage.Insert (ins.Search b)) 1 1 0 0
+      (key v (v .pr p .own)) (λ b. refl) (omega arith) (λ h. absurd (omega arith))
+      (own-high (own .0) (own .1)) refl a e (leb-false _ _ y)))
 
   insert-seek : (k : Seek) → v .pr p .stage ≡ stage.Insert (ins.Seek k) → Kept (stage.Insert (ins.Seek k))
   insert-seek (seek.Approach a) e =
       let own = insert-own (ins.Seek (seek.Approach a)) e (omega arith) refl in
-      cond-cases (λ r. Inv (carried v p (insertSought (sight v (v .pr p) a) r)) u) (before a) _ _ (λ x. approach-ahead v u I room p (λ b. stage.Insert (ins.Seek b)) 1 1 0 (λ h b. refl) (omega arith) (λ h. omega arith) (own .0) (own .1) refl a e (ltb-true _ _ x)) (λ x. approach-take v u I room p (λ b. stage.Insert (ins.Seek b)) 1 1 0 (λ h b. refl) (omega arith) (λ h. omega arith) (own .0) (own .1) refl a e)
+      cond-cases (λ r. Inv
+      (carried v p (insertSought (sight v (v .pr p) (key v (v .pr p .own)) a) r)) u) (before a) _ _
+      (λ x. approach-ahead v u I room p (λ b. stage.Insert (ins.Seek b)) 1 1 0 (λ h b. refl)
+      (omega arith) (λ h. omega arith) (own .0) (own .1) refl a e (ltb-true _ _ x))
+      (λ x. approach-take v u I room p (λ b. stage.Insert (ins.Seek b)) 1 1 0 (λ h b. refl)
+      (omega arith) (λ h. omega arith) (own .0) (own .1) refl a e)
   insert-seek (seek.Take a) e =
       let own = insert-own (ins.Seek (seek.Take a)) e (omega arith) refl in
-      cond-cases (λ r. Inv (carried v p (insertSought (sight v (v .pr p) a) r)) u) (eqb (v .lk (a .node) (a .level)) 0) _ _ (λ x. take-confirm v u I room p (λ b. stage.Insert (ins.Seek b)) 1 1 0 (λ h b. refl) (omega arith) (λ h. omega arith) (own .0) (own .1) refl a e (eqb-true _ _ x)) (λ x. take-waits v u I room p (λ b. stage.Insert (ins.Seek b)) 1 1 0 (λ h b. refl) (omega arith) (λ h. omega arith) (own .0) (own .1) refl a e)
+      cond-cases (λ r. Inv
+      (carried v p (insertSought (sight v (v .pr p) (key v (v .pr p .own)) a) r)) u)
+      (eqb (v .lk (a .node) (a .level)) 0) _ _
+      (λ x. take-confirm v u I room p (λ b. stage.Insert (ins.Seek b)) 1 1 0 (λ h b. refl)
+      (omega arith) (λ h. omega arith) (own .0) (own .1) refl a e (eqb-true _ _ x))
+      (λ x. take-waits v u I room p (λ b. stage.Insert (ins.Seek b)) 1 1 0 (λ h b. refl)
+      (omega arith) (λ h. omega arith) (own .0) (own .1) refl a e)
   insert-seek (seek.Confirm a) e =
       let own = insert-own (ins.Seek (seek.Confirm a)) e (omega arith) refl in
-      cond-cases (λ r. Inv (carried v p (insertSought (sight v (v .pr p) a) r)) u) (before a) _ _ (λ x. confirm-release v u I room p (λ b. stage.Insert (ins.Seek b)) 1 1 0 (λ h b. refl) (omega arith) (λ h. omega arith) (own .0) (own .1) refl a e (ltb-true _ _ x)) (λ x. InsertSteps.insert-done v u I room p a e (ltb-false _ _ x))
+      cond-cases (λ r. Inv
+      (carried v p (insertSought (sight v (v .pr p) (key v (v .pr p .own)) a) r)) u) (before a) _ _
+      (λ x. confirm-release v u I room p (λ b. stage.Insert (ins.Seek b)) 1 1 0 (λ h b. refl)
+      (omega arith) (λ h. omega arith) (own .0) (own .1) refl a e (ltb-true _ _ x))
+      (λ x. InsertSteps.insert-done v u I room p a e (ltb-false _ _ x))
   insert-seek (seek.Release a b) e =
       let own = insert-own (ins.Seek (seek.Release a b)) e (omega arith) refl in
       release-take v u I room p (λ b. stage.Insert (ins.Seek b)) 1 1 0 (λ h b. refl) (omega arith) (λ h. omega arith) (own .0) (own .1) refl a b e
 
-  delete-search : (a : Place) → v .pr p .stage ≡ stage.Delete (del.Removal (rem.Search a)) → Kept (stage.Delete (del.Removal (rem.Search a)))
-  delete-search a e =
-      let own = remove-own (del.Removal (rem.Search a)) e (omega arith) refl in
-      cond-cases (λ r. Inv (carried v p (removalSearched (sight v (v .pr p) a) a r)) u) (before a) _ _
-      (λ x. search-ahead v u I room p (λ b. stage.Delete (del.Removal (rem.Search b))) 3 0 (v .ht (v .pr p .own)) (λ b. refl) (omega arith) (λ h. omega arith) (own .0) (own .1) refl a e (ltb-true _ _ x))
-      (λ x. cond-cases (λ r. Inv (carried v p (removalSearched (sight v (v .pr p) a) a r)) u) (leb (a .level) 1) _ _
-      (λ y. RemovalSteps.delete-left v u I room p a e (leb-true _ _ y))
-      (λ y. search-down v u I room p (λ b. stage.Delete (del.Removal (rem.Search b))) 3 0 (v .ht (v .pr p .own)) (λ b. refl) (omega arith) (λ h. omega arith) (own .0) (own .1) refl a e (leb-false _ _ y)))
+  delete-search : (job : Job) (a : Place) → v .pr p .stage ≡ stage.Removal job (rem.Search a) →
+      Kept (stage.Removal job (rem.Search a))
+  delete-search job a e =
+      let own = remove-own job (rem.Search a) e (omega arith) refl in
+      cond-cases (λ r. Inv
+      (carried v p (removalSearched job (sight v (v .pr p) (key v (v .pr p .own)) a) a r)) u)
+      (before a) _ _
+      (λ x. search-ahead v u I room p (λ b. stage.Removal job (rem.Search b)) 3 0
+      (v .ht (v .pr p .own)) 0 (key v (v .pr p .own)) (λ b. refl) (omega arith)
+      (λ h. absurd (omega arith)) (own-high (own .0) (own .1)) refl a e (ltb-true _ _ x))
+      (λ x. cond-cases
+      (λ r. Inv (carried v p (removalSearched job (sight v (v .pr p) (key v (v .pr p .own)) a) a r))
+      u) (leb (a .level) 1) _ _
+      (λ y. RemovalSteps.delete-left v u I room p job a e (leb-true _ _ y))
+      (λ y. search-down v u I room p (λ b. stage.Removal job (rem.Search b)) 3 0
+      (v .ht (v .pr p .own)) 0 (key v (v .pr p .own)) (λ b. refl) (omega arith)
+      (λ h. absurd (omega arith)) (own-high (own .0) (own .1)) refl a e (leb-false _ _ y)))
 
-  delete-seek : (k : Seek) → v .pr p .stage ≡ stage.Delete (del.Removal (rem.Seek k)) → Kept (stage.Delete (del.Removal (rem.Seek k)))
-  delete-seek (seek.Approach a) e =
-      let own = remove-own (del.Removal (rem.Seek (seek.Approach a))) e (omega arith) refl in
-      cond-cases (λ r. Inv (carried v p (removalSought (sight v (v .pr p) a) r)) u) (before a) _ _ (λ x. approach-ahead v u I room p (λ b. stage.Delete (del.Removal (rem.Seek b))) 3 0 1 (λ h b. refl) (omega arith) (λ h. omega arith) (own .0) (own .1) refl a e (ltb-true _ _ x)) (λ x. approach-take v u I room p (λ b. stage.Delete (del.Removal (rem.Seek b))) 3 0 1 (λ h b. refl) (omega arith) (λ h. omega arith) (own .0) (own .1) refl a e)
-  delete-seek (seek.Take a) e =
-      let own = remove-own (del.Removal (rem.Seek (seek.Take a))) e (omega arith) refl in
-      cond-cases (λ r. Inv (carried v p (removalSought (sight v (v .pr p) a) r)) u) (eqb (v .lk (a .node) (a .level)) 0) _ _ (λ x. take-confirm v u I room p (λ b. stage.Delete (del.Removal (rem.Seek b))) 3 0 1 (λ h b. refl) (omega arith) (λ h. omega arith) (own .0) (own .1) refl a e (eqb-true _ _ x)) (λ x. take-waits v u I room p (λ b. stage.Delete (del.Removal (rem.Seek b))) 3 0 1 (λ h b. refl) (omega arith) (λ h. omega arith) (own .0) (own .1) refl a e)
-  delete-seek (seek.Confirm a) e =
-      let own = remove-own (del.Removal (rem.Seek (seek.Confirm a))) e (omega arith) refl in
-      cond-cases (λ r. Inv (carried v p (removalSought (sight v (v .pr p) a) r)) u) (before a) _ _ (λ x. confirm-release v u I room p (λ b. stage.Delete (del.Removal (rem.Seek b))) 3 0 1 (λ h b. refl) (omega arith) (λ h. omega arith) (own .0) (own .1) refl a e (ltb-true _ _ x)) (λ x. RemovalSteps.delete-done v u I room p a e (ltb-false _ _ x))
-  delete-seek (seek.Release a b) e =
-      let own = remove-own (del.Removal (rem.Seek (seek.Release a b))) e (omega arith) refl in
-      release-take v u I room p (λ b. stage.Delete (del.Removal (rem.Seek b))) 3 0 1 (λ h b. refl) (omega arith) (λ h. omega arith) (own .0) (own .1) refl a b e
+  delete-seek : (job : Job) (k : Seek) → v .pr p .stage ≡ stage.Removal job (rem.Seek k) →
+      Kept (stage.Removal job (rem.Seek k))
+  delete-seek job (seek.Approach a) e =
+      let own = remove-own job (rem.Seek (seek.Approach a)) e (omega arith) refl in
+      cond-cases (λ r. Inv
+      (carried v p (removalSought job (sight v (v .pr p) (key v (v .pr p .own)) a) r)) u)
+      (before a) _ _
+      (λ x. approach-ahead v u I room p (λ b. stage.Removal job (rem.Seek b)) 3 0 1 (λ h b. refl)
+      (omega arith) (λ h. omega arith) (own .0) (own .1) refl a e (ltb-true _ _ x))
+      (λ x. approach-take v u I room p (λ b. stage.Removal job (rem.Seek b)) 3 0 1 (λ h b. refl)
+      (omega arith) (λ h. omega arith) (own .0) (own .1) refl a e)
+  delete-seek job (seek.Take a) e =
+      let own = remove-own job (rem.Seek (seek.Take a)) e (omega arith) refl in
+      cond-cases (λ r. Inv
+      (carried v p (removalSought job (sight v (v .pr p) (key v (v .pr p .own)) a) r)) u)
+      (eqb (v .lk (a .node) (a .level)) 0) _ _
+      (λ x. take-confirm v u I room p (λ b. stage.Removal job (rem.Seek b)) 3 0 1 (λ h b. refl)
+      (omega arith) (λ h. omega arith) (own .0) (own .1) refl a e (eqb-true _ _ x))
+      (λ x. take-waits v u I room p (λ b. stage.Removal job (rem.Seek b)) 3 0 1 (λ h b. refl)
+      (omega arith) (λ h. omega arith) (own .0) (own .1) refl a e)
+  delete-seek job (seek.Confirm a) e =
+      let own = remove-own job (rem.Seek (seek.Confirm a)) e (omega arith) refl in
+      cond-cases (λ r. Inv
+      (carried v p (removalSought job (sight v (v .pr p) (key v (v .pr p .own)) a) r)) u)
+      (before a) _ _
+      (λ x. confirm-release v u I room p (λ b. stage.Removal job (rem.Seek b)) 3 0 1 (λ h b. refl)
+      (omega arith) (λ h. omega arith) (own .0) (own .1) refl a e (ltb-true _ _ x))
+      (λ x. RemovalSteps.delete-done v u I room p job a e (ltb-false _ _ x))
+  delete-seek job (seek.Release a b) e =
+      let own = remove-own job (rem.Seek (seek.Release a b)) e (omega arith) refl in
+      release-take v u I room p (λ b. stage.Removal job (rem.Seek b)) 3 0 1 (λ h b. refl)
+      (omega arith) (λ h. omega arith) (own .0) (own .1) refl a b e
 
   insert-freed : (a : Place) → v .pr p .stage ≡ stage.Insert (ins.FreeLevel a) → Kept (stage.Insert (ins.FreeLevel a))
   insert-freed a e = cond-cases (λ d. Inv (carried v p d) u) (ltb (a .level) (v .ht (v .pr p .own))) _ _ (λ x. InsertSteps.insert-up v u I room p a e (ltb-true _ _ x)) (λ x. InsertSteps.insert-top v u I room p a e (ltb-false _ _ x))
 
   walk : (a : Place) → v .pr p .stage ≡ stage.Delete (del.Next a) → Kept (stage.Delete (del.Next a))
-  walk a e = cond-cases (λ d. Inv (carried v p d) u) (eqb (v .fwd (a .node) 1) (tail v)) _ _ (λ x. WalkSteps.walk-empty v u I H room p a e) (λ x. WalkSteps.walk-on v u I H room p a e (eqb-false _ _ x))
+  walk a e = cond-cases (λ d. Inv (carried v p d) u) (eqb (v .fwd (a .node) 1) (tail v)) _ _
+      (λ x. WalkSteps.ownless-ends v u I room p (stage.Delete (del.Next a)) e refl refl)
+      (λ x. WalkSteps.walk-on v u I room p (stage.Delete (del.Next a)) e 2 0 a refl H refl
+      (eqb-false _ _ x) (stage.Delete (del.Stamped _)) 0 (omega arith) (λ k. absurd (omega arith))
+      refl)
 
   stamp : (a : Place) → v .pr p .stage ≡ stage.Delete (del.Stamped a) → Kept (stage.Delete (del.Stamped a))
-  stamp a e = cond-cases (λ d. Inv (carried v p d) u) (ltb (v .st (a .node)) (v .pr p .begin)) _ _ (λ x. WalkSteps.stamp-early v u I room p a e (ltb-true _ _ x)) (λ x. WalkSteps.stamp-late v u I room p a e (ltb-false _ _ x))
+  stamp a e = cond-cases (λ d. Inv (carried v p d) u) (ltb (v .st (a .node)) (v .pr p .begin)) _ _
+      (λ x. WalkSteps.stamp-early v u I room p (stage.Delete (del.Stamped a)) e 1 0 a refl refl
+      (ltb-true _ _ x) (stage.Delete (del.Mark a)) refl)
+      (λ x. WalkSteps.stamp-late v u I room p (stage.Delete (del.Stamped a)) e 1 0 a refl
+      (omega arith) (ltb-false _ _ x) (stage.Delete (del.Next a)) refl)
 
-  mark : (a : Place) → v .pr p .stage ≡ stage.Delete (del.Mark a) → Kept (stage.Delete (del.Mark a))
-  mark a e = cond-cases (λ d. Inv (carried v p d) u) (ltb 0 (v .mk (a .node))) _ _ (λ x. WalkSteps.mark-set v u I room p a e (λ h. omega (arith, ltb-true 0 (v .mk (a .node)) x))) (λ x. WalkSteps.mark-step v u I room p a e (omega (arith, ltb-false 0 (v .mk (a .node)) x)))
+  -- W3 of a walk
+  mark : (s : Stage) → v .pr p .stage ≡ s →
+      (y : ℕ) (a : Place) → info (v .ht (v .pr p .own)) s ≡ walking 1 y a → 1 ≤ y →
+      (back : Stage) → info (v .ht (v .pr p .own)) back ≡ walking 2 0 a →
+      Inv (carried v p
+      (cond (ltb 0 (v .mk (a .node)))
+      (moved (sight v (v .pr p) (key v (v .pr p .own)) (place (a .node) 1)) eff.Keep back)
+      (marking jobs.Deliver (sight v (v .pr p) (key v (v .pr p .own)) (place (a .node) 1)) a))) u
+  mark s e y a is y≥ back to = cond-cases (λ d. Inv (carried v p d) u) (ltb 0 (v .mk (a .node))) _ _
+      (λ x. WalkSteps.mark-set v u I room p s e 1 y a is (omega arith)
+      (λ h. omega (arith, ltb-true 0 (v .mk (a .node)) x)) back to)
+      (λ x. let m : v .mk (a .node) ≡ 0 = omega (arith, ltb-false 0 (v .mk (a .node)) x) in
+      let M = WalkSteps.mark-place v u I room p s e 1 y a is y≥ m in
+      WalkSteps.mark-step v u I room p s e (ap (λ (f : Info). f .kind) is)
+      (ap (λ (f : Info). f .nx) is) jobs.Deliver (a .node) (M .0) (M .1) (M .2) m)
 
-  hold-node : v .pr p .stage ≡ stage.Delete (del.Removal rem.HoldNode) → Kept (stage.Delete (del.Removal rem.HoldNode))
-  hold-node e = cond-cases (λ d. Inv (carried v p d) u) (eqb (v .nl (v .pr p .own)) 0) _ _ (λ x. RemovalSteps.node-held v u I room p e (eqb-true _ _ x)) (λ x. RemovalSteps.node-waits v u I room p e)
+  hold-node : (job : Job) → v .pr p .stage ≡ stage.Removal job rem.HoldNode →
+      Kept (stage.Removal job rem.HoldNode)
+  hold-node job e = cond-cases (λ d. Inv (carried v p d) u) (eqb (v .nl (v .pr p .own)) 0) _ _
+      (λ x. RemovalSteps.node-held v u I room p job e (eqb-true _ _ x))
+      (λ x. RemovalSteps.node-waits v u I room p job e)
 
-  hold-own : (a : Place) → v .pr p .stage ≡ stage.Delete (del.Removal (rem.HoldOwn a)) → Kept (stage.Delete (del.Removal (rem.HoldOwn a)))
-  hold-own a e = cond-cases (λ d. Inv (carried v p d) u) (eqb (v .lk (v .pr p .own) (a .level)) 0) _ _ (λ x. RemovalSteps.own-held v u I room p a e (eqb-true _ _ x)) (λ x. RemovalSteps.own-waits v u I room p a e)
+  hold-own : (job : Job) (a : Place) → v .pr p .stage ≡ stage.Removal job (rem.HoldOwn a) →
+      Kept (stage.Removal job (rem.HoldOwn a))
+  hold-own job a e =
+      cond-cases (λ d. Inv (carried v p d) u) (eqb (v .lk (v .pr p .own) (a .level)) 0) _ _
+      (λ x. RemovalSteps.own-held v u I room p job a e (eqb-true _ _ x))
+      (λ x. RemovalSteps.own-waits v u I room p job a e)
 
-  delete-freed : (a : Place) → v .pr p .stage ≡ stage.Delete (del.Removal (rem.FreeLevel a)) → Kept (stage.Delete (del.Removal (rem.FreeLevel a)))
-  delete-freed a e = cond-cases (λ d. Inv (carried v p d) u) (leb (a .level) 1) _ _ (λ x. RemovalSteps.delete-bottom v u I room p a e (leb-true _ _ x)) (λ x. RemovalSteps.delete-down v u I room p a e (leb-false _ _ x))
+  delete-freed : (job : Job) (a : Place) → v .pr p .stage ≡ stage.Removal job (rem.FreeLevel a) →
+      Kept (stage.Removal job (rem.FreeLevel a))
+  delete-freed job a e = cond-cases (λ d. Inv (carried v p d) u) (leb (a .level) 1) _ _
+      (λ x. RemovalSteps.delete-bottom v u I room p job a e (leb-true _ _ x))
+      (λ x. RemovalSteps.delete-down v u I room p job a e (leb-false _ _ x))
 
   pub kept : (s : Stage) → v .pr p .stage ≡ s → 1 ≤ info (v .ht (v .pr p .own)) s .kind → Kept s
   kept stage.Idle e b = absurd (omega arith)
@@ -143,14 +237,15 @@ module _ (v : View) (u : ℕ → ℕ → ℕ) (I : Inv v u) (H : NodeHeld v) (ro
   kept (stage.Insert ins.Stamp) e b = InsertSteps.insert-stamp v u I room p e
   kept (stage.Delete (del.Next a)) e b = walk a e
   kept (stage.Delete (del.Stamped a)) e b = stamp a e
-  kept (stage.Delete (del.Mark a)) e b = mark a e
-  kept (stage.Delete (del.Removal (rem.Search a))) e b = delete-search a e
-  kept (stage.Delete (del.Removal rem.HoldNode)) e b = hold-node e
-  kept (stage.Delete (del.Removal (rem.Seek k))) e b = delete-seek k e
-  kept (stage.Delete (del.Removal (rem.HoldOwn a))) e b = hold-own a e
-  kept (stage.Delete (del.Removal (rem.Unlink a))) e b = RemovalSteps.delete-unlink v u I room p a e
-  kept (stage.Delete (del.Removal (rem.Back a))) e b = RemovalSteps.delete-back v u I room p a e
-  kept (stage.Delete (del.Removal (rem.FreeOwn a))) e b = RemovalSteps.delete-free-own v u I room p a e
-  kept (stage.Delete (del.Removal (rem.FreeLevel a))) e b = delete-freed a e
-  kept (stage.Delete (del.Removal rem.FreeNode)) e b = RemovalSteps.delete-free v u I room p e
-  kept (stage.Delete (del.Removal rem.Retire)) e b = RemovalSteps.delete-retire v u I room p e
+  kept (stage.Delete (del.Mark a)) e b = mark (stage.Delete (del.Mark a)) e 2 a refl (omega arith)
+      (stage.Delete (del.Next a)) refl
+  kept (stage.Removal job (rem.Search a)) e b = delete-search job a e
+  kept (stage.Removal job rem.HoldNode) e b = hold-node job e
+  kept (stage.Removal job (rem.Seek k)) e b = delete-seek job k e
+  kept (stage.Removal job (rem.HoldOwn a)) e b = hold-own job a e
+  kept (stage.Removal job (rem.Unlink a)) e b = RemovalSteps.delete-unlink v u I room p job a e
+  kept (stage.Removal job (rem.Back a)) e b = RemovalSteps.delete-back v u I room p job a e
+  kept (stage.Removal job (rem.FreeOwn a)) e b = RemovalSteps.delete-free-own v u I room p job a e
+  kept (stage.Removal job (rem.FreeLevel a)) e b = delete-freed job a e
+  kept (stage.Removal job rem.FreeNode) e b = RemovalSteps.delete-free v u I room p job e
+  kept (stage.Removal job rem.Retire) e b = RemovalSteps.delete-retire v u I room p job e

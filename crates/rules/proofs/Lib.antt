@@ -1,4 +1,3 @@
-pub mod Starred
 pub mod Put
 pub mod View
 pub mod Inv
@@ -44,3 +43,4 @@ pub mod BookLaws
 pub mod Meaning
 pub mod LockFacts
 pub mod Items
+pub mod Allowed

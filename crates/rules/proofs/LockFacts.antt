@@ -29,6 +29,7 @@ use Rattle.rules.proofs.Facts.{place-info}
 use Rattle.rules.proofs.Held.{Holds, by-place, by-own, by-node}
 use Rattle.rules.proofs.Lead.{sure}
 use Rattle.rules.proofs.Sound.{Sound}
+use Rattle.rules.proofs.ValidDecisions.{insert-reads, removal-reads}
 use Rattle.rules.proofs.View.{View, Info, info, claim}
 
 -- a test as one of the view's numbers
@@ -60,28 +61,28 @@ says h (stage.Insert ins.Stamp) = omega arith
 says h (stage.Delete (del.Next a)) = omega arith
 says h (stage.Delete (del.Stamped a)) = omega arith
 says h (stage.Delete (del.Mark a)) = omega arith
-says h (stage.Delete (del.Removal (rem.Search a))) = omega arith
-says h (stage.Delete (del.Removal rem.HoldNode)) = omega arith
-says h (stage.Delete (del.Removal (rem.Seek (seek.Approach a)))) = omega arith
-says h (stage.Delete (del.Removal (rem.Seek (seek.Take a)))) = omega arith
-says h (stage.Delete (del.Removal (rem.Seek (seek.Confirm a)))) = omega arith
-says h (stage.Delete (del.Removal (rem.Seek (seek.Release a b)))) = omega arith
-says h (stage.Delete (del.Removal (rem.HoldOwn a))) = omega arith
-says h (stage.Delete (del.Removal (rem.Unlink a))) = omega arith
-says h (stage.Delete (del.Removal (rem.Back a))) = omega arith
-says h (stage.Delete (del.Removal (rem.FreeOwn a))) = omega arith
-says h (stage.Delete (del.Removal (rem.FreeLevel a))) = omega arith
-says h (stage.Delete (del.Removal rem.FreeNode)) = omega arith
-says h (stage.Delete (del.Removal rem.Retire)) = omega arith
+says h (stage.Removal job (rem.Search a)) = omega arith
+says h (stage.Removal job rem.HoldNode) = omega arith
+says h (stage.Removal job (rem.Seek (seek.Approach a))) = omega arith
+says h (stage.Removal job (rem.Seek (seek.Take a))) = omega arith
+says h (stage.Removal job (rem.Seek (seek.Confirm a))) = omega arith
+says h (stage.Removal job (rem.Seek (seek.Release a b))) = omega arith
+says h (stage.Removal job (rem.HoldOwn a)) = omega arith
+says h (stage.Removal job (rem.Unlink a)) = omega arith
+says h (stage.Removal job (rem.Back a)) = omega arith
+says h (stage.Removal job (rem.FreeOwn a)) = omega arith
+says h (stage.Removal job (rem.FreeLevel a)) = omega arith
+says h (stage.Removal job rem.FreeNode) = omega arith
+says h (stage.Removal job rem.Retire) = omega arith
 
 -- but for a walk, the place that a stage carries is the one that its step reads at
 carried-read : (h : ℕ) (s : Stage) → (info h s .kind ≡ 2 → ⊥) → carried s .place ≡ readingPlace s
 carried-read h stage.Idle k = refl
-carried-read h (stage.Insert i) k = refl
+carried-read h (stage.Insert i) k = insert-reads i
 carried-read h (stage.Delete (del.Next a)) k = absurd (k refl)
 carried-read h (stage.Delete (del.Stamped a)) k = absurd (k refl)
 carried-read h (stage.Delete (del.Mark a)) k = absurd (k refl)
-carried-read h (stage.Delete (del.Removal r)) k = refl
+carried-read h (stage.Removal job r) k = removal-reads job r
 
 -- a record with a book for which all of it holds
 module _ (q : Queue) (b : Book) (S : Sound q b) (p : ℕ) where

@@ -17,20 +17,20 @@ use Rattle.rules.specs.Calls.{readingPlace}
 use Rattle.rules.specs.Effects.{beginAfter}
 use Rattle.laws.specs.Update.{upd}
 use Rattle.rules.proofs.Put.{ever, put, save-at, clear-to}
-use Rattle.rules.proofs.View.{Pr, View, key, tail}
+use Rattle.rules.proofs.View.{Pr, View, rankFor, key, tail}
 use Rattle.rules.proofs.Assemble.{ticked}
 
 abbrev pub entryAt : View → ℕ → Entry
 entryAt v n = record { due = v .due n; item = v .item n; ticket = v .tick n }
 
--- what a step of c at the place a reads
-abbrev pub sight : View → Pr → Place → Sight
-sight v c a = record {
+-- what a step of c at the place a reads, k being the operation's key
+abbrev pub sight : View → Pr → ℕ → Place → Sight
+sight v c k a = record {
   own = c .own;
   height = v .ht (c .own);
   holder = v .nl (c .own);
   next = v .fwd (a .node) (a .level);
-  before = ltb (key v (v .fwd (a .node) (a .level))) (key v (c .own));
+  before = ltb (key v (v .fwd (a .node) (a .level))) k;
   guard = v .lk (a .node) (a .level);
   onward = v .fwd (c .own) (a .level);
   latch = v .lk (c .own) (a .level);
@@ -100,7 +100,7 @@ abbrev pub prAfter : ℕ → ℕ → Pr → Decision → Pr
 prAfter l t c d = record { begin = beginAfter t (c .begin) (d .carry); own = d .own; stage = d .stage; saved = savedAfter l (c .saved) (d .carry) }
 
 abbrev pub decision : View → ℕ → Stage → Decision
-decision v p s = decide (sight v (v .pr p) (readingPlace s)) s
+decision v p s = decide (sight v (v .pr p) (rankFor s (key v (v .pr p .own))) (readingPlace s)) s
 
 -- a decision applied
 abbrev pub carried : View → ℕ → Decision → View

@@ -3,7 +3,7 @@
 use mathlib.Core.Path.{_≡_, refl, sym, ap, subst, _∙_}
 use mathlib.Core.Bool.{Bool, true, _&&_, not, true≢false}
 use mathlib.Core.List.{List, [], _∷_, _++_}
-use Prim.Native.Nat.{ℕ, zero, suc, _≤_, _<_}
+use Prim.Native.Nat.{ℕ, _≤_, _<_}
 use native.Mathlib.Omega.{arith}
 use lib.Dec.{ltb, eqb}
 use borrow.Author.Tests.{ltb-true, eqb-true, le-ltb, not-true}
@@ -12,6 +12,9 @@ use Rattle.laws.proofs.Counting.{and-left, and-right}
 use Rattle.laws.proofs.Updating.{upd-same}
 use Rattle.checks.specs.Backlog.{pendingAt}
 use Rattle.record.specs.declared.queues.Queue.{Queue}
+use Rattle.record.specs.declared.stages.Job.the-variants as jobs
+use Rattle.record.specs.declared.stages.Stage.{Stage}
+use Rattle.record.specs.declared.stages.Stage.the-variants as stage
 use Rattle.record.specs.Queues.{freshQueue}
 use Rattle.rules.specs.declared.answers.Answer.{Answer}
 use Rattle.rules.specs.declared.answers.Answer.the-variants as ans
@@ -19,24 +22,25 @@ use Rattle.rules.specs.declared.answers.Entry.{Entry}
 use Rattle.rules.specs.Book.{Line, Open, nothing, inserting, deleting, delivering, Book, agrees, pick, gives, withAnswer, withMark, withHandOut, marks, empties, handsOut, feed, feedStep, judged}
 use Rattle.rules.specs.Demand3.{InRange, BookAfter, Left, Entered, Earliest, MarkedIsEarliest, NoneLeft, EmptyIsTrue, Delivered, HandedOutIsMarked, MarkedOnce, HandedOutOnce}
 use Rattle.rules.specs.Demand3.{BacklogIsPending}
-use Rattle.rules.specs.Runs.{Call, steps, Reply, answered, after, reply, afterAll}
+use Rattle.rules.specs.Runs.{Turn, steps, Reply, answered, after, reply, afterAll}
 use Rattle.rules.proofs.BookLaws.{Right, right-book, right-provided, Given, given, Stays, stays}
 use Rattle.rules.proofs.Concrete.{viewOf}
 use Rattle.rules.proofs.Demand3.{turned-by, all-judged, reached, reached-is-valid}
 use Rattle.rules.proofs.Backlog.{backlog-pending}
-use Rattle.rules.proofs.Lead.{sure}
 use Rattle.rules.proofs.Picks.{Candidate, order, Picked, none, one, picked}
 use Rattle.rules.proofs.Put.{ever}
 use Rattle.rules.proofs.Ranks.{entries-before}
 use Rattle.rules.proofs.Rel.{opens}
 use Rattle.rules.proofs.Sound.{Sound}
-use Rattle.rules.proofs.View.{View, claim}
+use Rattle.rules.proofs.StageKinds.{removal-kind}
+use Rattle.rules.proofs.View.{View, info}
 
-opens-delivering : (k T t x : ℕ) → opens k T t ≡ delivering x → (3 ≤ k) × (t ≡ x)
-opens-delivering zero T t x e = absurd (let z : _≡_ {A = ℕ} 0 1 = cc in omega arith)
-opens-delivering (suc zero) T t x e = absurd (let z : _≡_ {A = ℕ} 0 1 = cc in omega arith)
-opens-delivering (suc (suc zero)) T t x e = absurd (let z : _≡_ {A = ℕ} 0 1 = cc in omega arith)
-opens-delivering (suc (suc (suc k))) T t x e = (omega arith, cc)
+opens-delivering : (h : ℕ) (s : Stage) (T t x : ℕ) → opens s T t ≡ delivering x →
+    (info h s .kind ≡ 3) × (t ≡ x)
+opens-delivering h stage.Idle T t x e = absurd (let z : _≡_ {A = ℕ} 0 1 = cc in omega arith)
+opens-delivering h (stage.Insert i) T t x e = absurd (let z : _≡_ {A = ℕ} 0 1 = cc in omega arith)
+opens-delivering h (stage.Delete d) T t x e = absurd (let z : _≡_ {A = ℕ} 0 1 = cc in omega arith)
+opens-delivering h (stage.Removal jobs.Deliver r) T t x e = (removal-kind jobs.Deliver h r, cc)
 
 entered : (b : Book) (e : Entry) (t : ℕ) → Given b e t → Entered b e
 entered b e t G = record { due = rw (G .ticket) (sym (G .due)); item = rw (G .ticket) (sym (G .item)) }
@@ -100,8 +104,9 @@ module _ (q : Queue) (b : Book) (S : Sound q b) where
     -- the ticket of an open Delete_Min's mark
     delivering-by : (t : ℕ) → b .opened p ≡ delivering t → t ≤ b .count
     delivering-by t i =
-        let D = opens-delivering (claim v p .kind) (v .pr p .begin) (v .tick (v .pr p .own)) t (sym (S .rel .opened p) ∙ i) in
-        let O = S .inv .busy p (omega (arith, D .0)) .removes (omega (arith, D .0, sure v p .kind-high)) in
+        let D = opens-delivering (v .ht (v .pr p .own)) (v .pr p .stage) (v .pr p .begin)
+        (v .tick (v .pr p .own)) t (sym (S .rel .opened p) ∙ i) in
+        let O = S .inv .busy p (omega (arith, D .0)) .removes (D .0) in
         omega (arith, D .1, node-ticket (v .pr p .own) (O .low) (O .high))
 
     hands-out-right : (e : Entry) (o : Open) → b .opened p ≡ o → Right (λ b′. Delivered b p e × Stays (λ l. l .handedOut) (e .ticket) b′) (handsOut b p e o)
@@ -125,7 +130,7 @@ module _ (q : Queue) (b : Book) (S : Sound q b) where
     handing-out e r = stepped (λ b′. Delivered b p e × Stays (λ l. l .handedOut) (e .ticket) b′) p (ans.HandedOut e) r (hands-out-right e (b .opened p) refl)
 
 -- the book after a list of calls is the one for which all of it holds
-sound-after : (P N L : ℕ) → InRange P N L → (cs : List Call) (b : Book) → BookAfter P N L cs b → Sound (afterAll (freshQueue P N L) cs) b
+sound-after : (P N L : ℕ) → InRange P N L → (cs : List Turn) (b : Book) → BookAfter P N L cs b → Sound (afterAll (freshQueue P N L) cs) b
 sound-after P N L R cs b h = let J = reached P N L R cs in let same : J .book ≡ b = cc (J .judges) in subst (Sound (afterAll (freshQueue P N L) cs)) same (J .sound)
 
 pub marked-is-earliest : MarkedIsEarliest
@@ -144,7 +149,7 @@ backlog-is-pending P N L R cs b h =
     let S = sound-after P N L R cs b h in
     (howMany (pendingAt q) (q .entries), rw ok refl, backlog-pending q b S ok)
 
-after-append : (q : Queue) (cs ds : List Call) → afterAll q (cs ++ ds) ≡ afterAll (afterAll q cs) ds
+after-append : (q : Queue) (cs ds : List Turn) → afterAll q (cs ++ ds) ≡ afterAll (afterAll q cs) ds
 unfolding afterAll
 after-append q [] ds = refl
 after-append q (c ∷ cs) ds = after-append (after q c) cs ds
@@ -157,7 +162,7 @@ record Later (flag : Line → Bool) (t : ℕ) (q : Queue) : Type 0 where
 
 module _ (flag : Line → Bool) (t : ℕ) (answer-keeps : (l : Line) (n : ℕ) → flag l ≡ true → flag (withAnswer l n) ≡ true)
     (mark-keeps : (l : Line) → flag l ≡ true → flag (withMark l) ≡ true) (hand-out-keeps : (l : Line) → flag l ≡ true → flag (withHandOut l) ≡ true) where
-  later : (q : Queue) (cs ds : List Call) (p : ℕ) (b : Book) (S : Sound (afterAll q cs) b) → Stays flag t (turned-by (afterAll q cs) b S (steps p) .book) → Later flag t (afterAll q (cs ++ (steps p ∷ ds)))
+  later : (q : Queue) (cs ds : List Turn) (p : ℕ) (b : Book) (S : Sound (afterAll q cs) b) → Stays flag t (turned-by (afterAll q cs) b S (steps p) .book) → Later flag t (afterAll q (cs ++ (steps p ∷ ds)))
   unfolding afterAll
   later q cs ds p b S K =
       let r = after (afterAll q cs) (steps p) in

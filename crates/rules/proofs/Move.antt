@@ -9,7 +9,7 @@ use Rattle.record.specs.declared.stages.Seek.the-variants as seek
 use Rattle.record.specs.declared.stages.Stage.{Stage}
 use Rattle.record.specs.Stages.{place}
 use Rattle.rules.proofs.Put.{ever, put, put-same, put-other, put-keeps}
-use Rattle.rules.proofs.View.{Pr, View, Info, info, seeks, claim, key, tail}
+use Rattle.rules.proofs.View.{Pr, View, Info, info, seeks, claim, key, tail, last}
 use Rattle.rules.proofs.Inv.{Busy, Readable, Near, Inv, sought}
 use Rattle.rules.proofs.Read.{read-seen, settled}
 use Rattle.rules.proofs.Assemble.{ticked, yields-kept}
@@ -71,22 +71,23 @@ module _ (v : View) (u : ℕ → ℕ → ℕ) (I : Inv v u) (p : ℕ) where
       ever ≤ u (info (v .ht (v .pr p .own)) s .node) (info (v .ht (v .pr p .own)) s .level)
   settled-at s e = subst (λ (f : Info). 1 ≤ f .kind → f .hp ≡ 1 → (f .nx ≡ 4 → ⊥) → key v (f .node) ≤ key v (v .fwd (f .node) (f .level)) → ever ≤ u (f .node) (f .level)) (claim-at s e) (settled v u I p)
 
-  -- the node read is before own, so it may be the next place
-  pub ahead : (a i : ℕ) → 1 ≤ claim v p .kind → 1 ≤ i → 1 ≤ v .pr p .own → v .pr p .own ≤ v .nodes →
-      Readable u (key v) (tail v) (v .pr p .begin) (key v (v .pr p .own)) a i → key v (v .fwd a i) < key v (v .pr p .own) →
-      Readable u (key v) (tail v) (v .pr p .begin) (key v (v .pr p .own)) (v .fwd a i) i
-  ahead a i b i≥ o≥ o≤ G lt =
+  -- the node read is before the key g, so it may be the next place
+  pub ahead : (a i g : ℕ) → 1 ≤ claim v p .kind → 1 ≤ i → g ≤ last →
+      Readable u (key v) (tail v) (v .pr p .begin) g a i → key v (v .fwd a i) < g →
+      Readable u (key v) (tail v) (v .pr p .begin) g (v .fwd a i) i
+  ahead a i g b i≥ g≤ G lt =
       let r = read-seen v u I p a i b i≥ (G .below) (G .seen) in
       record { below = below (r .0) (ℕ-discrete (v .fwd a i) (tail v)); seen = r .1; before = lt }
     where
       below : v .fwd a i ≤ tail v → Dec (v .fwd a i ≡ tail v) → v .fwd a i < tail v
       below le (no d) = omega arith
-      below le (yes e) = absurd (omega (arith, I .core .ends .tail-key, (rw e at lt), I .core .ends .keys (v .pr p .own) o≥ (omega arith) .1))
+      below le (yes e) = absurd (omega (arith, I .core .ends .tail-key, (rw e at lt)))
 
 -- Lock-seek, for an Insert and a remover alike: wrap is how the operation's stage holds the seek's.
 module _ (v : View) (u : ℕ → ℕ → ℕ) (I : Inv v u) (room : v .clock + 1 < ever) (p : ℕ) (wrap : Seek → Stage) (kd d pa : ℕ)
     (wraps : (h : ℕ) (k : Seek) → info h (wrap k) ≡ seeks kd d pa k) (kd≥ : 1 ≤ kd) (kd≢ : kd ≡ 2 → ⊥)
-    (o≥ : 1 ≤ v .pr p .own) (o≤ : v .pr p .own ≤ v .nodes) (goal : sought (key v) (v .pr p .own) kd ≡ key v (v .pr p .own)) where
+    (o≥ : 1 ≤ v .pr p .own) (o≤ : v .pr p .own ≤ v .nodes)
+    (goal : sought (key v) (v .pr p .own) kd 0 ≡ key v (v .pr p .own)) where
   seek-kind : (k : Seek) → seeks kd d pa k .kind ≡ kd
   seek-kind (seek.Approach a) = refl
   seek-kind (seek.Take a) = refl
@@ -139,9 +140,15 @@ module _ (v : View) (u : ℕ → ℕ → ℕ) (I : Inv v u) (room : v .clock + 1
   Goes lk k = Inv (ticked (withLocks v lk (v .nl)) p (staged (v .pr p) (wrap k))) u
 
   -- the place or the b read, put where the seek goes on
-  ahead-readable : (a : Place) → 1 ≤ a .level → Readable u (key v) (tail v) (v .pr p .begin) (sought (key v) (v .pr p .own) kd) (a .node) (a .level) → 1 ≤ claim v p .kind → key v (v .fwd (a .node) (a .level)) < key v (v .pr p .own) →
-      Readable u (key v) (tail v) (v .pr p .begin) (sought (key v) (v .pr p .own) kd) (v .fwd (a .node) (a .level)) (a .level)
-  ahead-readable a l G b lt = rw goal (ahead v u I p (a .node) (a .level) b l o≥ o≤ (rw goal at G) lt)
+  ahead-readable : (a : Place) → 1 ≤ a .level →
+      Readable u (key v) (tail v) (v .pr p .begin) (sought (key v) (v .pr p .own) kd 0) (a .node)
+      (a .level) → 1 ≤ claim v p .kind →
+      key v (v .fwd (a .node) (a .level)) < key v (v .pr p .own) →
+      Readable u (key v) (tail v) (v .pr p .begin) (sought (key v) (v .pr p .own) kd 0)
+      (v .fwd (a .node) (a .level)) (a .level)
+  ahead-readable a l G b lt =
+      rw goal (ahead v u I p (a .node) (a .level) (key v (v .pr p .own)) b l
+      (omega (arith, I .core .ends .keys (v .pr p .own) o≥ (omega arith) .1)) (rw goal at G) lt)
 
   pub approach-ahead : (a : Place) → v .pr p .stage ≡ wrap (seek.Approach a) → key v (v .fwd (a .node) (a .level)) < key v (v .pr p .own) →
       Goes (v .lk) (seek.Approach (place (v .fwd (a .node) (a .level)) (a .level)))

@@ -5,8 +5,12 @@ use Prim.Native.Nat.{ℕ, _+_, _-_, _≤_}
 use native.Mathlib.Omega.{arith}
 use lib.Dec.{ltb, eqb}
 use borrow.Author.Tests.{ltb-true, ltb-false, eqb-true, eqb-false, lt-ltb, le-ltb}
+use Rattle.record.specs.declared.keys.Key.{Key}
+use Rattle.record.specs.declared.stages.Stage.{Stage}
+use Rattle.record.specs.declared.stages.Stage.the-variants as stage
+use Rattle.rules.specs.Calls.{keyFor}
 use Rattle.record.specs.Keys.{nodeKey, keyBefore, headKey, tailKey, entryKey}
-use Rattle.rules.proofs.View.{rank, entryRank, last}
+use Rattle.rules.proofs.View.{rank, entryRank, rankFor, last}
 
 -- keys as numbers
 abbrev pub rankAt : ℕ → ℕ → ℕ → ℕ → ℕ
@@ -36,19 +40,43 @@ entries-before d t d′ t′ t≤ t′≤ = go (eqb d d′) refl (ltb t t′) re
     go false e b f true g = sym (lt-ltb (entryRank d t) (entryRank d′ t′) (omega (arith, ltb-true d d′ g)))
     go false e b f false g = sym (le-ltb (entryRank d t) (entryRank d′ t′) (let z : (d ≡ d′ → ⊥) = eqb-false d d′ e in omega (arith, ltb-false d d′ g)))
 
-pub before-rank : (n x d t y d′ t′ : ℕ) → d ≤ 999999 → t ≤ 999999 → d′ ≤ 999999 → t′ ≤ 999999 → keyBefore (nodeKey n x d t) (nodeKey n y d′ t′) ≡ ltb (rankAt n x d t) (rankAt n y d′ t′)
-before-rank n x d t y d′ t′ d≤ t≤ d′≤ t′≤ = go (which n x d t) (which n y d′ t′)
+-- a key and its rank
+pub data Ranked (k : Key) (r : ℕ) : Type 0 where
+  at-head : k ≡ headKey → r ≡ 0 → Ranked k r
+  at-tail : k ≡ tailKey → r ≡ last → Ranked k r
+  at-entry : (d t : ℕ) → k ≡ entryKey d t → r ≡ entryRank d t → d ≤ 999999 → t ≤ 999999 → Ranked k r
+
+pub node-ranked : (n x d t : ℕ) → d ≤ 999999 → t ≤ 999999 →
+    Ranked (nodeKey n x d t) (rankAt n x d t)
+node-ranked n x d t d≤ t≤ = go (which n x d t)
   where
-    go : Which n x d t → Which n y d′ t′ → keyBefore (nodeKey n x d t) (nodeKey n y d′ t′) ≡ ltb (rankAt n x d t) (rankAt n y d′ t′)
-    go (head e f j) (head g h i) = rw (e, f, g, h)
-    go (head e f j) (tail g h i) = rw (e, f, g, h)
-    go (head e f j) (entry g h i) = rw (e, f, g, h) (sym (lt-ltb 0 (entryRank d′ t′) (omega arith)))
-    go (tail e f j) (head g h i) = rw (e, f, g, h)
-    go (tail e f j) (tail g h i) = rw (e, f, g, h)
-    go (tail e f j) (entry g h i) = rw (e, f, g, h) (sym (le-ltb last (entryRank d′ t′) (omega arith)))
-    go (entry e f j) (head g h i) = rw (e, f, g, h) (sym (le-ltb (entryRank d t) 0 (omega arith)))
-    go (entry e f j) (tail g h i) = rw (e, f, g, h) (sym (lt-ltb (entryRank d t) last (omega arith)))
-    go (entry e f j) (entry g h i) = rw (e, f, g, h) (entries-before d t d′ t′ t≤ t′≤)
+    go : Which n x d t → Ranked (nodeKey n x d t) (rankAt n x d t)
+    go (head e f j) = at-head e f
+    go (tail e f j) = at-tail e f
+    go (entry e f j) = at-entry d t e f d≤ t≤
+
+pub before-ranked : (k k′ : Key) (r r′ : ℕ) → Ranked k r → Ranked k′ r′ → keyBefore k k′ ≡ ltb r r′
+before-ranked k k′ r r′ (at-head e f) (at-head g h) = rw (e, f, g, h)
+before-ranked k k′ r r′ (at-head e f) (at-tail g h) = rw (e, f, g, h)
+before-ranked k k′ r r′ (at-head e f) (at-entry d′ t′ g h x y) =
+    rw (e, f, g, h) (sym (lt-ltb 0 (entryRank d′ t′) (omega arith)))
+before-ranked k k′ r r′ (at-tail e f) (at-head g h) = rw (e, f, g, h)
+before-ranked k k′ r r′ (at-tail e f) (at-tail g h) = rw (e, f, g, h)
+before-ranked k k′ r r′ (at-tail e f) (at-entry d′ t′ g h x y) =
+    rw (e, f, g, h) (sym (le-ltb last (entryRank d′ t′) (omega arith)))
+before-ranked k k′ r r′ (at-entry d t e f u v) (at-head g h) =
+    rw (e, f, g, h) (sym (le-ltb (entryRank d t) 0 (omega arith)))
+before-ranked k k′ r r′ (at-entry d t e f u v) (at-tail g h) =
+    rw (e, f, g, h) (sym (lt-ltb (entryRank d t) last (omega arith)))
+before-ranked k k′ r r′ (at-entry d t e f u v) (at-entry d′ t′ g h x y) =
+    rw (e, f, g, h) (entries-before d t d′ t′ v y)
+
+-- the key of an operation, and its rank
+pub ranked-for : (s : Stage) (k : Key) (r : ℕ) → Ranked k r → Ranked (keyFor s k) (rankFor s r)
+ranked-for stage.Idle k r h = h
+ranked-for (stage.Insert i) k r h = h
+ranked-for (stage.Delete d) k r h = h
+ranked-for (stage.Removal job d) k r h = h
 
 pub rank-at : (n : ℕ) (due tick : ℕ → ℕ) (x : ℕ) → rank n due tick x ≡ rankAt n x (due x) (tick x)
 unfolding rank

@@ -25,6 +25,7 @@ use Rattle.record.specs.declared.stages.Delete.the-variants as del
 use Rattle.record.specs.declared.stages.Removal.{Removal}
 use Rattle.record.specs.declared.stages.Removal.the-variants as rem
 use Rattle.record.specs.declared.stages.Stage.{Stage}
+use Rattle.record.specs.declared.stages.Job.{Job}
 use Rattle.record.specs.declared.stages.Stage.the-variants as stage
 use Rattle.rules.specs.declared.decisions.Effect.{Effect}
 use Rattle.rules.specs.declared.decisions.Effect.the-variants as eff
@@ -39,7 +40,7 @@ use Rattle.rules.specs.declared.decisions.Sought.the-variants as sght
 use Rattle.record.specs.Stages.{place}
 use Rattle.rules.specs.Decide.{insertSearched, insertSought, removalSearched, removalSought, seekStep, searchStep, decide}
 use Rattle.rules.specs.Calls.{readingPlace}
-use Rattle.record.specs.Stages.{seekCarried}
+use Rattle.record.specs.Stages.{seekPart}
 use Rattle.rules.specs.Effects.{nodeOf, changed, beginAfter, processorAfter, savedAfter as savedList}
 use Rattle.record.specs.Queues.{nodeAt, processorAt, freshProcessor}
 use Rattle.record.specs.Nodes.{freshNode}
@@ -48,7 +49,7 @@ use Rattle.rules.specs.Calls.{stepDecision}
 use Rattle.laws.specs.Update.{upd}
 use Rattle.laws.proofs.Updating.{upd-same, upd-other}
 use Rattle.rules.proofs.Put.{save-at}
-use Rattle.rules.proofs.View.{Pr, View, info, claim, tail}
+use Rattle.rules.proofs.View.{Pr, View, info, claim, key, tail}
 use Rattle.rules.proofs.Facts.{place-info}
 use Rattle.rules.proofs.Inv.{Inv}
 use Rattle.rules.proofs.Machine.{effected, prAfter, carried, decision, sight, savedAfter}
@@ -195,17 +196,21 @@ reach-insert-searched N s a (srch.Ahead b) l h = record { effect = tt; saves = t
 reach-insert-searched N s a (srch.Down b) l h = record { effect = tt; saves = (l, h); due-small = tt }
 reach-insert-searched N s a (srch.Left b) l h = record { effect = tt; saves = (l, h); due-small = tt }
 
-reach-delete-searched : (N : ℕ) (s : Sight) (a : Place) (r : Searched) → 1 ≤ a .level → a .level ≤ 8 → Reach N (removalSearched s a r)
-reach-delete-searched N s a (srch.Ahead b) l h = record { effect = tt; saves = tt; due-small = tt }
-reach-delete-searched N s a (srch.Down b) l h = record { effect = tt; saves = (l, h); due-small = tt }
-reach-delete-searched N s a (srch.Left b) l h = record { effect = tt; saves = (l, h); due-small = tt }
+reach-delete-searched : (job : Job) (N : ℕ) (s : Sight) (a : Place) (r : Searched) → 1 ≤ a .level →
+    a .level ≤ 8 → Reach N (removalSearched job s a r)
+reach-delete-searched job N s a (srch.Ahead b) l h =
+    record { effect = tt; saves = tt; due-small = tt }
+reach-delete-searched job N s a (srch.Down b) l h =
+    record { effect = tt; saves = (l, h); due-small = tt }
+reach-delete-searched job N s a (srch.Left b) l h =
+    record { effect = tt; saves = (l, h); due-small = tt }
 
 abbrev sought-reaches : ℕ → Sought → Type 0
 sought-reaches N (sght.Goes e k) = reach N e × due-small e
 sought-reaches N (sght.Waits k) = Unit {0}
 sought-reaches N (sght.Done a) = Unit {0}
 
-seek-reaches : (N : ℕ) (s : Sight) (k : Seek) → seekCarried k .place .node ≤ N → 1 ≤ seekCarried k .place .level → seekCarried k .place .level ≤ 8 → sought-reaches N (seekStep s k)
+seek-reaches : (N : ℕ) (s : Sight) (k : Seek) → seekPart k .place .node ≤ N → 1 ≤ seekPart k .place .level → seekPart k .place .level ≤ 8 → sought-reaches N (seekStep s k)
 seek-reaches N s (seek.Approach a) n l h = cond-elim (sought-reaches N) (s .before) (sght.Goes eff.Keep (seek.Approach (place (s .next) (a .level)))) (sght.Goes eff.Keep (seek.Take a)) (tt, tt) (tt, tt)
 seek-reaches N s (seek.Take a) n l h = cond-elim (sought-reaches N) (eqb (s .guard) 0) (sght.Goes (eff.HoldLevel a) (seek.Confirm a)) (sght.Waits (seek.Take a)) ((n, l, h), tt) tt
 seek-reaches N s (seek.Confirm a) n l h = cond-elim (sought-reaches N) (s .before) (sght.Goes eff.Keep (seek.Release a (s .next))) (sght.Done a) (tt, tt) tt
@@ -216,10 +221,12 @@ reach-insert-sought N s (sght.Goes e k) q = record { effect = q .0; saves = tt; 
 reach-insert-sought N s (sght.Waits k) q = record { effect = tt; saves = tt; due-small = tt }
 reach-insert-sought N s (sght.Done a) q = record { effect = tt; saves = tt; due-small = tt }
 
-reach-delete-sought : (N : ℕ) (s : Sight) (r : Sought) → sought-reaches N r → Reach N (removalSought s r)
-reach-delete-sought N s (sght.Goes e k) q = record { effect = q .0; saves = tt; due-small = q .1 }
-reach-delete-sought N s (sght.Waits k) q = record { effect = tt; saves = tt; due-small = tt }
-reach-delete-sought N s (sght.Done a) q = record { effect = tt; saves = tt; due-small = tt }
+reach-delete-sought : (job : Job) (N : ℕ) (s : Sight) (r : Sought) → sought-reaches N r →
+    Reach N (removalSought job s r)
+reach-delete-sought job N s (sght.Goes e k) q =
+    record { effect = q .0; saves = tt; due-small = q .1 }
+reach-delete-sought job N s (sght.Waits k) q = record { effect = tt; saves = tt; due-small = tt }
+reach-delete-sought job N s (sght.Done a) q = record { effect = tt; saves = tt; due-small = tt }
 
 module _ (v : View) (u : ℕ → ℕ → ℕ) (I : Inv v u) (p : ℕ) where
   abbrev N : ℕ
@@ -234,13 +241,23 @@ module _ (v : View) (u : ℕ → ℕ → ℕ) (I : Inv v u) (p : ℕ) where
   ins-own : (i : Insert) → v .pr p .stage ≡ stage.Insert i → 1 ≤ info (v .ht (v .pr p .own)) (stage.Insert i) .kind → info (v .ht (v .pr p .own)) (stage.Insert i) .kind ≡ 1 → (1 ≤ v .pr p .own) × (v .pr p .own ≤ N)
   ins-own i e k l = let S = busy-at v u I p (stage.Insert i) e k .inserts l in (S .low, S .high)
 
-  rem-own : (i : Delete) → v .pr p .stage ≡ stage.Delete i → 1 ≤ info (v .ht (v .pr p .own)) (stage.Delete i) .kind → info (v .ht (v .pr p .own)) (stage.Delete i) .kind ≡ 3 → (1 ≤ v .pr p .own) × (v .pr p .own ≤ N)
-  rem-own i e k l = let S = busy-at v u I p (stage.Delete i) e k .removes l in (S .low, S .high)
+  rem-own : (job : Job) (i : Removal) → v .pr p .stage ≡ stage.Removal job i →
+      1 ≤ info (v .ht (v .pr p .own)) (stage.Removal job i) .kind →
+      info (v .ht (v .pr p .own)) (stage.Removal job i) .kind ≡ 3 →
+      (1 ≤ v .pr p .own) × (v .pr p .own ≤ N)
+  rem-own job i e k l = let S = busy-at v u I p (stage.Removal job i) e k .removes l in
+      (S .low, S .high)
 
   pub reaches : (s : Stage) → v .pr p .stage ≡ s → 1 ≤ info (v .ht (v .pr p .own)) s .kind → Reach N (decision v p s)
   reaches stage.Idle e k = absurd (omega arith)
-  reaches (stage.Insert (ins.Search a)) e k = let A = at-place _ e k in reach-insert-searched N (sight v (v .pr p) a) a (searchStep (sight v (v .pr p) a) a) (A .1) (A .2)
-  reaches (stage.Insert (ins.Seek j)) e k = let A = at-place _ e k in reach-insert-sought N (sight v (v .pr p) (seekCarried j .place)) (seekStep (sight v (v .pr p) (seekCarried j .place)) j) (seek-reaches N (sight v (v .pr p) (seekCarried j .place)) j (A .0) (A .1) (A .2))
+  reaches (stage.Insert (ins.Search a)) e k = let A = at-place _ e k in
+      reach-insert-searched N (sight v (v .pr p) (key v (v .pr p .own)) a) a
+      (searchStep (sight v (v .pr p) (key v (v .pr p .own)) a) a) (A .1) (A .2)
+  reaches (stage.Insert (ins.Seek j)) e k = let A = at-place _ e k in
+      reach-insert-sought N (sight v (v .pr p) (key v (v .pr p .own)) (seekPart j .place))
+      (seekStep (sight v (v .pr p) (key v (v .pr p .own)) (seekPart j .place)) j)
+      (seek-reaches N (sight v (v .pr p) (key v (v .pr p .own)) (seekPart j .place)) j (A .0)
+      (A .1) (A .2))
   reaches (stage.Insert (ins.Copy a)) e k = let A = at-place _ e k in record { effect = (ins-own _ e k refl .1, A .1, A .2); saves = tt; due-small = tt }
   reaches (stage.Insert (ins.Link a)) e k = let A = at-place _ e k in record { effect = A; saves = tt; due-small = tt }
   reaches (stage.Insert (ins.FreeLevel a)) e k = let A = at-place _ e k in cond-elim (Reach N) (ltb (a .level) (v .ht (v .pr p .own))) _ _ (record { effect = A; saves = tt; due-small = tt }) (record { effect = A; saves = tt; due-small = tt })
@@ -249,16 +266,35 @@ module _ (v : View) (u : ℕ → ℕ → ℕ) (I : Inv v u) (p : ℕ) where
   reaches (stage.Delete (del.Next a)) e k = cond-elim (Reach N) (eqb (v .fwd (a .node) 1) (tail v)) _ _ (record { effect = tt; saves = tt; due-small = tt }) (record { effect = tt; saves = tt; due-small = tt })
   reaches (stage.Delete (del.Stamped a)) e k = cond-elim (Reach N) (ltb (v .st (a .node)) (v .pr p .begin)) _ _ (record { effect = tt; saves = tt; due-small = tt }) (record { effect = tt; saves = tt; due-small = tt })
   reaches (stage.Delete (del.Mark a)) e k = let A = at-place _ e k in cond-elim (Reach N) (ltb 0 (v .mk (a .node))) _ _ (record { effect = tt; saves = tt; due-small = tt }) (record { effect = A .0; saves = tt; due-small = tt })
-  reaches (stage.Delete (del.Removal (rem.Search a))) e k = let A = at-place _ e k in reach-delete-searched N (sight v (v .pr p) a) a (searchStep (sight v (v .pr p) a) a) (A .1) (A .2)
-  reaches (stage.Delete (del.Removal rem.HoldNode)) e k = cond-elim (Reach N) (eqb (v .nl (v .pr p .own)) 0) _ _ (record { effect = rem-own _ e k refl; saves = tt; due-small = tt }) (record { effect = tt; saves = tt; due-small = tt })
-  reaches (stage.Delete (del.Removal (rem.Seek j))) e k = let A = at-place _ e k in reach-delete-sought N (sight v (v .pr p) (seekCarried j .place)) (seekStep (sight v (v .pr p) (seekCarried j .place)) j) (seek-reaches N (sight v (v .pr p) (seekCarried j .place)) j (A .0) (A .1) (A .2))
-  reaches (stage.Delete (del.Removal (rem.HoldOwn a))) e k = let A = at-place _ e k in cond-elim (Reach N) (eqb (v .lk (v .pr p .own) (a .level)) 0) _ _ (record { effect = (rem-own _ e k refl .1, A .1, A .2); saves = tt; due-small = tt }) (record { effect = tt; saves = tt; due-small = tt })
-  reaches (stage.Delete (del.Removal (rem.Unlink a))) e k = let A = at-place _ e k in record { effect = A; saves = tt; due-small = tt }
-  reaches (stage.Delete (del.Removal (rem.Back a))) e k = let A = at-place _ e k in record { effect = (rem-own _ e k refl .1, A .1, A .2); saves = tt; due-small = tt }
-  reaches (stage.Delete (del.Removal (rem.FreeOwn a))) e k = let A = at-place _ e k in record { effect = (rem-own _ e k refl .1, A .1, A .2); saves = tt; due-small = tt }
-  reaches (stage.Delete (del.Removal (rem.FreeLevel a))) e k = let A = at-place _ e k in cond-elim (Reach N) (leb (a .level) 1) _ _ (record { effect = A; saves = tt; due-small = tt }) (record { effect = A; saves = tt; due-small = tt })
-  reaches (stage.Delete (del.Removal rem.FreeNode)) e k = record { effect = rem-own _ e k refl; saves = tt; due-small = tt }
-  reaches (stage.Delete (del.Removal rem.Retire)) e k = record { effect = rem-own _ e k refl; saves = tt; due-small = tt }
+  reaches (stage.Removal job (rem.Search a)) e k = let A = at-place _ e k in
+      reach-delete-searched job N (sight v (v .pr p) (key v (v .pr p .own)) a) a
+      (searchStep (sight v (v .pr p) (key v (v .pr p .own)) a) a) (A .1) (A .2)
+  reaches (stage.Removal job rem.HoldNode) e k =
+      cond-elim (Reach N) (eqb (v .nl (v .pr p .own)) 0) _ _
+      (record { effect = rem-own job _ e k refl; saves = tt; due-small = tt })
+      (record { effect = tt; saves = tt; due-small = tt })
+  reaches (stage.Removal job (rem.Seek j)) e k = let A = at-place _ e k in
+      reach-delete-sought job N (sight v (v .pr p) (key v (v .pr p .own)) (seekPart j .place))
+      (seekStep (sight v (v .pr p) (key v (v .pr p .own)) (seekPart j .place)) j)
+      (seek-reaches N (sight v (v .pr p) (key v (v .pr p .own)) (seekPart j .place)) j (A .0)
+      (A .1) (A .2))
+  reaches (stage.Removal job (rem.HoldOwn a)) e k = let A = at-place _ e k in
+      cond-elim (Reach N) (eqb (v .lk (v .pr p .own) (a .level)) 0) _ _
+      (record { effect = (rem-own job _ e k refl .1, A .1, A .2); saves = tt; due-small = tt })
+      (record { effect = tt; saves = tt; due-small = tt })
+  reaches (stage.Removal job (rem.Unlink a)) e k = let A = at-place _ e k in
+      record { effect = A; saves = tt; due-small = tt }
+  reaches (stage.Removal job (rem.Back a)) e k = let A = at-place _ e k in
+      record { effect = (rem-own job _ e k refl .1, A .1, A .2); saves = tt; due-small = tt }
+  reaches (stage.Removal job (rem.FreeOwn a)) e k = let A = at-place _ e k in
+      record { effect = (rem-own job _ e k refl .1, A .1, A .2); saves = tt; due-small = tt }
+  reaches (stage.Removal job (rem.FreeLevel a)) e k = let A = at-place _ e k in
+      cond-elim (Reach N) (leb (a .level) 1) _ _ (record { effect = A; saves = tt; due-small = tt })
+      (record { effect = A; saves = tt; due-small = tt })
+  reaches (stage.Removal job rem.FreeNode) e k =
+      record { effect = rem-own job _ e k refl; saves = tt; due-small = tt }
+  reaches (stage.Removal job rem.Retire) e k =
+      record { effect = rem-own job _ e k refl; saves = tt; due-small = tt }
 
 own-small : (v : View) (u : ℕ → ℕ → ℕ) (I : Inv v u) (p : ℕ) → 1 ≤ claim v p .kind → v .pr p .own ≤ v .nodes + 1
 own-small v u I p k = elim (ℕ-discrete (claim v p .kind) 1) [

@@ -1,10 +1,14 @@
 -- The book and the record: B1 and B2, kept by every step.
 use mathlib.Core.Path.{_≡_, refl, sym, ap, subst, _∙_}
 use mathlib.Core.Bool.{true, false}
-use Prim.Native.Nat.{ℕ, zero, suc, _+_, _≤_}
+use Prim.Native.Nat.{ℕ, _+_, _≤_}
 use native.Mathlib.Omega.{arith}
 use native.Mathlib.Decide.{ℕ-discrete}
 use lib.Dec.{ltb}
+use Rattle.record.specs.declared.stages.Job.{Job}
+use Rattle.record.specs.declared.stages.Job.the-variants as jobs
+use Rattle.record.specs.declared.stages.Stage.{Stage}
+use Rattle.record.specs.declared.stages.Stage.the-variants as stage
 use Rattle.rules.specs.declared.answers.Answer.{Answer}
 use Rattle.rules.specs.declared.answers.Answer.the-variants as ans
 use Rattle.rules.specs.declared.decisions.Effect.{Effect}
@@ -15,16 +19,27 @@ use Rattle.laws.proofs.Updating.{upd-same, upd-other}
 use Rattle.rules.specs.Effects.{beginAfter}
 use Rattle.rules.proofs.View.{Pr, View, info, claim}
 use Rattle.rules.proofs.Facts.{kind-any}
+use Rattle.rules.proofs.StageKinds.{kind-busy}
 use Rattle.rules.proofs.Assemble.{ticked}
 use Rattle.rules.proofs.Machine.{effected, prAfter, carried}
 use Rattle.rules.specs.Book.{Line, Open, nothing, inserting, deleting, delivering, Book, agrees, moves, feedStep}
 
--- B1: what a processor has open, by its kind, its begin and its own node's ticket
-abbrev pub opens : ℕ → ℕ → ℕ → Open
-opens zero T t = nothing
-opens (suc zero) T t = inserting t
-opens (suc (suc zero)) T t = deleting T
-opens (suc (suc (suc k))) T t = delivering t
+-- B1: what a processor has open, by its stage, its begin and its own node's ticket
+abbrev pub opensFor : Job → ℕ → Open
+opensFor jobs.Deliver t = delivering t
+
+abbrev pub opens : Stage → ℕ → ℕ → Open
+opens stage.Idle T t = nothing
+opens (stage.Insert i) T t = inserting t
+opens (stage.Delete d) T t = deleting T
+opens (stage.Removal job r) T t = opensFor job t
+
+pub opens-idle : (h : ℕ) (s : Stage) → info h s .kind ≡ 0 → (T t : ℕ) → opens s T t ≡ nothing
+opens-idle h stage.Idle k T t = refl
+opens-idle h (stage.Insert i) k T t = absurd (omega (arith, kind-busy h (stage.Insert i) refl))
+opens-idle h (stage.Delete d) k T t = absurd (omega (arith, kind-busy h (stage.Delete d) refl))
+opens-idle h (stage.Removal job r) k T t =
+    absurd (omega (arith, kind-busy h (stage.Removal job r) refl))
 
 abbrev pub lineOf : (ℕ → ℕ) → (ℕ → ℕ) → (ℕ → ℕ) → (ℕ → ℕ) → ℕ → Line
 lineOf due item st mk n = record { written = true; due = due n; item = item n; answeredAt = st n; marked = ltb 0 (mk n); handedOut = false }
@@ -48,7 +63,8 @@ pub record Filed (entry : ℕ → Line) (tick dues items : ℕ → ℕ) (n : ℕ
 
 pub record Rel (v : View) (b : Book) : Type 0 where
   pub count : b .count ≡ v .clock
-  pub opened : (p : ℕ) → b .opened p ≡ opens (claim v p .kind) (v .pr p .begin) (v .tick (v .pr p .own))
+  pub opened : (p : ℕ) → b .opened p ≡ opens (v .pr p .stage) (v .pr p .begin)
+      (v .tick (v .pr p .own))
   -- B2
   pub kept : (n : ℕ) → 1 ≤ n → n ≤ v .nodes → v .us n ≡ 1 → b .entry (v .tick n) ≡ lineOf (v .due) (v .item) (v .st) (v .mk) n
   pub found : (t : ℕ) → b .entry t .written ≡ true → b .entry t .marked ≡ false → Found (v .us) (v .tick) (v .nodes) t
@@ -85,12 +101,13 @@ quiet (eff.Stamp x) = ⊥
 quiet (eff.Retire x) = ⊥
 quiet (eff.Fill x d i h) = ⊥
 
-pub record Quiet (own kind : ℕ) (d : Decision) : Type 0 where
+pub record Quiet (own : ℕ) (s : Stage) (d : Decision) : Type 0 where
   pub answer : moving (d .answer)
   pub effect : quiet (d .effect)
   pub own-same : d .own ≡ own
   pub begin-same : (t begin : ℕ) → beginAfter t begin (d .carry) ≡ begin
-  pub kind-same : (h : ℕ) → info h (d .stage) .kind ≡ kind
+  pub kind-same : (h : ℕ) → info h (d .stage) .kind ≡ info h s .kind
+  pub opens-same : (T t : ℕ) → opens (d .stage) T t ≡ opens s T t
 
 rel-effected : (v : View) (p : ℕ) (b : Book) (e : Effect) → quiet e → Rel v b → Rel (effected v e p) b
 rel-effected v p b eff.Keep q R = R
@@ -133,42 +150,58 @@ pub still-past : {t n : ℕ} → (1 ≤ t) × (t ≤ n) → (1 ≤ t) × (t ≤ 
 still-past {t} {n} h = (h .0, omega (arith, h .1))
 
 rel-ticked : (w : View) (b : Book) (p : ℕ) (c : Pr) → Rel w b → c .begin ≡ w .pr p .begin → c .own ≡ w .pr p .own →
-    info (w .ht (c .own)) (c .stage) .kind ≡ claim w p .kind → Rel (ticked w p c) (counted b)
-rel-ticked w b p c R began own kind =
+    info (w .ht (c .own)) (c .stage) .kind ≡ claim w p .kind →
+    ((T t : ℕ) → opens (c .stage) T t ≡ opens (w .pr p .stage) T t) →
+    Rel (ticked w p c) (counted b)
+rel-ticked w b p c R began own kind same =
     record { count = omega (arith, R .count); opened = λ q. opened q (ℕ-discrete q p); kept = R .kept; found = R .found; filed = λ q. filed q (ℕ-discrete q p); late = λ t w. still-past (R .late t w) }
   where
     filed : (q : ℕ) → Dec (q ≡ p) → claim (ticked w p c) q .kind ≡ 1 → Filed (b .entry) (w .tick) (w .due) (w .item) (upd (w .pr) p c q .own)
     filed q (yes e) = rw (e, upd-same (w .pr) p c) λ k. subst (λ (n : ℕ). Filed (b .entry) (w .tick) (w .due) (w .item) n) (sym own) (R .filed p (sym kind ∙ k))
     filed q (no d) = rw (upd-other (w .pr) p c q d) (R .filed q)
 
-    opened : (q : ℕ) → Dec (q ≡ p) → b .opened q ≡ opens (claim (ticked w p c) q .kind) (upd (w .pr) p c q .begin) (w .tick (upd (w .pr) p c q .own))
-    opened q (yes e) = rw (e, upd-same (w .pr) p c) (R .opened p ∙ sym (ap (λ (k : ℕ). opens k (c .begin) (w .tick (c .own))) kind ∙ ap (λ (k : ℕ). opens (claim w p .kind) k (w .tick (c .own))) began ∙ ap (λ (k : ℕ). opens (claim w p .kind) (w .pr p .begin) (w .tick k)) own))
+    opened : (q : ℕ) → Dec (q ≡ p) →
+        b .opened q ≡ opens (upd (w .pr) p c q .stage) (upd (w .pr) p c q .begin)
+        (w .tick (upd (w .pr) p c q .own))
+    opened q (yes e) =
+        rw (e, upd-same (w .pr) p c)
+        (R .opened p
+        ∙ sym (same (c .begin) (w .tick (c .own))
+        ∙ ap (λ (k : ℕ). opens (w .pr p .stage) k (w .tick (c .own))) began
+        ∙ ap (λ (k : ℕ). opens (w .pr p .stage) (w .pr p .begin) (w .tick k)) own))
     opened q (no d) = rw (upd-other (w .pr) p c q d) (R .opened q)
 
-moves-busy : (b : Book) (k T t : ℕ) → 1 ≤ k → moves b (opens k T t) ≡ agrees (counted b)
-moves-busy b zero T t k≥ = absurd (omega arith)
-moves-busy b (suc zero) T t k≥ = refl
-moves-busy b (suc (suc zero)) T t k≥ = refl
-moves-busy b (suc (suc (suc k))) T t k≥ = refl
+moves-busy : (b : Book) (h : ℕ) (k : Stage) (T t : ℕ) → 1 ≤ info h k .kind →
+    moves b (opens k T t) ≡ agrees (counted b)
+moves-busy b h stage.Idle T t k≥ = absurd (omega arith)
+moves-busy b h (stage.Insert i) T t k≥ = refl
+moves-busy b h (stage.Delete d) T t k≥ = refl
+moves-busy b h (stage.Removal jobs.Deliver r) T t k≥ = refl
 
-fed-moving : (b : Book) (p : ℕ) (k T t : ℕ) → 1 ≤ k → b .opened p ≡ opens k T t → (a : Answer) → moving a → feedStep b p a ≡ agrees (counted b)
-fed-moving b p k T t k≥ e (ans.Refused n) m = absurd m
-fed-moving b p k T t k≥ e (ans.Began n) m = absurd m
-fed-moving b p k T t k≥ e ans.Moved m = rw e (moves-busy b k T t k≥)
-fed-moving b p k T t k≥ e ans.Waits m = rw e (moves-busy b k T t k≥)
-fed-moving b p k T t k≥ e ans.Empty m = absurd m
-fed-moving b p k T t k≥ e (ans.Marked x) m = absurd m
-fed-moving b p k T t k≥ e (ans.Inserted x) m = absurd m
-fed-moving b p k T t k≥ e (ans.HandedOut x) m = absurd m
+fed-moving : (b : Book) (p h : ℕ) (k : Stage) (T t : ℕ) → 1 ≤ info h k .kind →
+    b .opened p ≡ opens k T t → (a : Answer) → moving a → feedStep b p a ≡ agrees (counted b)
+fed-moving b p h k T t k≥ e (ans.Refused n) m = absurd m
+fed-moving b p h k T t k≥ e (ans.Began n) m = absurd m
+fed-moving b p h k T t k≥ e ans.Moved m = rw e (moves-busy b h k T t k≥)
+fed-moving b p h k T t k≥ e ans.Waits m = rw e (moves-busy b h k T t k≥)
+fed-moving b p h k T t k≥ e ans.Empty m = absurd m
+fed-moving b p h k T t k≥ e (ans.Marked x) m = absurd m
+fed-moving b p h k T t k≥ e (ans.Inserted x) m = absurd m
+fed-moving b p h k T t k≥ e (ans.HandedOut x) m = absurd m
 
-pub quiet-booked : (v : View) (p : ℕ) (b : Book) (d : Decision) → Rel v b → 1 ≤ claim v p .kind → Quiet (v .pr p .own) (claim v p .kind) d → Booked v p b d
+pub quiet-booked : (v : View) (p : ℕ) (b : Book) (d : Decision) → Rel v b → 1 ≤ claim v p .kind →
+    Quiet (v .pr p .own) (v .pr p .stage) d → Booked v p b d
 quiet-booked v p b d R busy Q =
     record {
       after = counted b;
-      fed = fed-moving b p (claim v p .kind) (v .pr p .begin) (v .tick (v .pr p .own)) busy (R .opened p) (d .answer) (Q .answer);
+      fed = fed-moving b p (v .ht (v .pr p .own)) (v .pr p .stage) (v .pr p .begin)
+          (v .tick (v .pr p .own)) busy (R .opened p) (d .answer) (Q .answer);
       rel = rel-ticked (effected v (d .effect) p) b p (prAfter (v .top) (v .clock + 1) (v .pr p) d) (rel-effected v p b (d .effect) (Q .effect) R)
           (Q .begin-same (v .clock + 1) (v .pr p .begin) ∙ ap (λ (f : ℕ → Pr). f p .begin) (sym same)) (Q .own-same ∙ ap (λ (f : ℕ → Pr). f p .own) (sym same))
-          (Q .kind-same _ ∙ kind-any _ _ (v .pr p .stage) ∙ ap (λ (f : ℕ → Pr). info (effected v (d .effect) p .ht (f p .own)) (f p .stage) .kind) (sym same));
+          (Q .kind-same _ ∙ kind-any _ _ (v .pr p .stage)
+          ∙ ap (λ (f : ℕ → Pr). info (effected v (d .effect) p .ht (f p .own)) (f p .stage) .kind)
+          (sym same))
+          (λ T t. Q .opens-same T t ∙ ap (λ (f : ℕ → Pr). opens (f p .stage) T t) (sym same));
     }
   where
     same : effected v (d .effect) p .pr ≡ v .pr

@@ -14,7 +14,7 @@ use Rattle.rules.proofs.Facts.{kind-any}
 use Rattle.rules.proofs.Assemble.{ticked}
 use Rattle.rules.proofs.Machine.{filled}
 use Rattle.rules.proofs.Begin.{inserter}
-use Rattle.rules.proofs.Rel.{opens, lineOf, Found, Filed, Rel, still-past}
+use Rattle.rules.proofs.Rel.{opens, opens-idle, lineOf, Found, Filed, Rel, still-past}
 
 module _ (v : View) (u : ℕ → ℕ → ℕ) (I : Inv v u) (b : Book) (R : Rel v b) (p x d i h : ℕ) (fwd lk : ℕ → ℕ → ℕ)
     (x≥ : 1 ≤ x) (x≤ : x ≤ v .nodes) (free : v .us x ≡ 1 → ⊥) (own-ne : (q : ℕ) → 1 ≤ claim v q .kind → v .pr q .own ≡ x → ⊥) where
@@ -31,16 +31,21 @@ module _ (v : View) (u : ℕ → ℕ → ℕ) (I : Inv v u) (b : Book) (R : Rel 
   rel-insert = record { count = omega (arith, R .count); opened = λ q. opened q (ℕ-discrete q p); kept = λ n. kept′ n (ℕ-discrete n x); found = λ s. found s (ℕ-discrete s t); filed = λ q. filed q (ℕ-discrete q p); late = λ s. late s (ℕ-discrete s t) }
     where
       opened : (q : ℕ) → Dec (q ≡ p) → upd (b .opened) p (inserting t) q ≡
-          opens (info (w .ht (upd (v .pr) p (inserter v p x) q .own)) (upd (v .pr) p (inserter v p x) q .stage) .kind) (upd (v .pr) p (inserter v p x) q .begin) (w .tick (upd (v .pr) p (inserter v p x) q .own))
+          opens (upd (v .pr) p (inserter v p x) q .stage) (upd (v .pr) p (inserter v p x) q .begin)
+          (w .tick (upd (v .pr) p (inserter v p x) q .own))
       opened q (yes e) = rw (e, upd-same (v .pr) p (inserter v p x), upd-same (b .opened) p (inserting t), upd-same (v .tick) x t)
       opened q (no ne) = rw (upd-other (v .pr) p (inserter v p x) q ne, upd-other (b .opened) p (inserting t) q ne) (same (ℕ-discrete (claim v q .kind) 0))
         where
-          kinds : info (w .ht (v .pr q .own)) (v .pr q .stage) .kind ≡ claim v q .kind
-          kinds = kind-any (w .ht (v .pr q .own)) (v .ht (v .pr q .own)) (v .pr q .stage)
-
-          same : Dec (claim v q .kind ≡ 0) → b .opened q ≡ opens (info (w .ht (v .pr q .own)) (v .pr q .stage) .kind) (v .pr q .begin) (w .tick (v .pr q .own))
-          same (yes z) = R .opened q ∙ (ap (λ (k : ℕ). opens k (v .pr q .begin) (v .tick (v .pr q .own))) z ∙ sym (ap (λ (k : ℕ). opens k (v .pr q .begin) (w .tick (v .pr q .own))) (kinds ∙ z)))
-          same (no z) = R .opened q ∙ sym (ap (λ (k : ℕ). opens k (v .pr q .begin) (w .tick (v .pr q .own))) kinds ∙ ap (λ (k : ℕ). opens (claim v q .kind) (v .pr q .begin) k) (upd-other (v .tick) x t (v .pr q .own) (own-ne q (omega arith))))
+          same : Dec (claim v q .kind ≡ 0) → b .opened q ≡ opens (v .pr q .stage) (v .pr q .begin)
+              (w .tick (v .pr q .own))
+          same (yes z) = R .opened q
+              ∙ (opens-idle (v .ht (v .pr q .own)) (v .pr q .stage) z (v .pr q .begin)
+              (v .tick (v .pr q .own))
+              ∙ sym (opens-idle (v .ht (v .pr q .own)) (v .pr q .stage) z (v .pr q .begin)
+              (w .tick (v .pr q .own))))
+          same (no z) = R .opened q
+              ∙ sym (ap (λ (k : ℕ). opens (v .pr q .stage) (v .pr q .begin) k)
+              (upd-other (v .tick) x t (v .pr q .own) (own-ne q (omega arith))))
 
       kept′ : (n : ℕ) → Dec (n ≡ x) → 1 ≤ n → n ≤ v .nodes → w .us n ≡ 1 → upd (b .entry) t new-line (w .tick n) ≡ lineOf (w .due) (w .item) (w .st) (w .mk) n
       kept′ n (yes e) = rw (e, upd-same (v .tick) x t, upd-same (b .entry) t new-line, upd-same (v .due) x d, upd-same (v .item) x i, upd-same (v .st) x ever, upd-same (v .mk) x 0) λ n≥ n≤ nu. refl

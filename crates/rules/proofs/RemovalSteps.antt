@@ -6,9 +6,9 @@ use native.Mathlib.Decide.{ℕ-discrete}
 use Rattle.record.specs.declared.stages.Place.{Place}
 use Rattle.record.specs.declared.stages.Seek.{Seek}
 use Rattle.record.specs.declared.stages.Seek.the-variants as seek
-use Rattle.record.specs.declared.stages.Delete.the-variants as del
 use Rattle.record.specs.declared.stages.Removal.{Removal}
 use Rattle.record.specs.declared.stages.Removal.the-variants as rem
+use Rattle.record.specs.declared.stages.Job.{Job}
 use Rattle.record.specs.declared.stages.Stage.the-variants as stage
 use Rattle.record.specs.Stages.{place}
 use Rattle.laws.specs.Update.{upd}
@@ -29,16 +29,18 @@ use Rattle.rules.proofs.Move.{staged, near-none, lock-kept, free-kept, 
 use Rattle.rules.proofs.Search.{saving, saved-more}
 use Rattle.rules.proofs.InsertSteps.{idle, head-readable, lock-step, yielding}
 
-module _ (v : View) (u : ℕ → ℕ → ℕ) (I : Inv v u) (room : v .clock + 1 < ever) (p : ℕ) where
+module _ (v : View) (u : ℕ → ℕ → ℕ) (I : Inv v u) (room : v .clock + 1 < ever) (p : ℕ)
+    (job : Job) where
   -- the search is left for L1
-  pub delete-left : (a : Place) → v .pr p .stage ≡ stage.Delete (del.Removal (rem.Search a)) → a .level ≤ 1 →
-      Inv (ticked v p (saving (v .pr p) a (stage.Delete (del.Removal rem.HoldNode)))) u
+  pub delete-left : (a : Place) → v .pr p .stage ≡ stage.Removal job (rem.Search a) → a .level ≤ 1 →
+      Inv (ticked v p (saving (v .pr p) a (stage.Removal job rem.HoldNode))) u
   delete-left a e le =
-      let s = stage.Delete (del.Removal (rem.Search a)) in
+      let s = stage.Removal job (rem.Search a) in
       let B = busy-at v u I p s e (omega arith) in
       let S = B .removes refl in
       let G = head-readable v u I (v .pr p .begin) (key v (v .pr p .own)) 1 (I .core .levels) (omega (arith, B .begun-by)) (I .core .ends .keys (v .pr p .own) (S .low) (omega (arith, S .high)) .0) in
-      lock-step v u I room p s e (omega arith) (stage.Delete (del.Removal rem.HoldNode)) (v .lk) (save-at (v .pr p .saved) (a .level) (a .node))
+      lock-step v u I room p s e (omega arith) (stage.Removal job rem.HoldNode) (v .lk)
+      (save-at (v .pr p .saved) (a .level) (a .node))
       (λ h. omega arith) (λ q n i ne h. h) refl (λ h. omega arith) (λ k h. omega arith)
       (record {
         begun = B .begun;
@@ -59,9 +61,10 @@ module _ (v : View) (u : ℕ → ℕ → ℕ) (I : Inv v u) (room : v .clock + 1
       })
 
   -- L1
-  pub node-waits : v .pr p .stage ≡ stage.Delete (del.Removal rem.HoldNode) → Inv (ticked v p (staged (v .pr p) (stage.Delete (del.Removal rem.HoldNode)))) u
+  pub node-waits : v .pr p .stage ≡ stage.Removal job rem.HoldNode →
+      Inv (ticked v p (staged (v .pr p) (stage.Removal job rem.HoldNode))) u
   node-waits e =
-      let s = stage.Delete (del.Removal rem.HoldNode) in
+      let s = stage.Removal job rem.HoldNode in
       let B = busy-at v u I p s e (omega arith) in
       lock-step v u I room p s e (omega arith) s (v .lk) (v .pr p .saved) (λ h. omega arith) (λ q n i ne h. h) refl (λ h. omega arith) (λ k h. omega arith)
       (record {
@@ -82,15 +85,24 @@ module _ (v : View) (u : ℕ → ℕ → ℕ) (I : Inv v u) (room : v .clock + 1
         walks = λ h. absurd (omega arith);
       })
 
-  pub node-held : v .pr p .stage ≡ stage.Delete (del.Removal rem.HoldNode) → v .nl (v .pr p .own) ≡ 0 →
-      Inv (ticked (withLocks v (v .lk) (upd (v .nl) (v .pr p .own) (suc p))) p (staged (v .pr p) (stage.Delete (del.Removal (rem.Seek (seek.Approach (place (v .pr p .saved (v .ht (v .pr p .own))) (v .ht (v .pr p .own))))))))) u
+  pub node-held : v .pr p .stage ≡ stage.Removal job rem.HoldNode → v .nl (v .pr p .own) ≡ 0 →
+      Inv (ticked (withLocks v (v .lk) (upd (v .nl) (v .pr p .own) (suc p))) p
+      (staged (v .pr p)
+      (stage.Removal job
+      (rem.Seek (seek.Approach
+      (place (v .pr p .saved (v .ht (v .pr p .own))) (v .ht (v .pr p .own)))))))) u
   node-held e free =
-      let s = stage.Delete (del.Removal rem.HoldNode) in
+      let s = stage.Removal job rem.HoldNode in
       let B = busy-at v u I p s e (omega arith) in
       let S = B .removes refl in
       let E = I .core .entered (v .pr p .own) (S .low) (omega (arith, S .high)) in
       let G = B .saved (v .ht (v .pr p .own)) (E .low-height) (E .low-height) (E .high-height) in
-      locked v u I room p (staged (v .pr p) (stage.Delete (del.Removal (rem.Seek (seek.Approach (place (v .pr p .saved (v .ht (v .pr p .own))) (v .ht (v .pr p .own)))))))) (v .lk) (upd (v .nl) (v .pr p .own) (suc p))
+      locked v u I room p
+      (staged (v .pr p)
+      (stage.Removal job
+      (rem.Seek (seek.Approach
+      (place (v .pr p .saved (v .ht (v .pr p .own))) (v .ht (v .pr p .own))))))) (v .lk)
+      (upd (v .nl) (v .pr p .own) (suc p))
       (λ n n≥ n< z f. absurd (f (taken n z (ℕ-discrete n (v .pr p .own))))) (omega (arith, kind-at v u I p s e)) (λ b. refl)
       (λ h. omega (arith, nx-at v u I p s e)) (λ q n i ne h. h) (λ q n ne h. rw (upd-other (v .nl) (v .pr p .own) (suc p) n (λ f. omega (arith, (rw f at h)))) h)
       (λ q ne k t z f. absurd (f (taken (v .pr q .own) z (ℕ-discrete (v .pr q .own) (v .pr p .own)))))
@@ -113,7 +125,11 @@ module _ (v : View) (u : ℕ → ℕ → ℕ) (I : Inv v u) (room : v .clock + 1
       })
       (λ x. (sym (kind-at v u I p s e), refl))
       -- an Insert of the same node that still held its node lock would hold this one
-      (yields-new (withLocks v (v .lk) (upd (v .nl) (v .pr p .own) (suc p))) u p (staged (v .pr p) (stage.Delete (del.Removal (rem.Seek (seek.Approach (place (v .pr p .saved (v .ht (v .pr p .own))) (v .ht (v .pr p .own)))))))) (I .yields)
+      (yields-new (withLocks v (v .lk) (upd (v .nl) (v .pr p .own) (suc p))) u p
+      (staged (v .pr p)
+      (stage.Removal job
+      (rem.Seek (seek.Approach
+      (place (v .pr p .saved (v .ht (v .pr p .own))) (v .ht (v .pr p .own))))))) (I .yields)
       (λ h t q ne k o. unheld q k o (ℕ-discrete (claim v q .hn) 1)) (λ h. absurd (omega arith)))
     where
       taken : (n : ℕ) → upd (v .nl) (v .pr p .own) (suc p) n ≡ 0 → Dec (n ≡ v .pr p .own) → v .nl n ≡ 0
@@ -125,10 +141,11 @@ module _ (v : View) (u : ℕ → ℕ → ℕ) (I : Inv v u) (room : v .clock + 1
       unheld q k o (no d) = omega (arith, sure v q .hn-high)
 
   -- G3 done: a leads to own
-  pub delete-done : (a : Place) → v .pr p .stage ≡ stage.Delete (del.Removal (rem.Seek (seek.Confirm a))) → key v (v .pr p .own) ≤ key v (v .fwd (a .node) (a .level)) →
-      Inv (ticked v p (staged (v .pr p) (stage.Delete (del.Removal (rem.HoldOwn a))))) u
+  pub delete-done : (a : Place) → v .pr p .stage ≡ stage.Removal job (rem.Seek (seek.Confirm a)) →
+      key v (v .pr p .own) ≤ key v (v .fwd (a .node) (a .level)) →
+      Inv (ticked v p (staged (v .pr p) (stage.Removal job (rem.HoldOwn a)))) u
   delete-done a e le =
-      let s = stage.Delete (del.Removal (rem.Seek (seek.Confirm a))) in
+      let s = stage.Removal job (rem.Seek (seek.Confirm a)) in
       let o = v .pr p .own in
       let B = busy-at v u I p s e (omega arith) in
       let S = B .removes refl in
@@ -137,7 +154,9 @@ module _ (v : View) (u : ℕ → ℕ → ℕ) (I : Inv v u) (room : v .clock + 1
       let o-on = S .linked refl (a .level) (B .low) (omega arith) in
       let k : key v (v .fwd (a .node) (a .level)) ≡ key v o = omega (arith, N .none o (omega (arith, S .high)) o-on (B .place .before)) in
       let next = on-apart v u I (v .fwd (a .node) (a .level)) o (a .level) (N .below) (omega (arith, S .high)) (N .on) o-on k in
-      lock-step v u I room p s e (omega arith) (stage.Delete (del.Removal (rem.HoldOwn a))) (v .lk) (v .pr p .saved) (λ h. omega arith) (λ q n i ne h. h) refl (λ h. omega arith) (λ k h. omega arith)
+      lock-step v u I room p s e (omega arith) (stage.Removal job (rem.HoldOwn a)) (v .lk)
+      (v .pr p .saved) (λ h. omega arith) (λ q n i ne h. h) refl (λ h. omega arith)
+      (λ k h. omega arith)
       (record {
         begun = B .begun;
         begun-by = omega (arith, B .begun-by);
@@ -157,9 +176,10 @@ module _ (v : View) (u : ℕ → ℕ → ℕ) (I : Inv v u) (room : v .clock + 1
       })
 
   -- L2
-  pub own-waits : (a : Place) → v .pr p .stage ≡ stage.Delete (del.Removal (rem.HoldOwn a)) → Inv (ticked v p (staged (v .pr p) (stage.Delete (del.Removal (rem.HoldOwn a))))) u
+  pub own-waits : (a : Place) → v .pr p .stage ≡ stage.Removal job (rem.HoldOwn a) →
+      Inv (ticked v p (staged (v .pr p) (stage.Removal job (rem.HoldOwn a)))) u
   own-waits a e =
-      let s = stage.Delete (del.Removal (rem.HoldOwn a)) in
+      let s = stage.Removal job (rem.HoldOwn a) in
       let B = busy-at v u I p s e (omega arith) in
       lock-step v u I room p s e (omega arith) s (v .lk) (v .pr p .saved) (λ h. omega arith) (λ q n i ne h. h) refl (λ h. omega arith) (λ k h. omega arith)
       (record {
@@ -180,12 +200,15 @@ module _ (v : View) (u : ℕ → ℕ → ℕ) (I : Inv v u) (room : v .clock + 1
         walks = λ h. absurd (omega arith);
       })
 
-  pub own-held : (a : Place) → v .pr p .stage ≡ stage.Delete (del.Removal (rem.HoldOwn a)) → v .lk (v .pr p .own) (a .level) ≡ 0 →
-      Inv (ticked (withLocks v (put (v .lk) (v .pr p .own) (a .level) (suc p)) (v .nl)) p (staged (v .pr p) (stage.Delete (del.Removal (rem.Unlink a))))) u
+  pub own-held : (a : Place) → v .pr p .stage ≡ stage.Removal job (rem.HoldOwn a) →
+      v .lk (v .pr p .own) (a .level) ≡ 0 →
+      Inv (ticked (withLocks v (put (v .lk) (v .pr p .own) (a .level) (suc p)) (v .nl)) p
+      (staged (v .pr p) (stage.Removal job (rem.Unlink a)))) u
   own-held a e free =
-      let s = stage.Delete (del.Removal (rem.HoldOwn a)) in
+      let s = stage.Removal job (rem.HoldOwn a) in
       let B = busy-at v u I p s e (omega arith) in
-      lock-step v u I room p s e (omega arith) (stage.Delete (del.Removal (rem.Unlink a))) _ (v .pr p .saved) (λ h. omega arith)
+      lock-step v u I room p s e (omega arith) (stage.Removal job (rem.Unlink a)) _ (v .pr p .saved)
+      (λ h. omega arith)
       (λ q n i ne h. free-kept (v .lk) (v .pr p .own) (a .level) (suc p) free q n i h) refl (λ h. omega arith) (λ k h. omega arith)
       (record {
         begun = B .begun;
@@ -206,15 +229,17 @@ module _ (v : View) (u : ℕ → ℕ → ℕ) (I : Inv v u) (room : v .clock + 1
       })
 
   -- L3
-  pub delete-unlink : (a : Place) → v .pr p .stage ≡ stage.Delete (del.Removal (rem.Unlink a)) →
-      Inv (ticked (withFwd v (put (v .fwd) (a .node) (a .level) (v .fwd (v .pr p .own) (a .level)))) p (staged (v .pr p) (stage.Delete (del.Removal (rem.Back a))))) (put u (v .pr p .own) (a .level) (v .clock + 1))
+  pub delete-unlink : (a : Place) → v .pr p .stage ≡ stage.Removal job (rem.Unlink a) →
+      Inv (ticked (withFwd v (put (v .fwd) (a .node) (a .level) (v .fwd (v .pr p .own) (a .level))))
+      p (staged (v .pr p) (stage.Removal job (rem.Back a))))
+      (put u (v .pr p .own) (a .level) (v .clock + 1))
   delete-unlink a e =
-      let s = stage.Delete (del.Removal (rem.Unlink a)) in
+      let s = stage.Removal job (rem.Unlink a) in
       let o = v .pr p .own in
       let i = a .level in
       let x = v .fwd o i in
       let t = v .clock + 1 in
-      let c′ = staged (v .pr p) (stage.Delete (del.Removal (rem.Back a))) in
+      let c′ = staged (v .pr p) (stage.Removal job (rem.Back a)) in
       let B = busy-at v u I p s e (omega arith) in
       let S = B .removes refl in
       let on = B .near .on (omega arith) in
@@ -266,22 +291,25 @@ module _ (v : View) (u : ℕ → ℕ → ℕ) (I : Inv v u) (room : v .clock + 1
         walks = λ h. absurd (omega arith);
       })
       (λ b. (sym (kind-at v u I p s e), refl))
-      (yielding v u I room p s e (omega arith) (stage.Delete (del.Removal (rem.Back a))) (v .lk) (v .nl) (v .pr p .saved) refl (λ h. omega arith) (λ k h. omega arith))
+      (yielding v u I room p s e (omega arith) (stage.Removal job (rem.Back a)) (v .lk) (v .nl)
+      (v .pr p .saved) refl (λ h. omega arith) (λ k h. omega arith))
     where
       off-from : (j : ℕ) → Dec (j ≡ a .level) → ((j ≡ a .level → ⊥) → u (v .pr p .own) j < ever) → put u (v .pr p .own) (a .level) (v .clock + 1) (v .pr p .own) j < ever
       off-from j (yes f) k = rw (f, put-same u (v .pr p .own) (a .level) (v .clock + 1)) room
       off-from j (no d) k = rw (put-other u (v .pr p .own) (a .level) (v .clock + 1) (v .pr p .own) j (λ f g. d g)) (k d)
 
   -- L4
-  pub delete-back : (a : Place) → v .pr p .stage ≡ stage.Delete (del.Removal (rem.Back a)) →
-      Inv (ticked (withFwd v (put (v .fwd) (v .pr p .own) (a .level) (a .node))) p (staged (v .pr p) (stage.Delete (del.Removal (rem.FreeOwn a))))) u
+  pub delete-back : (a : Place) → v .pr p .stage ≡ stage.Removal job (rem.Back a) →
+      Inv (ticked (withFwd v (put (v .fwd) (v .pr p .own) (a .level) (a .node))) p
+      (staged (v .pr p) (stage.Removal job (rem.FreeOwn a)))) u
   delete-back a e =
-      let s = stage.Delete (del.Removal (rem.Back a)) in
+      let s = stage.Removal job (rem.Back a) in
       let o = v .pr p .own in
       let B = busy-at v u I p s e (omega arith) in
       let S = B .removes refl in
       let on = B .near .on (omega arith) in
-      own-lead v u I room p (staged (v .pr p) (stage.Delete (del.Removal (rem.FreeOwn a)))) o (a .level) (a .node)
+      own-lead v u I room p (staged (v .pr p) (stage.Removal job (rem.FreeOwn a))) o (a .level)
+      (a .node)
       (omega (arith, kind-at v u I p s e)) (removing (kind-at v u I p s e) (past-at v u I p s e)) refl (S .off refl (a .level) (omega (arith, B .low))) (λ h. level-at v u I p s e)
       (λ q b t. (B .place .below, omega (arith, I .busy q b .begun-by), B .place .before)) (λ b. refl)
       (λ b. record {
@@ -302,15 +330,18 @@ module _ (v : View) (u : ℕ → ℕ → ℕ) (I : Inv v u) (room : v .clock + 1
         walks = λ h. absurd (omega arith);
       })
       (λ b. (sym (kind-at v u I p s e), refl))
-      (yielding v u I room p s e (omega arith) (stage.Delete (del.Removal (rem.FreeOwn a))) (v .lk) (v .nl) (v .pr p .saved) refl (λ h. omega arith) (λ k h. omega arith))
+      (yielding v u I room p s e (omega arith) (stage.Removal job (rem.FreeOwn a)) (v .lk) (v .nl)
+      (v .pr p .saved) refl (λ h. omega arith) (λ k h. omega arith))
 
   -- L5
-  pub delete-free-own : (a : Place) → v .pr p .stage ≡ stage.Delete (del.Removal (rem.FreeOwn a)) →
-      Inv (ticked (withLocks v (put (v .lk) (v .pr p .own) (a .level) 0) (v .nl)) p (staged (v .pr p) (stage.Delete (del.Removal (rem.FreeLevel a))))) u
+  pub delete-free-own : (a : Place) → v .pr p .stage ≡ stage.Removal job (rem.FreeOwn a) →
+      Inv (ticked (withLocks v (put (v .lk) (v .pr p .own) (a .level) 0) (v .nl)) p
+      (staged (v .pr p) (stage.Removal job (rem.FreeLevel a)))) u
   delete-free-own a e =
-      let s = stage.Delete (del.Removal (rem.FreeOwn a)) in
+      let s = stage.Removal job (rem.FreeOwn a) in
       let B = busy-at v u I p s e (omega arith) in
-      lock-step v u I room p s e (omega arith) (stage.Delete (del.Removal (rem.FreeLevel a))) _ (v .pr p .saved) (λ h. omega arith)
+      lock-step v u I room p s e (omega arith) (stage.Removal job (rem.FreeLevel a)) _
+      (v .pr p .saved) (λ h. omega arith)
       (lock-kept (v .lk) p (v .pr p .own) (a .level) 0 (B .holds-own refl)) refl (λ h. omega arith) (λ k h. omega arith)
       (record {
         begun = B .begun;
@@ -331,14 +362,21 @@ module _ (v : View) (u : ℕ → ℕ → ℕ) (I : Inv v u) (room : v .clock + 1
       })
 
   -- L6
-  pub delete-down : (a : Place) → v .pr p .stage ≡ stage.Delete (del.Removal (rem.FreeLevel a)) → 1 < a .level →
-      Inv (ticked (withLocks v (put (v .lk) (a .node) (a .level) 0) (v .nl)) p (staged (v .pr p) (stage.Delete (del.Removal (rem.Seek (seek.Approach (place (v .pr p .saved (a .level - 1)) (a .level - 1)))))))) u
+  pub delete-down : (a : Place) → v .pr p .stage ≡ stage.Removal job (rem.FreeLevel a) →
+      1 < a .level →
+      Inv (ticked (withLocks v (put (v .lk) (a .node) (a .level) 0) (v .nl)) p
+      (staged (v .pr p)
+      (stage.Removal job
+      (rem.Seek (seek.Approach (place (v .pr p .saved (a .level - 1)) (a .level - 1))))))) u
   delete-down a e lt =
-      let s = stage.Delete (del.Removal (rem.FreeLevel a)) in
+      let s = stage.Removal job (rem.FreeLevel a) in
       let B = busy-at v u I p s e (omega arith) in
       let S = B .removes refl in
       let G = B .saved (a .level - 1) (omega arith) (omega arith) (omega (arith, B .high)) in
-      lock-step v u I room p s e (omega arith) (stage.Delete (del.Removal (rem.Seek (seek.Approach (place (v .pr p .saved (a .level - 1)) (a .level - 1)))))) _ (v .pr p .saved) (λ h. omega arith)
+      lock-step v u I room p s e (omega arith)
+      (stage.Removal job
+      (rem.Seek (seek.Approach (place (v .pr p .saved (a .level - 1)) (a .level - 1))))) _
+      (v .pr p .saved) (λ h. omega arith)
       (lock-kept (v .lk) p (a .node) (a .level) 0 (B .holds-place refl)) refl (λ h. omega arith) (λ k h. omega arith)
       (record {
         begun = B .begun;
@@ -358,14 +396,17 @@ module _ (v : View) (u : ℕ → ℕ → ℕ) (I : Inv v u) (room : v .clock + 1
         walks = λ h. absurd (omega arith);
       })
 
-  pub delete-bottom : (a : Place) → v .pr p .stage ≡ stage.Delete (del.Removal (rem.FreeLevel a)) → a .level ≤ 1 →
-      Inv (ticked (withLocks v (put (v .lk) (a .node) (a .level) 0) (v .nl)) p (staged (v .pr p) (stage.Delete (del.Removal rem.FreeNode)))) u
+  pub delete-bottom : (a : Place) → v .pr p .stage ≡ stage.Removal job (rem.FreeLevel a) →
+      a .level ≤ 1 →
+      Inv (ticked (withLocks v (put (v .lk) (a .node) (a .level) 0) (v .nl)) p
+      (staged (v .pr p) (stage.Removal job rem.FreeNode))) u
   delete-bottom a e le =
-      let s = stage.Delete (del.Removal (rem.FreeLevel a)) in
+      let s = stage.Removal job (rem.FreeLevel a) in
       let B = busy-at v u I p s e (omega arith) in
       let S = B .removes refl in
       let G = head-readable v u I (v .pr p .begin) (key v (v .pr p .own)) 1 (I .core .levels) (omega (arith, B .begun-by)) (I .core .ends .keys (v .pr p .own) (S .low) (omega (arith, S .high)) .0) in
-      lock-step v u I room p s e (omega arith) (stage.Delete (del.Removal rem.FreeNode)) _ (v .pr p .saved) (λ h. omega arith)
+      lock-step v u I room p s e (omega arith) (stage.Removal job rem.FreeNode) _ (v .pr p .saved)
+      (λ h. omega arith)
       (lock-kept (v .lk) p (a .node) (a .level) 0 (B .holds-place refl)) refl (λ h. omega arith) (λ k h. omega arith)
       (record {
         begun = B .begun;
@@ -386,15 +427,17 @@ module _ (v : View) (u : ℕ → ℕ → ℕ) (I : Inv v u) (room : v .clock + 1
       })
 
   -- L7
-  pub delete-free : v .pr p .stage ≡ stage.Delete (del.Removal rem.FreeNode) →
-      Inv (ticked (withLocks v (v .lk) (upd (v .nl) (v .pr p .own) 0)) p (staged (v .pr p) (stage.Delete (del.Removal rem.Retire)))) u
+  pub delete-free : v .pr p .stage ≡ stage.Removal job rem.FreeNode →
+      Inv (ticked (withLocks v (v .lk) (upd (v .nl) (v .pr p .own) 0)) p
+      (staged (v .pr p) (stage.Removal job rem.Retire))) u
   delete-free e =
-      let s = stage.Delete (del.Removal rem.FreeNode) in
+      let s = stage.Removal job rem.FreeNode in
       let B = busy-at v u I p s e (omega arith) in
       let S = B .removes refl in
       let held = B .holds-node refl in
       let k = kind-at v u I p s e in
-      locked v u I room p (staged (v .pr p) (stage.Delete (del.Removal rem.Retire))) (v .lk) (upd (v .nl) (v .pr p .own) 0)
+      locked v u I room p (staged (v .pr p) (stage.Removal job rem.Retire)) (v .lk)
+      (upd (v .nl) (v .pr p .own) 0)
       (λ n n≥ n< z f x y. absurd (freed-marked (S .marked) n z f y (ℕ-discrete n (v .pr p .own)))) (omega (arith, kind-at v u I p s e)) (λ b. refl)
       (λ h. omega (arith, nx-at v u I p s e)) (λ q n i ne h. h) (λ q n ne h. rw (upd-other (v .nl) (v .pr p .own) 0 n (λ f. ne (omega (arith, (rw f at h))))) h)
       (λ q ne kq t z f. absurd (freed-own q z f (λ o. ne (I .one q p (omega arith) (omega arith) (λ x. omega arith) o)) (ℕ-discrete (v .pr q .own) (v .pr p .own))))
@@ -416,7 +459,8 @@ module _ (v : View) (u : ℕ → ℕ → ℕ) (I : Inv v u) (room : v .clock + 1
         walks = λ h. absurd (omega arith);
       })
       (λ x. (sym (kind-at v u I p s e), refl))
-      (yielding v u I room p s e (omega arith) (stage.Delete (del.Removal rem.Retire)) (v .lk) (upd (v .nl) (v .pr p .own) 0) (v .pr p .saved) refl (λ h. omega arith) (λ k h. omega arith))
+      (yielding v u I room p s e (omega arith) (stage.Removal job rem.Retire) (v .lk)
+      (upd (v .nl) (v .pr p .own) 0) (v .pr p .saved) refl (λ h. omega arith) (λ k h. omega arith))
     where
       was-free : (n : ℕ) → upd (v .nl) (v .pr p .own) 0 n ≡ 0 → (n ≡ v .pr p .own → ⊥) → v .nl n ≡ 0
       was-free n z d = sym (upd-other (v .nl) (v .pr p .own) 0 n d) ∙ z
@@ -430,10 +474,10 @@ module _ (v : View) (u : ℕ → ℕ → ℕ) (I : Inv v u) (room : v .clock + 1
       freed-own q z f g (no d) = f (was-free (v .pr q .own) z d)
 
   -- L8
-  pub delete-retire : v .pr p .stage ≡ stage.Delete (del.Removal rem.Retire) →
+  pub delete-retire : v .pr p .stage ≡ stage.Removal job rem.Retire →
       Inv (ticked (withStatus v (v .mk) (v .st) (upd (v .us) (v .pr p .own) (v .clock + 1 + 2))) p (idle (v .top) (v .pr p))) u
   delete-retire e =
-      let s = stage.Delete (del.Removal rem.Retire) in
+      let s = stage.Removal job rem.Retire in
       let o = v .pr p .own in
       let B = busy-at v u I p s e (omega arith) in
       let S = B .removes refl in

@@ -7,7 +7,7 @@ use Rattle.record.specs.declared.stages.Place.{Place}
 use Rattle.record.specs.declared.stages.Stage.{Stage}
 use Rattle.record.specs.Stages.{place}
 use Rattle.rules.proofs.Put.{ever, save-at, save-same, save-other}
-use Rattle.rules.proofs.View.{Pr, View, Info, info, claim, key, tail}
+use Rattle.rules.proofs.View.{Pr, View, Info, info, claim, key, tail, last}
 use Rattle.rules.proofs.Inv.{Core, Busy, Readable, Inv, sought}
 use Rattle.rules.proofs.Assemble.{ticked, yields-kept}
 use Rattle.rules.proofs.Locks.{locked}
@@ -16,8 +16,8 @@ use Rattle.rules.proofs.Move.{staged, near-none, ahead}
 abbrev pub saving : Pr → Place → Stage → Pr
 saving c a s = record { begin = c .begin; own = c .own; stage = s; saved = save-at (c .saved) (a .level) (a .node) }
 
-abbrev pub searching : ℕ → ℕ → ℕ → Place → Info
-searching kd hn lo a = record { kind = kd; node = a .node; level = a .level; b = a .node; hp = 0; ho = 0; hn = hn; nx = 0; lo = lo; from = a .level + 1; strict = 0; early = 0; past = 0 }
+abbrev pub searching : ℕ → ℕ → ℕ → ℕ → Place → Info
+searching kd hn lo g a = record { kind = kd; node = a .node; level = a .level; b = a .node; hp = 0; ho = 0; hn = hn; nx = 0; lo = lo; from = a .level + 1; strict = 0; early = 0; past = 0; goal = g; found = 0 }
 
 -- a saved for its level, with those above
 pub saved-more : (u : ℕ → ℕ → ℕ) (k : ℕ → ℕ) (tail top T g : ℕ) (saved : ℕ → ℕ) (a i : ℕ) → 1 ≤ i →
@@ -36,17 +36,19 @@ readable-down v u C T g a i h G =
     let d : u a i ≤ u a (i - 1) = rw e at (C .down a (i - 1) h) in
     record { below = G .below; seen = omega (arith, G .seen); before = G .before }
 
-module _ (v : View) (u : ℕ → ℕ → ℕ) (I : Inv v u) (room : v .clock + 1 < ever) (p : ℕ) (wrap : Place → Stage) (kd hn lo : ℕ)
-    (wraps : (a : Place) → info (v .ht (v .pr p .own)) (wrap a) ≡ searching kd hn lo a) (kd≥ : 1 ≤ kd) (kd≢ : kd ≡ 2 → ⊥)
-    (o≥ : 1 ≤ v .pr p .own) (o≤ : v .pr p .own ≤ v .nodes) (goal : sought (key v) (v .pr p .own) kd ≡ key v (v .pr p .own))
+module _ (v : View) (u : ℕ → ℕ → ℕ) (I : Inv v u) (room : v .clock + 1 < ever) (p : ℕ)
+    (wrap : Place → Stage) (kd hn lo g k : ℕ)
+    (wraps : (a : Place) → info (v .ht (v .pr p .own)) (wrap a) ≡ searching kd hn lo g a)
+    (kd≥ : 1 ≤ kd) (ownless : kd ≡ 2 → v .pr p .own ≡ 0)
+    (k≤ : k ≤ last) (goal : sought (key v) (v .pr p .own) kd g ≡ k)
     (a : Place) (e : v .pr p .stage ≡ wrap a) where
-  now : claim v p ≡ searching kd hn lo a
+  now : claim v p ≡ searching kd hn lo g a
   now = ap (λ (t : Stage). info (v .ht (v .pr p .own)) t) e ∙ wraps a
 
   busy-kind : claim v p .kind ≡ kd
   busy-kind = ap (λ (f : Info). f .kind) now
 
-  pub search-busy : Busy v u p (v .pr p) (searching kd hn lo a)
+  pub search-busy : Busy v u p (v .pr p) (searching kd hn lo g a)
   search-busy = subst (λ (f : Info). Busy v u p (v .pr p) f) now (I .busy p (omega (arith, busy-kind)))
 
   -- any step from here that leaves the node's own things as they are
@@ -58,7 +60,7 @@ module _ (v : View) (u : ℕ → ℕ → ℕ) (I : Inv v u) (room : v .clock + 1
       (λ h. omega (arith, ap (λ (f : Info). f .nx) now)) (λ q n i ne h. h) (λ q n ne h. h) (λ q ne h t z f. absurd (f z)) (λ b. B) (λ b. (kind ∙ sym busy-kind, own))
       (yields-kept v u p c (I .yields) (λ b. (kind ∙ sym busy-kind, own)) (λ h. absurd (omega (arith, past))) (λ x h. omega (arith, node, ap (λ (f : Info). f .hn) now)))
 
-  pub search-ahead : key v (v .fwd (a .node) (a .level)) < key v (v .pr p .own) →
+  pub search-ahead : key v (v .fwd (a .node) (a .level)) < k →
       Inv (ticked v p (staged (v .pr p) (wrap (place (v .fwd (a .node) (a .level)) (a .level))))) u
   search-ahead lt =
       let B = search-busy in
@@ -79,11 +81,14 @@ module _ (v : View) (u : ℕ → ℕ → ℕ) (I : Inv v u) (room : v .clock + 1
         inserts = B .inserts;
         within = B .within;
         removes = B .removes;
-        walks = λ h. absurd (kd≢ h);
+        walks = λ h. record { ownless = ownless h; entry = λ l. absurd (omega arith); named = λ l. absurd (omega arith); stamped = λ l. absurd (omega arith); ahead = λ l. absurd (omega arith) };
       }))
     where
-      readable : Readable u (key v) (tail v) (v .pr p .begin) (sought (key v) (v .pr p .own) kd) (v .fwd (a .node) (a .level)) (a .level)
-      readable = rw goal (ahead v u I p (a .node) (a .level) (omega (arith, busy-kind)) (search-busy .low) o≥ o≤ (rw goal at (search-busy .place)) lt)
+      readable : Readable u (key v) (tail v) (v .pr p .begin) (sought (key v) (v .pr p .own) kd g)
+          (v .fwd (a .node) (a .level)) (a .level)
+      readable = rw goal
+          (ahead v u I p (a .node) (a .level) k (omega (arith, busy-kind)) (search-busy .low) k≤
+          (rw goal at (search-busy .place)) lt)
 
   pub search-down : 1 < a .level → Inv (ticked v p (saving (v .pr p) a (wrap (place (a .node) (a .level - 1))))) u
   search-down lt =
@@ -107,5 +112,5 @@ module _ (v : View) (u : ℕ → ℕ → ℕ) (I : Inv v u) (room : v .clock + 1
         inserts = B .inserts;
         within = λ h. absurd (omega arith);
         removes = B .removes;
-        walks = λ h. absurd (kd≢ h);
+        walks = λ h. record { ownless = ownless h; entry = λ l. absurd (omega arith); named = λ l. absurd (omega arith); stamped = λ l. absurd (omega arith); ahead = λ l. absurd (omega arith) };
       }))

@@ -1,38 +1,46 @@
 -- What is kept by every call of a list: the invariant of the record's view, its relation to the book, and the arrays' lengths.
 use mathlib.Core.Path.{_≡_, refl, sym, ap, subst, _∙_}
-use mathlib.Core.Bool.{true, false, cond, _||_}
+use mathlib.Core.Bool.{true, false}
 use Prim.Native.Nat.{ℕ, _+_, _-_, _≤_, _<_}
 use native.Mathlib.Omega.{arith}
 use native.Mathlib.Decide.{decLe, decLt, ℕ-discrete}
-use lib.Dec.{ltb, leb, eqb}
+use lib.Dec.{ltb}
 use lib.Seq.{getD-set-other}
-use borrow.Author.Tests.{ltb-false, leb-false, eqb-false, eq-eqb}
+use borrow.Author.Tests.{ltb-false, eqb-false, eq-eqb}
 use Rattle.laws.specs.Update.{upd}
 use Rattle.laws.proofs.Updating.{upd-other}
 use Rattle.record.specs.declared.queues.Queue.{Queue}
-use Rattle.checks.specs.Check.{valid}
-use Rattle.checks.specs.Making.{outside}
 use Rattle.record.specs.Queues.{processorAt, freshProcessor}
-use Rattle.record.specs.Stages.{isIdle}
+use Rattle.record.specs.Stages.{place, isIdle}
+use Rattle.record.specs.declared.stages.Delete.the-variants as del
+use Rattle.record.specs.declared.stages.Stage.{Stage}
+use Rattle.record.specs.declared.stages.Stage.the-variants as stage
+use Rattle.rules.specs.declared.decisions.Effect.the-variants as eff
+use Rattle.rules.specs.declared.decisions.Carry.the-variants as carry
 use Rattle.rules.specs.declared.answers.Answer.{Answer}
 use Rattle.rules.specs.declared.answers.Answer.the-variants as ans
 use Rattle.rules.specs.declared.answers.Outcome.{Outcome}
 use Rattle.rules.specs.declared.decisions.Decision.{Decision}
 use Rattle.rules.specs.Answers.{refused}
-use Rattle.rules.specs.Book.{Book, nothing, inserting, deleting, Verdict, agrees, turned, feedInsert, feedDelete, feedStep}
-use Rattle.rules.specs.Calls.{stepDecision, insertDecision, deleteDecision, onNumbers, beginInsert, beginDelete, step}
+use Rattle.rules.specs.Book.{Book, Open, nothing, inserting, deleting, Verdict, agrees}
+use Rattle.rules.specs.Book.{turned, feedInsert, feedDelete, feedStep}
+use Rattle.rules.specs.declared.calls.Call.{Call}
+use Rattle.rules.specs.declared.calls.Call.the-variants as call
+use Rattle.rules.specs.Calls.{stepDecision, insertDecision, decisionOf, processorOf}
+use Rattle.rules.specs.Calls.{called, beginInsert, beginDelete, step}
+use Rattle.rules.proofs.Allowed.{Allowed, of-call, idle-begins, busy-steps, Numbers, numbers}
 use Rattle.rules.specs.Choice.{chosen}
 use Rattle.rules.specs.Effects.{accepted, processorAfter}
 use Rattle.rules.specs.Runs.{after}
 use Rattle.rules.proofs.Put.{ever}
-use Rattle.rules.proofs.View.{View, info, claim, tail}
+use Rattle.rules.proofs.View.{View, Info, info, walking, claim, tail}
 use Rattle.rules.proofs.Inv.{Inv}
 use Rattle.rules.proofs.Machine.{carried, decision, relevel}
-use Rattle.laws.proofs.Booleans.{cond-cases, or-left, or-right}
+use Rattle.laws.proofs.Booleans.{or-left, or-right}
 use Rattle.rules.proofs.Kept.{kept, untilAfter}
 use Rattle.rules.proofs.StageKinds.{kind-idle, kind-busy, idle-false}
-use Rattle.rules.proofs.Begin.{walker, begin-delete, begin-insert, cleared, own-ne}
-use Rattle.rules.proofs.Rel.{opens, Rel}
+use Rattle.rules.proofs.Begin.{walker, begin-walk, begin-insert, cleared, own-ne}
+use Rattle.rules.proofs.Rel.{opens, opens-idle, Rel}
 use Rattle.rules.proofs.RelInsert.{rel-insert}
 use Rattle.rules.proofs.Booked.{booked, rel-open}
 use Rattle.rules.proofs.Concrete.{viewOf}
@@ -85,16 +93,12 @@ module _ (q : Queue) (b : Book) (S : Sound q b) where
         };
       }
 
-  -- the tests that every begin and step makes first
-  tested : (feeds : Answer → Verdict) → ((n : ℕ) → feeds (ans.Refused n) ≡ agrees b) → (p : ℕ) (o : Outcome) →
-      (q .clock + 1 ≤ 999999 → p < q .processors → Agrees feeds o) →
-      Agrees feeds (cond (valid q) (cond (leb 999999 (q .clock)) (refused q 31) (cond (leb (q .processors) p) (refused q 32) o)) (refused q 21))
-  tested feeds r p o h =
-      cond-cases (Agrees feeds) (valid q) _ _
-      (λ _. cond-cases (Agrees feeds) (leb 999999 (q .clock)) _ _ (λ _. refused-agrees feeds 31 (r 31))
-      (λ x. cond-cases (Agrees feeds) (leb (q .processors) p) _ _ (λ _. refused-agrees feeds 32 (r 32))
-      (λ y. h (omega (arith, leb-false 999999 (q .clock) x)) (leb-false (q .processors) p y))))
-      (λ _. refused-agrees feeds 21 (r 21))
+  -- a call, of which a refusal changes nothing in the book
+  of : (c : Call) (feeds : Answer → Verdict) → ((n : ℕ) → feeds (ans.Refused n) ≡ agrees b) →
+      (Allowed q c → Agrees feeds (accepted q (processorOf c) (decisionOf q c))) →
+      Agrees feeds (called q c)
+  of c feeds r h =
+      of-call (Agrees feeds) q c (λ n. refused-agrees feeds n (r n)) (λ _ A. h A)
 
   -- an idle processor holds nothing
   idle-passes : (p : ℕ) → claim v p .kind ≡ 0 → (d : Decision) → ((h : ℕ) (l : Lock) → Takes (d .effect) l → Holds (info h (d .stage)) (d .own) l) → Passes (claim v p) (v .pr p .own) d
@@ -108,11 +112,13 @@ module _ (q : Queue) (b : Book) (S : Sound q b) where
   module _ (p : ℕ) where
     -- what an idle processor has open
     open-idle : isIdle (processorAt q p .stage) ≡ true → b .opened p ≡ nothing
-    open-idle i = S .rel .opened p ∙ ap (λ (n : ℕ). opens n (v .pr p .begin) (v .tick (v .pr p .own))) (kind-idle (v .ht (v .pr p .own)) (processorAt q p .stage) i)
+    open-idle i = S .rel .opened p ∙ opens-idle (v .ht (v .pr p .own)) (processorAt q p .stage)
+        (kind-idle (v .ht (v .pr p .own)) (processorAt q p .stage) i) (v .pr p .begin)
+        (v .tick (v .pr p .own))
 
     pub step-agrees : Agrees (feedStep b p) (step q p)
-    step-agrees = tested (feedStep b p) (λ n. refl) p _
-        (λ t≤ p<. cond-cases (Agrees (feedStep b p)) (isIdle (processorAt q p .stage)) _ _ (λ _. refused-agrees (feedStep b p) 34 refl) (busy t≤ p<))
+    step-agrees = of (call.Step p) (feedStep b p) (λ n. refl)
+        (λ A. busy (omega (arith, A .ticks)) (A .here) (busy-steps _ (A .turn)))
       where
         busy : q .clock + 1 ≤ 999999 → p < q .processors → isIdle (processorAt q p .stage) ≡ false → Agrees (feedStep b p) (accepted q p (stepDecision q (processorAt q p)))
         busy t≤ p< i =
@@ -124,16 +130,30 @@ module _ (q : Queue) (b : Book) (S : Sound q b) where
             (accepted-agrees (feedStep b p) p (decision v p s) (B .after) (untilAfter v (S .until) p s) p< t≤ (reaches v (S .until) (S .inv) p s refl k) (passes v p (v .ht (v .pr p .own)) s)
             (B .fed) (kept v (S .until) (S .inv) (node-held v (S .held)) room p s refl k) (B .rel))
 
+    -- the begin of a walk at the stage s, after which o is open
+    walk-begun : (feeds : Answer → Verdict) (s : Stage) (o : Open) →
+        info (v .ht 0) s ≡ walking 2 0 (place 0 1) → o ≡ opens s (q .clock + 1) (v .tick 0) →
+        (b .opened p ≡ nothing → b .count ≡ q .clock →
+        feeds (ans.Began (q .clock + 1)) ≡ agrees (turned b (b .entry) p o)) →
+        q .clock + 1 ≤ 999999 → p < q .processors → isIdle (processorAt q p .stage) ≡ true →
+        Agrees feeds (accepted q p (record { effect = eff.Keep; stage = s; own = 0; carry = carry.Begin; answer = ans.Began (q .clock + 1) }))
+    walk-begun feeds s o is same fed t≤ p< i =
+        let K = kind-idle (v .ht (v .pr p .own)) (processorAt q p .stage) i in
+        let d : Decision = record { effect = eff.Keep; stage = s; own = 0; carry = carry.Begin; answer = ans.Began (q .clock + 1) } in
+        accepted-agrees feeds p d (turned b (b .entry) p o) (S .until) p< t≤
+        (record { effect = tt; saves = tt; due-small = tt })
+        (idle-passes p K d (λ h l t. absurd t))
+        (fed (open-idle i) (S .rel .count))
+        (begin-walk v (S .until) (S .inv) (omega arith) p K s is)
+        (rel-open v b (S .rel) p (walker v p s) o same
+        (λ k. omega (arith, ap (λ (f : Info). f .kind) is)))
+
     pub delete-agrees : Agrees (feedDelete b p) (beginDelete q p)
-    delete-agrees = tested (feedDelete b p) (λ n. refl) p _
-        (λ t≤ p<. cond-cases (Agrees (feedDelete b p)) (isIdle (processorAt q p .stage)) _ _ (begun t≤ p<) (λ _. refused-agrees (feedDelete b p) 33 refl))
-      where
-        begun : q .clock + 1 ≤ 999999 → p < q .processors → isIdle (processorAt q p .stage) ≡ true → Agrees (feedDelete b p) (accepted q p (deleteDecision q))
-        begun t≤ p< i =
-            let K = kind-idle (v .ht (v .pr p .own)) (processorAt q p .stage) i in
-            accepted-agrees (feedDelete b p) p (deleteDecision q) (turned b (b .entry) p (deleting (q .clock + 1))) (S .until) p< t≤ (record { effect = tt; saves = tt; due-small = tt }) (idle-passes p K (deleteDecision q) (λ h l t. absurd t))
-            (rw (open-idle i, eq-eqb (q .clock + 1) (b .count + 1) (omega (arith, S .rel .count))))
-            (begin-delete v (S .until) (S .inv) (omega arith) p K) (rel-open v b (S .rel) p (walker v p) (deleting (q .clock + 1)) refl (λ k. omega arith))
+    delete-agrees = of (call.DeleteMin p) (feedDelete b p) (λ n. refl)
+        (λ A. walk-begun (feedDelete b p) (stage.Delete (del.Next (place 0 1)))
+        (deleting (q .clock + 1)) refl refl
+        (λ i c. rw (i, eq-eqb (q .clock + 1) (b .count + 1) (omega arith)))
+        (omega (arith, A .ticks)) (A .here) (idle-begins _ (A .turn)))
 
     module _ (due item height : ℕ) where
       insert-begun : q .clock + 1 ≤ 999999 → p < q .processors → isIdle (processorAt q p .stage) ≡ true → due ≤ 999999 → 1 ≤ height → height ≤ q .levels → (x : ℕ) → Free q x →
@@ -182,24 +202,18 @@ module _ (q : Queue) (b : Book) (S : Sound q b) where
               ]
 
       pub insert-agrees : Agrees (feedInsert b p due item) (beginInsert q p due item height)
-      insert-agrees = tested (feedInsert b p due item) (λ n. refl) p _
-          (λ t≤ p<. cond-cases A (isIdle (processorAt q p .stage)) _ _ (λ i. numbers t≤ p< i) (λ _. refused-agrees (feedInsert b p due item) 33 refl))
+      insert-agrees = of (call.Insert p due item height) (feedInsert b p due item) (λ n. refl)
+          (λ A. begun A (numbers p due item height (q .levels) (chosen q) (A .numbers) (A .node)))
         where
-          A : Outcome → Type 0
-          A = Agrees (feedInsert b p due item)
-
-          begun : q .clock + 1 ≤ 999999 → p < q .processors → isIdle (processorAt q p .stage) ≡ true → (ltb 999999 due || ltb 999999 item) ≡ false → outside height (q .levels) ≡ false → eqb (chosen q) 0 ≡ false →
-              A (accepted q p (insertDecision q (chosen q) due item height))
-          begun t≤ p< i x y z =
-              let x≥ : 1 ≤ chosen q = let ne : (chosen q ≡ 0 → ⊥) = eqb-false (chosen q) 0 z in omega arith in
-              insert-begun t≤ p< i (ltb-false 999999 due (or-left (ltb 999999 due) (ltb 999999 item) x)) (ltb-false height 1 (or-left (ltb height 1) (ltb (q .levels) height) y))
-              (ltb-false (q .levels) height (or-right (ltb height 1) (ltb (q .levels) height) y)) (chosen q) (chosen-free q x≥)
-
-          told : (n : ℕ) → A (refused q n)
-          told n = refused-agrees (feedInsert b p due item) n refl
-
-          numbers : q .clock + 1 ≤ 999999 → p < q .processors → isIdle (processorAt q p .stage) ≡ true → A (onNumbers q due item height (accepted q p (insertDecision q (chosen q) due item height)))
-          numbers t≤ p< i = cond-cases A (ltb 999999 due || ltb 999999 item) _ _ (λ _. told 35)
-              (λ x. cond-cases A (eqb item 0) _ _ (λ _. told 39)
-              (λ _. cond-cases A (outside height (q .levels)) _ _ (λ _. told 36)
-              (λ y. cond-cases A (eqb (chosen q) 0) _ _ (λ _. told 37) (λ z. begun t≤ p< i x y z))))
+          begun : Allowed q (call.Insert p due item height) →
+              Numbers due item height (q .levels) (chosen q) →
+              Agrees (feedInsert b p due item) (accepted q p (insertDecision q (chosen q) due item height))
+          begun A n =
+              let x≥ : 1 ≤ chosen q =
+              let ne : (chosen q ≡ 0 → ⊥) = eqb-false (chosen q) 0 (n .node-there) in omega arith in
+              insert-begun (omega (arith, A .ticks)) (A .here) (idle-begins _ (A .turn))
+              (ltb-false 999999 due (or-left (ltb 999999 due) (ltb 999999 item) (n .small)))
+              (ltb-false height 1 (or-left (ltb height 1) (ltb (q .levels) height) (n .height-within)))
+              (ltb-false (q .levels) height
+              (or-right (ltb height 1) (ltb (q .levels) height) (n .height-within)))
+              (chosen q) (chosen-free q x≥)

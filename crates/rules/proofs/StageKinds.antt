@@ -11,6 +11,7 @@ use Rattle.record.specs.declared.stages.Removal.{Removal}
 use Rattle.record.specs.declared.stages.Removal.the-variants as rem
 use Rattle.record.specs.declared.stages.Delete.{Delete}
 use Rattle.record.specs.declared.stages.Delete.the-variants as del
+use Rattle.record.specs.declared.stages.Job.{Job}
 use Rattle.record.specs.declared.stages.Stage.{Stage}
 use Rattle.record.specs.declared.stages.Stage.the-variants as stage
 use Rattle.record.specs.Stages.{isIdle}
@@ -20,6 +21,7 @@ pub kind-idle : (h : ℕ) (s : Stage) → isIdle s ≡ true → info h s .kind �
 kind-idle h stage.Idle e = refl
 kind-idle h (stage.Insert i) e = let z : _≡_ {A = ℕ} 0 1 = cc in absurd (omega arith)
 kind-idle h (stage.Delete i) e = let z : _≡_ {A = ℕ} 0 1 = cc in absurd (omega arith)
+kind-idle h (stage.Removal job r) e = let z : _≡_ {A = ℕ} 0 1 = cc in absurd (omega arith)
 
 kind-insert : (h : ℕ) (i : Insert) → 1 ≤ info h (stage.Insert i) .kind
 kind-insert h (ins.Search a) = omega arith
@@ -37,26 +39,30 @@ kind-delete : (h : ℕ) (i : Delete) → 1 ≤ info h (stage.Delete i) .kind
 kind-delete h (del.Next a) = omega arith
 kind-delete h (del.Stamped a) = omega arith
 kind-delete h (del.Mark a) = omega arith
-kind-delete h (del.Removal (rem.Search a)) = omega arith
-kind-delete h (del.Removal rem.HoldNode) = omega arith
-kind-delete h (del.Removal (rem.Seek (seek.Approach a))) = omega arith
-kind-delete h (del.Removal (rem.Seek (seek.Take a))) = omega arith
-kind-delete h (del.Removal (rem.Seek (seek.Confirm a))) = omega arith
-kind-delete h (del.Removal (rem.Seek (seek.Release a b))) = omega arith
-kind-delete h (del.Removal (rem.HoldOwn a)) = omega arith
-kind-delete h (del.Removal (rem.Unlink a)) = omega arith
-kind-delete h (del.Removal (rem.Back a)) = omega arith
-kind-delete h (del.Removal (rem.FreeOwn a)) = omega arith
-kind-delete h (del.Removal (rem.FreeLevel a)) = omega arith
-kind-delete h (del.Removal rem.FreeNode) = omega arith
-kind-delete h (del.Removal rem.Retire) = omega arith
+
+pub removal-kind : (job : Job) (h : ℕ) (r : Removal) → info h (stage.Removal job r) .kind ≡ 3
+removal-kind job h (rem.Search a) = refl
+removal-kind job h rem.HoldNode = refl
+removal-kind job h (rem.Seek (seek.Approach a)) = refl
+removal-kind job h (rem.Seek (seek.Take a)) = refl
+removal-kind job h (rem.Seek (seek.Confirm a)) = refl
+removal-kind job h (rem.Seek (seek.Release a b)) = refl
+removal-kind job h (rem.HoldOwn a) = refl
+removal-kind job h (rem.Unlink a) = refl
+removal-kind job h (rem.Back a) = refl
+removal-kind job h (rem.FreeOwn a) = refl
+removal-kind job h (rem.FreeLevel a) = refl
+removal-kind job h rem.FreeNode = refl
+removal-kind job h rem.Retire = refl
 
 pub kind-busy : (h : ℕ) (s : Stage) → isIdle s ≡ false → 1 ≤ info h s .kind
 kind-busy h stage.Idle e = let z : _≡_ {A = ℕ} 0 1 = cc in absurd (omega arith)
 kind-busy h (stage.Insert i) e = kind-insert h i
 kind-busy h (stage.Delete i) e = kind-delete h i
+kind-busy h (stage.Removal job r) e = omega (arith, removal-kind job h r)
 
 pub idle-false : (h : ℕ) (s : Stage) → 1 ≤ info h s .kind → isIdle s ≡ false
 idle-false h stage.Idle e = absurd (omega arith)
 idle-false h (stage.Insert i) e = refl
 idle-false h (stage.Delete i) e = refl
+idle-false h (stage.Removal job r) e = refl

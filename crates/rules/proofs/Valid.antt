@@ -25,7 +25,7 @@ use Rattle.rules.specs.declared.decisions.Carry.{Carry}
 use Rattle.rules.specs.declared.decisions.Carry.the-variants as carry
 use Rattle.rules.specs.declared.decisions.Decision.{Decision}
 use Rattle.rules.specs.Effects.{nodeOf, changed, beginAfter, savedAfter, processorAfter, applied}
-use Rattle.rules.specs.Runs.{Call, after, afterAll}
+use Rattle.rules.specs.Runs.{Turn, after, afterAll}
 use Rattle.rules.proofs.Slots.{set-either, below-either, replicate-either}
 use Rattle.rules.proofs.ValidFacts.{Within, ValidNode, ValidPlace, ValidCarried, ValidProcessor, ValidQueue, facts-valid}
 use Rattle.rules.proofs.ValidDecisions.{ValidFill, ValidEffect, ValidCarry, ValidDecision, Does, unchanged, applies, does}
@@ -218,10 +218,10 @@ does-valid : (q r : Queue) → Does q r → valid q ≡ true → valid r ≡ tru
 does-valid q r unchanged v = v
 does-valid q r (applies p d Q c< p< D) v = facts-valid (applied q p d) (applied-valid q p d Q c< p< D)
 
-pub kept-valid : (q : Queue) (c : Call) → valid q ≡ true → valid (after q c) ≡ true
+pub kept-valid : (q : Queue) (c : Turn) → valid q ≡ true → valid (after q c) ≡ true
 kept-valid q c v = does-valid q (after q c) (does q c) v
 
-pub kept-valid-all : (q : Queue) (cs : List Call) → valid q ≡ true → valid (afterAll q cs) ≡ true
+pub kept-valid-all : (q : Queue) (cs : List Turn) → valid q ≡ true → valid (afterAll q cs) ≡ true
 unfolding afterAll
 kept-valid-all q [] v = v
 kept-valid-all q (c ∷ cs) v = kept-valid-all (after q c) cs (kept-valid q c v)
@@ -260,5 +260,5 @@ fresh-valid P N L P≥ P≤ N≥ N≤ L≥ L≤ =
       callers = λ p p<. replicate-either (ValidProcessor s) 16 p freshProcessor freshProcessor (fresh-processor-valid s L≥) (fresh-processor-valid s L≥);
     })
 
-pub reached-valid : (P N L : ℕ) → 1 ≤ P → P ≤ 16 → 1 ≤ N → N ≤ 200 → 1 ≤ L → L ≤ 8 → (cs : List Call) → valid (afterAll (freshQueue P N L) cs) ≡ true
+pub reached-valid : (P N L : ℕ) → 1 ≤ P → P ≤ 16 → 1 ≤ N → N ≤ 200 → 1 ≤ L → L ≤ 8 → (cs : List Turn) → valid (afterAll (freshQueue P N L) cs) ≡ true
 reached-valid P N L P≥ P≤ N≥ N≤ L≥ L≤ cs = kept-valid-all (freshQueue P N L) cs (fresh-valid P N L P≥ P≤ N≥ N≤ L≥ L≤)

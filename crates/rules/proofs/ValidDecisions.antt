@@ -1,5 +1,5 @@
 -- On a record that passes check 21 every call leaves the record as it is, or it applies a decision whose numbers are in range. Assumes nothing.
-use mathlib.Core.Path.{_≡_, refl}
+use mathlib.Core.Path.{_≡_, refl, subst}
 use mathlib.Core.Bool.{Bool, true, false, _&&_, _||_, true≢false, false≢true}
 use Prim.Native.Nat.{ℕ, zero, suc, _+_, _-_, _≤_, _<_}
 use native.Mathlib.Omega.{arith}
@@ -11,6 +11,7 @@ use Rattle.record.specs.declared.nodes.Stamp.the-variants as stamp
 use Rattle.record.specs.declared.nodes.Use.{Use}
 use Rattle.record.specs.declared.queues.Processor.{Processor}
 use Rattle.record.specs.declared.queues.Queue.{Queue}
+use Rattle.record.specs.declared.stages.Carried.{Carried}
 use Rattle.record.specs.declared.stages.Place.{Place}
 use Rattle.record.specs.declared.stages.Seek.{Seek}
 use Rattle.record.specs.declared.stages.Seek.the-variants as seek
@@ -21,13 +22,15 @@ use Rattle.record.specs.declared.stages.Removal.the-variants as rem
 use Rattle.record.specs.declared.stages.Delete.{Delete}
 use Rattle.record.specs.declared.stages.Delete.the-variants as del
 use Rattle.record.specs.declared.stages.Stage.{Stage}
+use Rattle.record.specs.declared.stages.Job.{Job}
+use Rattle.record.specs.declared.stages.Job.the-variants as jobs
 use Rattle.record.specs.declared.stages.Stage.the-variants as stage
-use Rattle.checks.specs.Check.{sizesOf, valid}
+use Rattle.checks.specs.Check.{sizesOf}
 use Rattle.record.specs.Limits.{maxNumber}
 use Rattle.checks.specs.Making.{outside}
 use Rattle.record.specs.Nodes.{stampedBefore}
 use Rattle.record.specs.Queues.{nodeAt, processorAt}
-use Rattle.record.specs.Stages.{place, at, seekCarried, carried, isIdle}
+use Rattle.record.specs.Stages.{place, seekRow, carriedOf, carried}
 use Rattle.rules.specs.declared.answers.Answer.{Answer}
 use Rattle.rules.specs.declared.answers.Outcome.{Outcome}
 use Rattle.rules.specs.declared.decisions.Effect.{Effect}
@@ -43,8 +46,12 @@ use Rattle.rules.specs.declared.decisions.Sought.the-variants as sght
 use Rattle.rules.specs.Choice.{isNever, isRetired, neverUsed, longestRetired, stateOf, allBeganAfter, retirement, chosen}
 use Rattle.rules.specs.Decide
 use Rattle.rules.specs.Effects.{applied}
-use Rattle.rules.specs.Calls.{readingPlace, sightOf, stepDecision, insertDecision, deleteDecision, onRecord, onProcessor}
-use Rattle.rules.specs.Runs.{Call, insert, deleteMin, steps, backlog, after}
+use Rattle.rules.specs.declared.calls.Call.{Call}
+use Rattle.rules.specs.declared.calls.Call.the-variants as call
+use Rattle.rules.specs.Calls.{readingPlace, sightOf, stepDecision, insertDecision}
+use Rattle.rules.specs.Calls.{deleteDecision, decisionOf, processorOf}
+use Rattle.rules.proofs.Allowed.{Allowed, of-call, numbers}
+use Rattle.rules.specs.Runs.{Turn, calls, backlog, after}
 use Rattle.laws.proofs.Booleans.{cond-cases}
 use Rattle.rules.proofs.ValidFacts.{Within, ValidPlace, ValidCarried, ValidProcessor, ValidQueue, valid-facts}
 
@@ -115,7 +122,33 @@ sight-valid q c a Q C P =
       top = C .saved (nodeAt q (c .own) .height - 1) (omega arith);
     }
 
+-- but for a walk, a step reads at the place that its stage carries
+pub insert-reads : (i : Insert) → carried (stage.Insert i) .place ≡ readingPlace (stage.Insert i)
+insert-reads (ins.Search a) = refl
+insert-reads (ins.Seek k) = refl
+insert-reads (ins.Copy a) = refl
+insert-reads (ins.Link a) = refl
+insert-reads (ins.FreeLevel a) = refl
+insert-reads ins.FreeNode = refl
+insert-reads ins.Stamp = refl
+
+pub removal-reads : (job : Job) (r : Removal) → carried (stage.Removal job r) .place
+    ≡ readingPlace (stage.Removal job r)
+removal-reads job (rem.Search a) = refl
+removal-reads job rem.HoldNode = refl
+removal-reads job (rem.Seek k) = refl
+removal-reads job (rem.HoldOwn a) = refl
+removal-reads job (rem.Unlink a) = refl
+removal-reads job (rem.Back a) = refl
+removal-reads job (rem.FreeOwn a) = refl
+removal-reads job (rem.FreeLevel a) = refl
+removal-reads job rem.FreeNode = refl
+removal-reads job rem.Retire = refl
+
 module _ (s : Sizes) (levels : 1 ≤ s .levels) where
+  abbrev at : Bool → Place → Carried
+  at own a = record { own = own; place = a; ahead = a .node; marking = false }
+
   -- a stage with an own node, and one without
   owning : (own : ℕ) (a : Place) → Within own (s .entries) → ValidPlace s a → ValidCarried s (at true a) own
   owning own a O P = record { own-high = omega arith; has-own = λ e. O; place = P; ahead = P .node; marks = λ e. absurd (false≢true e) }
@@ -154,11 +187,11 @@ module _ (s : Sizes) (levels : 1 ≤ s .levels) where
 
   -- what follows a step of a Lock-seek of an operation with this own node
   abbrev ValidSought : ℕ → Sought → Type 0
-  ValidSought own (sght.Goes e k) = (ValidEffect s e) × (ValidCarried s (seekCarried k) own)
-  ValidSought own (sght.Waits k) = ValidCarried s (seekCarried k) own
+  ValidSought own (sght.Goes e k) = (ValidEffect s e) × (ValidCarried s (carriedOf (seekRow 0 k)) own)
+  ValidSought own (sght.Waits k) = ValidCarried s (carriedOf (seekRow 0 k)) own
   ValidSought own (sght.Done a) = ValidPlace s a
 
-  seek-valid : (v : Sight) (k : Seek) → ValidSight s (seekCarried k .place) v → ValidCarried s (seekCarried k) (v .own) → ValidSought (v .own) (Decide.seekStep v k)
+  seek-valid : (v : Sight) (k : Seek) → ValidSight s (carriedOf (seekRow 0 k) .place) v → ValidCarried s (carriedOf (seekRow 0 k)) (v .own) → ValidSought (v .own) (Decide.seekStep v k)
   seek-valid v (seek.Approach a) W G =
       cond-cases (ValidSought (v .own)) (v .before) _ _
       (λ x. (tt, owning (v .own) (place (v .next) (a .level)) (G .has-own refl) (record { node = W .next; level = G .place .level })))
@@ -178,16 +211,13 @@ module _ (s : Sizes) (levels : 1 ≤ s .levels) where
   insert-sought-valid v (sght.Waits k) O R = waits-valid v (stage.Insert (ins.Seek k)) R
   insert-sought-valid v (sght.Done a) O R = moved-valid v eff.Keep (stage.Insert (ins.Copy a)) tt (owning (v .own) a O R)
 
-  removal-sought-valid : (v : Sight) (r : Sought) → Within (v .own) (s .entries) → ValidSought (v .own) r → ValidDecision s (Decide.removalSought v r)
-  removal-sought-valid v (sght.Goes e k) O R = moved-valid v e (Decide.removing (rem.Seek k)) (R .0) (R .1)
-  removal-sought-valid v (sght.Waits k) O R = waits-valid v (Decide.removing (rem.Seek k)) R
-  removal-sought-valid v (sght.Done a) O R = moved-valid v eff.Keep (Decide.removing (rem.HoldOwn a)) tt (owning (v .own) a O R)
-
-  seek-own : (k : Seek) → seekCarried k .own ≡ true
-  seek-own (seek.Approach a) = refl
-  seek-own (seek.Take a) = refl
-  seek-own (seek.Confirm a) = refl
-  seek-own (seek.Release a b) = refl
+  removal-sought-valid : (job : Job) (v : Sight) (r : Sought) → Within (v .own) (s .entries) →
+      ValidSought (v .own) r → ValidDecision s (Decide.removalSought job v r)
+  removal-sought-valid job v (sght.Goes e k) O R =
+      moved-valid v e (Decide.removing job (rem.Seek k)) (R .0) (R .1)
+  removal-sought-valid job v (sght.Waits k) O R = waits-valid v (Decide.removing job (rem.Seek k)) R
+  removal-sought-valid job v (sght.Done a) O R =
+      moved-valid v eff.Keep (Decide.removing job (rem.HoldOwn a)) tt (owning (v .own) a O R)
 
   -- at a place of the own node
   own-place : (own i : ℕ) → Within own (s .entries) → Within i (s .levels) → ValidPlace s (place own i)
@@ -207,7 +237,7 @@ module _ (s : Sizes) (levels : 1 ≤ s .levels) where
       (λ b B. moved-valid v eff.Keep (stage.Insert (ins.Search b)) tt (owning (v .own) b (G .has-own refl) B))
       (λ b B. saving-valid v a (stage.Insert (ins.Search b)) (G .place) (owning (v .own) b (G .has-own refl) B))
       (saving-valid v a (stage.Insert (ins.Seek (seek.Approach a))) (G .place) (owning (v .own) a (G .has-own refl) (G .place)))
-  insert-valid v (ins.Seek k) W G = insert-sought-valid v (Decide.seekStep v k) (G .has-own (seek-own k)) (seek-valid v k W G)
+  insert-valid v (ins.Seek k) W G = insert-sought-valid v (Decide.seekStep v k) (G .has-own refl) (seek-valid v k W G)
   insert-valid v (ins.Copy a) W G =
       moved-valid v (eff.Lead (place (v .own) (a .level)) (v .next)) (stage.Insert (ins.Link a))
       (record { place = own-place (v .own) (a .level) (G .has-own refl) (G .place .level); to = W .next }) G
@@ -216,45 +246,65 @@ module _ (s : Sizes) (levels : 1 ≤ s .levels) where
   insert-valid v ins.FreeNode W G = moved-valid v (eff.FreeNode (v .own)) (stage.Insert ins.Stamp) (G .has-own refl) G
   insert-valid v ins.Stamp W G = answers-valid (eff.Stamp (v .own)) _ (G .has-own refl)
 
-  removal-freed-valid : (v : Sight) (a : Place) → ValidSight s a v → Within (v .own) (s .entries) → ValidPlace s a → ValidDecision s (Decide.removalFreed v a)
-  removal-freed-valid v a W O A =
+  removal-freed-valid : (job : Job) (v : Sight) (a : Place) → ValidSight s a v →
+      Within (v .own) (s .entries) → ValidPlace s a → ValidDecision s (Decide.removalFreed job v a)
+  removal-freed-valid job v a W O A =
       cond-cases (λ d. ValidDecision s d) (leb (a .level) 1) _ _
-      (λ x. moved-valid v (eff.FreeLevel a) (Decide.removing rem.FreeNode) A (owning-head (v .own) O))
+      (λ x. moved-valid v (eff.FreeLevel a) (Decide.removing job rem.FreeNode) A
+      (owning-head (v .own) O))
       (λ x. let above = leb-false (a .level) 1 x in let l = A .level in
-      moved-valid v (eff.FreeLevel a) (Decide.removing (rem.Seek (seek.Approach (place (v .down) (a .level - 1))))) A
+      moved-valid v (eff.FreeLevel a)
+      (Decide.removing job (rem.Seek (seek.Approach (place (v .down) (a .level - 1))))) A
       (owning (v .own) (place (v .down) (a .level - 1)) O (record { node = W .down; level = omega arith })))
 
-  removal-valid : (v : Sight) (r : Removal) → ValidSight s (readingPlace (Decide.removing r)) v → ValidCarried s (carried (Decide.removing r)) (v .own) → ValidDecision s (Decide.removalStep v r)
-  removal-valid v (rem.Search a) W G =
-      search-cases v a W (G .place) (λ r. ValidDecision s (Decide.removalSearched v a r))
-      (λ b B. moved-valid v eff.Keep (Decide.removing (rem.Search b)) tt (owning (v .own) b (G .has-own refl) B))
-      (λ b B. saving-valid v a (Decide.removing (rem.Search b)) (G .place) (owning (v .own) b (G .has-own refl) B))
-      (saving-valid v a (Decide.removing rem.HoldNode) (G .place) (owning-head (v .own) (G .has-own refl)))
-  removal-valid v rem.HoldNode W G =
+  removal-valid : (job : Job) (v : Sight) (r : Removal) →
+      ValidSight s (readingPlace (Decide.removing job r)) v →
+      ValidCarried s (carried (Decide.removing job r)) (v .own) →
+      ValidDecision s (Decide.removalStep job v r)
+  removal-valid job v (rem.Search a) W G =
+      search-cases v a W (G .place) (λ r. ValidDecision s (Decide.removalSearched job v a r))
+      (λ b B. moved-valid v eff.Keep (Decide.removing job (rem.Search b)) tt
+      (owning (v .own) b (G .has-own refl) B))
+      (λ b B. saving-valid v a (Decide.removing job (rem.Search b)) (G .place)
+      (owning (v .own) b (G .has-own refl) B))
+      (saving-valid v a (Decide.removing job rem.HoldNode) (G .place)
+      (owning-head (v .own) (G .has-own refl)))
+  removal-valid job v rem.HoldNode W G =
       cond-cases (λ d. ValidDecision s d) (eqb (v .holder) 0) _ _
-      (λ x. moved-valid v (eff.HoldNode (v .own)) (Decide.removing (rem.Seek (seek.Approach (place (v .top) (v .height))))) (G .has-own refl)
+      (λ x. moved-valid v (eff.HoldNode (v .own))
+      (Decide.removing job (rem.Seek (seek.Approach (place (v .top) (v .height)))))
+      (G .has-own refl)
       (owning (v .own) (place (v .top) (v .height)) (G .has-own refl) (record { node = W .top; level = W .height })))
-      (λ x. waits-valid v (Decide.removing rem.HoldNode) G)
-  removal-valid v (rem.Seek k) W G = removal-sought-valid v (Decide.seekStep v k) (G .has-own (seek-own k)) (seek-valid v k W G)
-  removal-valid v (rem.HoldOwn a) W G =
+      (λ x. waits-valid v (Decide.removing job rem.HoldNode) G)
+  removal-valid job v (rem.Seek k) W G =
+      removal-sought-valid job v (Decide.seekStep v k) (G .has-own refl)
+      (seek-valid v k W G)
+  removal-valid job v (rem.HoldOwn a) W G =
       cond-cases (λ d. ValidDecision s d) (eqb (v .latch) 0) _ _
-      (λ x. moved-valid v (eff.HoldLevel (place (v .own) (a .level))) (Decide.removing (rem.Unlink a)) (own-place (v .own) (a .level) (G .has-own refl) (G .place .level)) G)
-      (λ x. waits-valid v (Decide.removing (rem.HoldOwn a)) G)
-  removal-valid v (rem.Unlink a) W G = moved-valid v (eff.Lead a (v .onward)) (Decide.removing (rem.Back a)) (record { place = G .place; to = W .onward }) G
-  removal-valid v (rem.Back a) W G =
-      moved-valid v (eff.Lead (place (v .own) (a .level)) (a .node)) (Decide.removing (rem.FreeOwn a))
+      (λ x. moved-valid v (eff.HoldLevel (place (v .own) (a .level)))
+      (Decide.removing job (rem.Unlink a))
+      (own-place (v .own) (a .level) (G .has-own refl) (G .place .level)) G)
+      (λ x. waits-valid v (Decide.removing job (rem.HoldOwn a)) G)
+  removal-valid job v (rem.Unlink a) W G =
+      moved-valid v (eff.Lead a (v .onward)) (Decide.removing job (rem.Back a))
+      (record { place = G .place; to = W .onward }) G
+  removal-valid job v (rem.Back a) W G =
+      moved-valid v (eff.Lead (place (v .own) (a .level)) (a .node))
+      (Decide.removing job (rem.FreeOwn a))
       (record { place = own-place (v .own) (a .level) (G .has-own refl) (G .place .level); to = G .place .node }) G
-  removal-valid v (rem.FreeOwn a) W G =
-      moved-valid v (eff.FreeLevel (place (v .own) (a .level))) (Decide.removing (rem.FreeLevel a)) (own-place (v .own) (a .level) (G .has-own refl) (G .place .level)) G
-  removal-valid v (rem.FreeLevel a) W G = removal-freed-valid v a W (G .has-own refl) (G .place)
-  removal-valid v rem.FreeNode W G = moved-valid v (eff.FreeNode (v .own)) (Decide.removing rem.Retire) (G .has-own refl) G
-  removal-valid v rem.Retire W G = answers-valid (eff.Retire (v .own)) _ (G .has-own refl)
+  removal-valid job v (rem.FreeOwn a) W G =
+      moved-valid v (eff.FreeLevel (place (v .own) (a .level)))
+      (Decide.removing job (rem.FreeLevel a))
+      (own-place (v .own) (a .level) (G .has-own refl) (G .place .level)) G
+  removal-valid job v (rem.FreeLevel a) W G =
+      removal-freed-valid job v a W (G .has-own refl) (G .place)
+  removal-valid job v rem.FreeNode W G =
+      moved-valid v (eff.FreeNode (v .own)) (Decide.removing job rem.Retire) (G .has-own refl) G
+  removal-valid job v rem.Retire W G = answers-valid (eff.Retire (v .own)) _ (G .has-own refl)
 
-  mark-valid : (v : Sight) (a : Place) → v .levels ≡ s .levels → v .own ≤ s .entries + 1 → ValidPlace s a → Within (a .node) (s .entries) → ValidDecision s (Decide.markTest v a)
-  mark-valid v a l O A M =
-      cond-cases (λ d. ValidDecision s d) (v .marked) _ _
-      (λ x. moved-valid v eff.Keep (stage.Delete (del.Next a)) tt (ownless (v .own) a O A))
-      (λ x. record { effect = M; carry = tt; carries = owning (a .node) (place 0 (v .levels)) M (head-place (v .levels) (omega arith)) })
+  marking-valid : (job : Job) (v : Sight) (a : Place) → v .levels ≡ s .levels →
+      Within (a .node) (s .entries) → ValidDecision s (Decide.marking job v a)
+  marking-valid job v a l M = record { effect = M; carry = tt; carries = owning (a .node) (place 0 (v .levels)) M (head-place (v .levels) (omega arith)) }
 
   delete-valid : (v : Sight) (d : Delete) → ValidSight s (readingPlace (stage.Delete d)) v → ValidCarried s (carried (stage.Delete d)) (v .own) → ValidDecision s (Decide.deleteStep v d)
   delete-valid v (del.Next a) W G =
@@ -267,21 +317,25 @@ module _ (s : Sizes) (levels : 1 ≤ s .levels) where
       (λ x. moved-valid v eff.Keep (stage.Delete (del.Mark a)) tt
       (record { own-high = G .own-high; has-own = G .has-own; place = G .place; ahead = G .ahead; marks = λ e. W .stamped x }))
       (λ x. moved-valid v eff.Keep (stage.Delete (del.Next a)) tt G)
-  delete-valid v (del.Mark a) W G = mark-valid v a (W .levels) (G .own-high) (G .place) (G .marks refl)
-  delete-valid v (del.Removal r) W G = removal-valid v r W G
+  delete-valid v (del.Mark a) W G =
+      cond-cases (λ d. ValidDecision s d) (v .marked) _ _
+      (λ x. moved-valid v eff.Keep (stage.Delete (del.Next a)) tt
+      (ownless (v .own) a (G .own-high) (G .place)))
+      (λ x. marking-valid jobs.Deliver v a (W .levels) (G .marks refl))
 
   pub decide-valid : (v : Sight) (g : Stage) → ValidSight s (readingPlace g) v → ValidCarried s (carried g) (v .own) → ValidDecision s (Decide.decide v g)
   decide-valid v stage.Idle W G = waits-valid v stage.Idle G
   decide-valid v (stage.Insert i) W G = insert-valid v i W G
   decide-valid v (stage.Delete d) W G = delete-valid v d W G
+  decide-valid v (stage.Removal job r) W G = removal-valid job v r W G
 
   pub reading-valid : (g : Stage) (own : ℕ) → ValidCarried s (carried g) own → ValidPlace s (readingPlace g)
   reading-valid stage.Idle own G = G .place
-  reading-valid (stage.Insert i) own G = G .place
+  reading-valid (stage.Insert i) own G = subst (ValidPlace s) (insert-reads i) (G .place)
   reading-valid (stage.Delete (del.Next a)) own G = record { node = G .place .node; level = level-one }
   reading-valid (stage.Delete (del.Stamped a)) own G = record { node = G .place .node; level = level-one }
   reading-valid (stage.Delete (del.Mark a)) own G = record { node = G .place .node; level = level-one }
-  reading-valid (stage.Delete (del.Removal r)) own G = G .place
+  reading-valid (stage.Removal job r) own G = subst (ValidPlace s) (removal-reads job r) (G .place)
 
 -- both halves of a test that fails
 or-left : (a b : Bool) → (a || b) ≡ false → a ≡ false
@@ -337,50 +391,31 @@ pub data Does (q : Queue) : Queue → Type 0 where
 abbrev Leaves : Queue → Outcome → Type 0
 Leaves q o = Does q (o .queue)
 
--- the refusals that all begins and steps have, and what follows them
-on-processor : (q : Queue) (p : ℕ) (r : Outcome) → (ValidQueue q → q .clock < maxNumber → p < q .processors → Leaves q r) → Leaves q (onRecord q (onProcessor q p r))
-on-processor q p r h =
-    cond-cases (Leaves q) (valid q) _ _
-    (λ v. cond-cases (Leaves q) (leb maxNumber (q .clock)) _ _ (λ x. unchanged)
-    (λ x. cond-cases (Leaves q) (leb (q .processors) p) _ _ (λ y. unchanged)
-    (λ y. h (valid-facts q v) (leb-false _ _ x) (leb-false _ _ y))))
-    (λ v. unchanged)
-
 in-range : (x top : ℕ) → outside x top ≡ false → Within x top
 in-range x top h = record { low = ltb-false x 1 (or-left _ _ h); high = ltb-false top x (or-right (ltb x 1) (ltb top x) h) }
 
-insert-does : (q : Queue) (p due item height : ℕ) → Does q (after q (insert p due item height))
-insert-does q p due item height =
-    on-processor q p _ (λ Q c< p<.
-    cond-cases (Leaves q) (isIdle (processorAt q p .stage)) _ _
-    (λ w. cond-cases (Leaves q) (ltb maxNumber due || ltb maxNumber item) _ _ (λ x. unchanged)
-    (λ x. cond-cases (Leaves q) (eqb item 0) _ _ (λ _. unchanged)
-    (λ _. cond-cases (Leaves q) (outside height (q .levels)) _ _ (λ y. unchanged)
-    (λ y. cond-cases (Leaves q) (eqb (chosen q) 0) _ _ (λ z. unchanged)
-    (λ z. applies p (insertDecision q (chosen q) due item height) Q c< p<
-    (insert-begins-valid q (chosen q) due item height Q
+insert-does : (q : Queue) (p due item height : ℕ) → Allowed q (call.Insert p due item height) →
+    ValidQueue q → ValidDecision (sizesOf q) (insertDecision q (chosen q) due item height)
+insert-does q p due item height A Q =
+    let n = numbers p due item height (q .levels) (chosen q) (A .numbers) (A .node) in
+    let x = n .small in
+    insert-begins-valid q (chosen q) due item height Q
     (record {
-      node = let some : (chosen q ≡ 0 → ⊥) = eqb-false (chosen q) 0 z in omega (arith, chosen-high q);
+      node = let some : (chosen q ≡ 0 → ⊥) = eqb-false (chosen q) 0 (n .node-there) in omega (arith, chosen-high q);
       due = ltb-false _ _ (or-left _ _ x);
       item = ltb-false _ _ (or-right (ltb maxNumber due) (ltb maxNumber item) x);
-      height = in-range height (q .levels) y;
-    })))))))
-    (λ w. unchanged))
+      height = in-range height (q .levels) (n .height-within);
+    })
 
-delete-does : (q : Queue) (p : ℕ) → Does q (after q (deleteMin p))
-delete-does q p =
-    on-processor q p _ (λ Q c< p<.
-    cond-cases (Leaves q) (isIdle (processorAt q p .stage)) _ _
-    (λ w. applies p (deleteDecision q) Q c< p< (delete-begins-valid q Q)) (λ w. unchanged))
+pub decides-valid : (q : Queue) (c : Call) → Allowed q c → ValidQueue q →
+    ValidDecision (sizesOf q) (decisionOf q c)
+decides-valid q (call.Insert p due item height) A Q = insert-does q p due item height A Q
+decides-valid q (call.DeleteMin p) A Q = delete-begins-valid q Q
+decides-valid q (call.Step p) A Q = step-valid q (processorAt q p) Q (Q .callers p (A .here))
 
-step-does : (q : Queue) (p : ℕ) → Does q (after q (steps p))
-step-does q p =
-    on-processor q p _ (λ Q c< p<.
-    cond-cases (Leaves q) (isIdle (processorAt q p .stage)) _ _
-    (λ w. unchanged) (λ w. applies p (stepDecision q (processorAt q p)) Q c< p< (step-valid q (processorAt q p) Q (Q .callers p p<))))
-
-pub does : (q : Queue) (c : Call) → Does q (after q c)
-does q (insert p due item height) = insert-does q p due item height
-does q (deleteMin p) = delete-does q p
-does q (steps p) = step-does q p
+pub does : (q : Queue) (c : Turn) → Does q (after q c)
+does q (calls c) =
+    of-call (Leaves q) q c (λ n. unchanged)
+    (λ v A. let Q = valid-facts q v in
+    applies (processorOf c) (decisionOf q c) Q (A .ticks) (A .here) (decides-valid q c A Q))
 does q backlog = unchanged

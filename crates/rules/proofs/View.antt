@@ -2,6 +2,8 @@
 use Prim.Native.Nat.{ℕ, _+_, _-_, _*_}
 use lib.Dec.{eqb}
 use mathlib.Core.Bool.{cond}
+use Rattle.record.specs.Stages.{place}
+use Rattle.record.specs.declared.stages.Place.{Place}
 use Rattle.record.specs.declared.stages.Seek.{Seek}
 use Rattle.record.specs.declared.stages.Seek.the-variants as seek
 use Rattle.record.specs.declared.stages.Insert.{Insert}
@@ -62,8 +64,11 @@ key v = rank (v .nodes) (v .due) (v .tick)
 --   nx: what it knows of a's forward number: 1 at I1, 2 at I2, 3 at L2 and L3, 4 at L4
 --   lo: own is linked at the levels 1 to lo
 --   from: the saved nodes of the levels from this one on are of this operation
---   strict: 1 at W1 (every eligible key is above the place's).  early: 1 at W3 (the place's stamp is before the begin)
+--   strict: 1 on a walk (no eligible key is below the place's), 2 at W1 (every one is above it)
+--   early: 1 where the place is an entry's node, 2 at W3 (and its stamp is before the begin)
 --   past: 1 for a remover past L1
+-- goal: without an own node, the key that the place is before. found: the key that the place has,
+-- or 0
 pub record Info : Type 0 where
   pub kind : ℕ
   pub node : ℕ
@@ -78,41 +83,61 @@ pub record Info : Type 0 where
   pub strict : ℕ
   pub early : ℕ
   pub past : ℕ
+  pub goal : ℕ
+  pub found : ℕ
 
 abbrev pub seeks : ℕ → ℕ → ℕ → Seek → Info
-seeks k lo past (seek.Approach a) = record { kind = k; node = a .node; level = a .level; b = a .node; hp = 0; ho = 0; hn = 1; nx = 0; lo = a .level - lo; from = 1; strict = 0; early = 0; past = past }
-seeks k lo past (seek.Take a) = record { kind = k; node = a .node; level = a .level; b = a .node; hp = 0; ho = 0; hn = 1; nx = 0; lo = a .level - lo; from = 1; strict = 0; early = 0; past = past }
-seeks k lo past (seek.Confirm a) = record { kind = k; node = a .node; level = a .level; b = a .node; hp = 1; ho = 0; hn = 1; nx = 0; lo = a .level - lo; from = 1; strict = 0; early = 0; past = past }
-seeks k lo past (seek.Release a b) = record { kind = k; node = a .node; level = a .level; b = b; hp = 1; ho = 0; hn = 1; nx = 0; lo = a .level - lo; from = 1; strict = 0; early = 0; past = past }
+seeks k lo past (seek.Approach a) = record { kind = k; node = a .node; level = a .level; b = a .node; hp = 0; ho = 0; hn = 1; nx = 0; lo = a .level - lo; from = 1; strict = 0; early = 0; past = past; goal = 0; found = 0 }
+seeks k lo past (seek.Take a) = record { kind = k; node = a .node; level = a .level; b = a .node; hp = 0; ho = 0; hn = 1; nx = 0; lo = a .level - lo; from = 1; strict = 0; early = 0; past = past; goal = 0; found = 0 }
+seeks k lo past (seek.Confirm a) = record { kind = k; node = a .node; level = a .level; b = a .node; hp = 1; ho = 0; hn = 1; nx = 0; lo = a .level - lo; from = 1; strict = 0; early = 0; past = past; goal = 0; found = 0 }
+seeks k lo past (seek.Release a b) = record { kind = k; node = a .node; level = a .level; b = b; hp = 1; ho = 0; hn = 1; nx = 0; lo = a .level - lo; from = 1; strict = 0; early = 0; past = past; goal = 0; found = 0 }
 
 abbrev pub inserts : ℕ → Insert → Info
-inserts h (ins.Search a) = record { kind = 1; node = a .node; level = a .level; b = a .node; hp = 0; ho = 0; hn = 1; nx = 0; lo = 0; from = a .level + 1; strict = 0; early = 0; past = 0 }
+inserts h (ins.Search a) = record { kind = 1; node = a .node; level = a .level; b = a .node; hp = 0; ho = 0; hn = 1; nx = 0; lo = 0; from = a .level + 1; strict = 0; early = 0; past = 0; goal = 0; found = 0 }
 inserts h (ins.Seek k) = seeks 1 1 0 k
-inserts h (ins.Copy a) = record { kind = 1; node = a .node; level = a .level; b = a .node; hp = 1; ho = 0; hn = 1; nx = 1; lo = a .level - 1; from = 1; strict = 0; early = 0; past = 0 }
-inserts h (ins.Link a) = record { kind = 1; node = a .node; level = a .level; b = a .node; hp = 1; ho = 0; hn = 1; nx = 2; lo = a .level - 1; from = 1; strict = 0; early = 0; past = 0 }
-inserts h (ins.FreeLevel a) = record { kind = 1; node = a .node; level = a .level; b = a .node; hp = 1; ho = 0; hn = 1; nx = 0; lo = a .level; from = 1; strict = 0; early = 0; past = 0 }
-inserts h ins.FreeNode = record { kind = 1; node = 0; level = 1; b = 0; hp = 0; ho = 0; hn = 1; nx = 0; lo = h; from = 9; strict = 0; early = 0; past = 0 }
-inserts h ins.Stamp = record { kind = 1; node = 0; level = 1; b = 0; hp = 0; ho = 0; hn = 0; nx = 0; lo = h; from = 9; strict = 0; early = 0; past = 0 }
+inserts h (ins.Copy a) = record { kind = 1; node = a .node; level = a .level; b = a .node; hp = 1; ho = 0; hn = 1; nx = 1; lo = a .level - 1; from = 1; strict = 0; early = 0; past = 0; goal = 0; found = 0 }
+inserts h (ins.Link a) = record { kind = 1; node = a .node; level = a .level; b = a .node; hp = 1; ho = 0; hn = 1; nx = 2; lo = a .level - 1; from = 1; strict = 0; early = 0; past = 0; goal = 0; found = 0 }
+inserts h (ins.FreeLevel a) = record { kind = 1; node = a .node; level = a .level; b = a .node; hp = 1; ho = 0; hn = 1; nx = 0; lo = a .level; from = 1; strict = 0; early = 0; past = 0; goal = 0; found = 0 }
+inserts h ins.FreeNode = record { kind = 1; node = 0; level = 1; b = 0; hp = 0; ho = 0; hn = 1; nx = 0; lo = h; from = 9; strict = 0; early = 0; past = 0; goal = 0; found = 0 }
+inserts h ins.Stamp = record { kind = 1; node = 0; level = 1; b = 0; hp = 0; ho = 0; hn = 0; nx = 0; lo = h; from = 9; strict = 0; early = 0; past = 0; goal = 0; found = 0 }
 
-abbrev pub removes : ℕ → Delete → Info
-removes h (del.Next a) = record { kind = 2; node = a .node; level = 1; b = a .node; hp = 0; ho = 0; hn = 0; nx = 0; lo = 0; from = 9; strict = 1; early = 0; past = 0 }
-removes h (del.Stamped a) = record { kind = 2; node = a .node; level = 1; b = a .node; hp = 0; ho = 0; hn = 0; nx = 0; lo = 0; from = 9; strict = 0; early = 0; past = 0 }
-removes h (del.Mark a) = record { kind = 2; node = a .node; level = 1; b = a .node; hp = 0; ho = 0; hn = 0; nx = 0; lo = 0; from = 9; strict = 0; early = 1; past = 0 }
-removes h (del.Removal (rem.Search a)) = record { kind = 3; node = a .node; level = a .level; b = a .node; hp = 0; ho = 0; hn = 0; nx = 0; lo = h; from = a .level + 1; strict = 0; early = 0; past = 0 }
-removes h (del.Removal rem.HoldNode) = record { kind = 3; node = 0; level = 1; b = 0; hp = 0; ho = 0; hn = 0; nx = 0; lo = h; from = 1; strict = 0; early = 0; past = 0 }
-removes h (del.Removal (rem.Seek k)) = seeks 3 0 1 k
-removes h (del.Removal (rem.HoldOwn a)) = record { kind = 3; node = a .node; level = a .level; b = a .node; hp = 1; ho = 0; hn = 1; nx = 3; lo = a .level - 0; from = 1; strict = 0; early = 0; past = 1 }
-removes h (del.Removal (rem.Unlink a)) = record { kind = 3; node = a .node; level = a .level; b = a .node; hp = 1; ho = 1; hn = 1; nx = 3; lo = a .level - 0; from = 1; strict = 0; early = 0; past = 1 }
-removes h (del.Removal (rem.Back a)) = record { kind = 3; node = a .node; level = a .level; b = a .node; hp = 1; ho = 1; hn = 1; nx = 4; lo = a .level - 1; from = 1; strict = 0; early = 0; past = 1 }
-removes h (del.Removal (rem.FreeOwn a)) = record { kind = 3; node = a .node; level = a .level; b = a .node; hp = 1; ho = 1; hn = 1; nx = 0; lo = a .level - 1; from = 1; strict = 0; early = 0; past = 1 }
-removes h (del.Removal (rem.FreeLevel a)) = record { kind = 3; node = a .node; level = a .level; b = a .node; hp = 1; ho = 0; hn = 1; nx = 0; lo = a .level - 1; from = 1; strict = 0; early = 0; past = 1 }
-removes h (del.Removal rem.FreeNode) = record { kind = 3; node = 0; level = 1; b = 0; hp = 0; ho = 0; hn = 1; nx = 0; lo = 0; from = 9; strict = 0; early = 0; past = 1 }
-removes h (del.Removal rem.Retire) = record { kind = 3; node = 0; level = 1; b = 0; hp = 0; ho = 0; hn = 0; nx = 0; lo = 0; from = 9; strict = 0; early = 0; past = 1 }
+-- an operation without an own node, at the place a
+abbrev pub standing : ℕ → ℕ → ℕ → ℕ → ℕ → Place → Info
+standing strict early goal found from a = record { kind = 2; node = a .node; level = a .level; b = a .node; hp = 0; ho = 0; hn = 0; nx = 0; lo = 0; from = from; strict = strict; early = early; past = 0; goal = goal; found = found }
+
+-- a walk at the node of a: it seeks no key
+abbrev pub walking : ℕ → ℕ → Place → Info
+walking strict early a = standing strict early last 0 9 (place (a .node) 1)
+
+abbrev pub walks : Delete → Info
+walks (del.Next a) = walking 2 0 a
+walks (del.Stamped a) = walking 1 0 a
+walks (del.Mark a) = walking 1 2 a
+
+abbrev pub removals : ℕ → Removal → Info
+removals h (rem.Search a) = record { kind = 3; node = a .node; level = a .level; b = a .node; hp = 0; ho = 0; hn = 0; nx = 0; lo = h; from = a .level + 1; strict = 0; early = 0; past = 0; goal = 0; found = 0 }
+removals h rem.HoldNode = record { kind = 3; node = 0; level = 1; b = 0; hp = 0; ho = 0; hn = 0; nx = 0; lo = h; from = 1; strict = 0; early = 0; past = 0; goal = 0; found = 0 }
+removals h (rem.Seek k) = seeks 3 0 1 k
+removals h (rem.HoldOwn a) = record { kind = 3; node = a .node; level = a .level; b = a .node; hp = 1; ho = 0; hn = 1; nx = 3; lo = a .level - 0; from = 1; strict = 0; early = 0; past = 1; goal = 0; found = 0 }
+removals h (rem.Unlink a) = record { kind = 3; node = a .node; level = a .level; b = a .node; hp = 1; ho = 1; hn = 1; nx = 3; lo = a .level - 0; from = 1; strict = 0; early = 0; past = 1; goal = 0; found = 0 }
+removals h (rem.Back a) = record { kind = 3; node = a .node; level = a .level; b = a .node; hp = 1; ho = 1; hn = 1; nx = 4; lo = a .level - 1; from = 1; strict = 0; early = 0; past = 1; goal = 0; found = 0 }
+removals h (rem.FreeOwn a) = record { kind = 3; node = a .node; level = a .level; b = a .node; hp = 1; ho = 1; hn = 1; nx = 0; lo = a .level - 1; from = 1; strict = 0; early = 0; past = 1; goal = 0; found = 0 }
+removals h (rem.FreeLevel a) = record { kind = 3; node = a .node; level = a .level; b = a .node; hp = 1; ho = 0; hn = 1; nx = 0; lo = a .level - 1; from = 1; strict = 0; early = 0; past = 1; goal = 0; found = 0 }
+removals h rem.FreeNode = record { kind = 3; node = 0; level = 1; b = 0; hp = 0; ho = 0; hn = 1; nx = 0; lo = 0; from = 9; strict = 0; early = 0; past = 1; goal = 0; found = 0 }
+removals h rem.Retire = record { kind = 3; node = 0; level = 1; b = 0; hp = 0; ho = 0; hn = 0; nx = 0; lo = 0; from = 9; strict = 0; early = 0; past = 1; goal = 0; found = 0 }
 
 abbrev pub info : ℕ → Stage → Info
-info h stage.Idle = record { kind = 0; node = 0; level = 1; b = 0; hp = 0; ho = 0; hn = 0; nx = 0; lo = 0; from = 9; strict = 0; early = 0; past = 0 }
+info h stage.Idle = record { kind = 0; node = 0; level = 1; b = 0; hp = 0; ho = 0; hn = 0; nx = 0; lo = 0; from = 9; strict = 0; early = 0; past = 0; goal = 0; found = 0 }
 info h (stage.Insert i) = inserts h i
-info h (stage.Delete d) = removes h d
+info h (stage.Delete d) = walks d
+info h (stage.Removal job r) = removals h r
+
+-- the key of the operation, k being the own node's
+abbrev pub rankFor : Stage → ℕ → ℕ
+rankFor stage.Idle k = k
+rankFor (stage.Insert i) k = k
+rankFor (stage.Delete d) k = k
+rankFor (stage.Removal job r) k = k
 
 -- what processor q claims in v
 abbrev pub claim : View → ℕ → Info

@@ -1,5 +1,5 @@
--- Answers. "An accepted begin returns its time. A step reports moved, waits, EMPTY, or, each with due, item and ticket, marked, inserted or
--- handed out." "A refusal returns its number."
+-- Answers (01, the steps): a refusal's number; the time of a begin; and what a step reports, with
+-- what the entry holds where it reports of one.
 use Prim.Native.Nat.{ℕ}
 use mathlib.Core.Bool.{Bool, true, false}
 use mathlib.Core.List.{List, [], _∷_}
@@ -13,7 +13,8 @@ use Rattle.rules.specs.declared.answers.Outcome.{Outcome}
 abbrev pub entryValues : Entry → List ℕ
 entryValues e = e .due ∷ (e .item ∷ (e .ticket ∷ []))
 
--- an answer in document 01's numbers: of a refusal its number; of the rest 0 for a begin, and 1 to 6 in the order of the sentence above
+-- an answer in document 01's numbers: of a refusal its number; of the rest 0 for a begin, and 1 to
+-- 6 in the order in which document 01 names a step's reports
 abbrev pub reported : Answer → Report
 reported (ans.Refused n) = report n []
 reported (ans.Began t) = report 0 (t ∷ [])
@@ -24,7 +25,7 @@ reported (ans.Marked e) = report 4 (entryValues e)
 reported (ans.Inserted e) = report 5 (entryValues e)
 reported (ans.HandedOut e) = report 6 (entryValues e)
 
--- "A refusal returns its number and leaves everything lent untouched; the clock doesn't tick."
+-- a refused call leaves the record as it was, its clock too
 abbrev pub refused : Queue → ℕ → Outcome
 refused q n = record { queue = q; answer = ans.Refused n }
 

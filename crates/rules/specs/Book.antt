@@ -1,4 +1,5 @@
--- The book of document 01: which answers to a list of calls are right. It is fed the calls and what they give back, and never sees the record.
+-- The book (01, the book): which answers to a list of calls are right. It is fed the calls and what
+-- they give back, and never sees the record.
 use Prim.Native.Nat.{ℕ, zero, suc, _+_}
 use mathlib.Core.Bool.{Bool, true, false, cond, _&&_, _||_, not}
 use mathlib.Core.List.{List, [], _∷_}
@@ -12,7 +13,9 @@ use Rattle.record.specs.Keys.{entryKey, keyBefore}
 use Rattle.rules.specs.declared.answers.Answer.{Answer}
 use Rattle.rules.specs.declared.answers.Answer.the-variants as ans
 use Rattle.rules.specs.declared.answers.Entry.{Entry}
-use Rattle.rules.specs.Runs.{Call, insert, deleteMin, steps, backlog, Reply, answered, counted, after, reply}
+use Rattle.rules.specs.declared.calls.Call.{Call}
+use Rattle.rules.specs.declared.calls.Call.the-variants as call
+use Rattle.rules.specs.Runs.{Turn, calls, backlog, Reply, answered, counted, after, reply}
 
 -- later than every clock: the time of an answer that has not come
 abbrev pub never : ℕ
@@ -27,8 +30,8 @@ pub record Line : Type 0 where
   pub marked : Bool
   pub handedOut : Bool
 
--- what a processor has open: nothing, the Insert of the entry with this ticket, a Delete_Min begun at this time with nothing marked, or a Delete_Min
--- that marked the entry with this ticket
+-- what a processor has open: nothing, the Insert of the entry with this ticket, a Delete_Min begun
+-- at this time with nothing marked, or a Delete_Min that marked the entry with this ticket
 pub data Open : Type 0 where
   nothing : Open
   inserting : ℕ → Open
@@ -42,9 +45,16 @@ pub record Book : Type 0 where
   pub opened : ℕ → Open
 
 abbrev pub unwritten : Line
-unwritten = record { written = false; due = 0; item = 0; answeredAt = never; marked = false; handedOut = false }
+unwritten = record {
+  written = false;
+  due = 0;
+  item = 0;
+  answeredAt = never;
+  marked = false;
+  handedOut = false;
+}
 
--- "At first the count is 0, no entry is written, and no processor has anything open."
+-- before the first call
 abbrev pub emptyBook : Book
 emptyBook = record { count = 0; entry = λ t. unwritten; opened = λ p. nothing }
 
@@ -56,7 +66,7 @@ pub data Verdict : Type 0 where
 abbrev pub provided : Bool → Book → Verdict
 provided right b = cond right (agrees b) differs
 
--- "Any other call adds 1 to the count, and the new count is its time."
+-- the time of a call that changes the book
 abbrev pub now : Book → ℕ
 now b = b .count + 1
 
@@ -68,7 +78,7 @@ turned b entry p o = record { count = now b; entry = entry; opened = upd (b .ope
 abbrev pub answeredBefore : Book → ℕ → ℕ → Bool
 answeredBefore b time t = b .entry t .written && ltb (b .entry t .answeredAt) time
 
--- "The pick of an open Delete_Min: of the entries answered at a time before its begin and not marked, the earliest by due, then ticket."
+-- which entries a Delete_Min that began at a time may mark, and which of two comes first
 abbrev pub candidate : Book → ℕ → ℕ → Bool
 candidate b begin t = answeredBefore b begin t && not (b .entry t .marked)
 
@@ -96,78 +106,115 @@ pendingIn b t = candidate b never t
 
 -- the answer gives the due, item and ticket of the entry t
 abbrev pub gives : Book → Entry → ℕ → Bool
-gives b e t = eqb (e .due) (b .entry t .due) && (eqb (e .item) (b .entry t .item) && eqb (e .ticket) t)
+gives b e t =
+    eqb (e .due) (b .entry t .due) && (eqb (e .item) (b .entry t .item) && eqb (e .ticket) t)
 
 abbrev pub withAnswer : Line → ℕ → Line
-withAnswer l t = record { written = l .written; due = l .due; item = l .item; answeredAt = t; marked = l .marked; handedOut = l .handedOut }
+withAnswer l t = record {
+  written = l .written;
+  due = l .due;
+  item = l .item;
+  answeredAt = t;
+  marked = l .marked;
+  handedOut = l .handedOut;
+}
 
 abbrev pub withMark : Line → Line
-withMark l = record { written = l .written; due = l .due; item = l .item; answeredAt = l .answeredAt; marked = true; handedOut = l .handedOut }
+withMark l = record {
+  written = l .written;
+  due = l .due;
+  item = l .item;
+  answeredAt = l .answeredAt;
+  marked = true;
+  handedOut = l .handedOut;
+}
 
 abbrev pub withHandOut : Line → Line
-withHandOut l = record { written = l .written; due = l .due; item = l .item; answeredAt = l .answeredAt; marked = l .marked; handedOut = true }
+withHandOut l = record {
+  written = l .written;
+  due = l .due;
+  item = l .item;
+  answeredAt = l .answeredAt;
+  marked = l .marked;
+  handedOut = true;
+}
 
--- "A begin is accepted only where its processor has nothing open." "Begin of an Insert returns its time. An entry is written with due, item and this
--- time as its ticket, unanswered and unmarked. Its Insert is open."
-abbrev pub insertBegins : Book → ℕ → ℕ → ℕ → ℕ → Open → Verdict
-insertBegins b p due item t nothing =
+-- an entry that an Insert has just begun to file
+abbrev pub justFiled : ℕ → ℕ → Line
+justFiled due item = record {
+  written = true;
+  due = due;
+  item = item;
+  answeredAt = never;
+  marked = false;
+  handedOut = false;
+}
+
+-- the begin of an Insert, where nothing is open and the time is right: its entry stands under this
+-- time, which is its ticket
+abbrev pub beginsInsert : Book → ℕ → ℕ → ℕ → ℕ → Open → Verdict
+beginsInsert b p due item t nothing =
     provided (eqb t (now b))
-    (turned b (upd (b .entry) t (record { written = true; due = due; item = item; answeredAt = never; marked = false; handedOut = false })) p (inserting t))
-insertBegins b p due item t (inserting x) = differs
-insertBegins b p due item t (deleting x) = differs
-insertBegins b p due item t (delivering x) = differs
+    (turned b
+    (upd (b .entry) t (justFiled due item)) p (inserting t))
+beginsInsert b p due item t (inserting x) = differs
+beginsInsert b p due item t (deleting x) = differs
+beginsInsert b p due item t (delivering x) = differs
 
--- "Begin of a Delete_Min returns its time. The Delete_Min is open, with nothing marked."
-abbrev pub deleteBegins : Book → ℕ → ℕ → Open → Verdict
-deleteBegins b p t nothing = provided (eqb t (now b)) (turned b (b .entry) p (deleting t))
-deleteBegins b p t (inserting x) = differs
-deleteBegins b p t (deleting x) = differs
-deleteBegins b p t (delivering x) = differs
+-- the begin of a Delete_Min, under the same conditions
+abbrev pub beginsDelete : Book → ℕ → ℕ → Open → Verdict
+beginsDelete b p t nothing = provided (eqb t (now b)) (turned b (b .entry) p (deleting t))
+beginsDelete b p t (inserting x) = differs
+beginsDelete b p t (deleting x) = differs
+beginsDelete b p t (delivering x) = differs
 
--- "Inserted: an Insert is open, and the answer gives its entry's due, item and ticket. The entry is answered at this time; nothing is open."
+-- the answer of the Insert that is open: it tells what the entry holds, and ends the Insert
 abbrev pub inserted : Book → ℕ → Entry → Open → Verdict
 inserted b p e nothing = differs
-inserted b p e (inserting t) = provided (gives b e t) (turned b (upd (b .entry) t (withAnswer (b .entry t) (now b))) p nothing)
+inserted b p e (inserting t) =
+    provided (gives b e t) (turned b (upd (b .entry) t (withAnswer (b .entry t) (now b))) p nothing)
 inserted b p e (deleting x) = differs
 inserted b p e (delivering x) = differs
 
--- "Marked: a Delete_Min is open with nothing marked, it has a pick, and the answer gives the pick's due, item and ticket. That entry is marked, by this
--- Delete_Min."
+-- a mark, by a Delete_Min that has none yet: it tells what the pick holds, and there has to be one
 abbrev pub marks : Book → ℕ → Entry → Open → Verdict
 marks b p e nothing = differs
 marks b p e (inserting x) = differs
 marks b p e (deleting begin) =
     provided (ltb 0 (pick b begin) && gives b e (pick b begin))
-    (turned b (upd (b .entry) (pick b begin) (withMark (b .entry (pick b begin)))) p (delivering (pick b begin)))
+    (turned b (upd (b .entry) (pick b begin) (withMark (b .entry (pick b begin)))) p
+    (delivering (pick b begin)))
 marks b p e (delivering x) = differs
 
--- "EMPTY: a Delete_Min is open with nothing marked, and it has no pick. Nothing is open."
+-- EMPTY, where there is no pick: it ends the Delete_Min
 abbrev pub empties : Book → ℕ → Open → Verdict
 empties b p nothing = differs
 empties b p (inserting x) = differs
 empties b p (deleting begin) = provided (eqb (pick b begin) 0) (turned b (b .entry) p nothing)
 empties b p (delivering x) = differs
 
--- "Handed out: a Delete_Min is open that marked an entry, and the answer gives that entry's due, item and ticket. It had not been handed out before.
--- Nothing is open."
+-- the hand-out of the entry that the Delete_Min marked, if it was not handed out already: it tells
+-- what the entry holds, and ends the Delete_Min
 abbrev pub handsOut : Book → ℕ → Entry → Open → Verdict
 handsOut b p e nothing = differs
 handsOut b p e (inserting x) = differs
 handsOut b p e (deleting x) = differs
 handsOut b p e (delivering t) =
-    provided (gives b e t && not (b .entry t .handedOut)) (turned b (upd (b .entry) t (withHandOut (b .entry t))) p nothing)
+    provided (gives b e t && not (b .entry t .handedOut))
+    (turned b (upd (b .entry) t (withHandOut (b .entry t))) p nothing)
 
--- "a step only where it has" something open. "Moved or waits: nothing more changes."
+-- a move or a wait, of a processor that has something open: the count goes up, and that is all
 abbrev pub moves : Book → Open → Verdict
 moves b nothing = differs
 moves b (inserting x) = agrees (record { count = now b; entry = b .entry; opened = b .opened })
 moves b (deleting x) = agrees (record { count = now b; entry = b .entry; opened = b .opened })
 moves b (delivering x) = agrees (record { count = now b; entry = b .entry; opened = b .opened })
 
--- "A refused call and a reading call change nothing." An answer of another kind of call differs.
+-- the book after a call's answer: a refusal changes nothing, and an answer that is another kind of
+-- call's is not right
 abbrev pub feedInsert : Book → ℕ → ℕ → ℕ → Answer → Verdict
 feedInsert b p due item (ans.Refused n) = agrees b
-feedInsert b p due item (ans.Began t) = insertBegins b p due item t (b .opened p)
+feedInsert b p due item (ans.Began t) = beginsInsert b p due item t (b .opened p)
 feedInsert b p due item ans.Moved = differs
 feedInsert b p due item ans.Waits = differs
 feedInsert b p due item ans.Empty = differs
@@ -177,7 +224,7 @@ feedInsert b p due item (ans.HandedOut e) = differs
 
 abbrev pub feedDelete : Book → ℕ → Answer → Verdict
 feedDelete b p (ans.Refused n) = agrees b
-feedDelete b p (ans.Began t) = deleteBegins b p t (b .opened p)
+feedDelete b p (ans.Began t) = beginsDelete b p t (b .opened p)
 feedDelete b p ans.Moved = differs
 feedDelete b p ans.Waits = differs
 feedDelete b p ans.Empty = differs
@@ -201,14 +248,16 @@ abbrev pub feedBacklog : Book → Count → Verdict
 feedBacklog b (count.Refused n) = agrees b
 feedBacklog b (count.Pending k) = provided (eqb k (howMany (pendingIn b) (b .count))) b
 
--- a call and what it gave back
-abbrev pub feed : Book → Call → Reply → Verdict
-feed b (insert p due item height) (answered a) = feedInsert b p due item a
-feed b (insert p due item height) (counted k) = differs
-feed b (deleteMin p) (answered a) = feedDelete b p a
-feed b (deleteMin p) (counted k) = differs
-feed b (steps p) (answered a) = feedStep b p a
-feed b (steps p) (counted k) = differs
+-- a call and its answer
+abbrev pub feedCall : Book → Call → Answer → Verdict
+feedCall b (call.Insert p due item height) a = feedInsert b p due item a
+feedCall b (call.DeleteMin p) a = feedDelete b p a
+feedCall b (call.Step p) a = feedStep b p a
+
+-- a turn and what it gave back
+abbrev pub feed : Book → Turn → Reply → Verdict
+feed b (calls c) (answered a) = feedCall b c a
+feed b (calls c) (counted k) = differs
 feed b backlog (answered a) = differs
 feed b backlog (counted k) = feedBacklog b k
 
@@ -217,7 +266,7 @@ abbrev pub thenFeed : Verdict → (Book → Verdict) → Verdict
 thenFeed (agrees b) f = f b
 thenFeed differs f = differs
 
--- the book fed with a list of calls on the record q and with what they give back, one after the other
-unfoldable pub judged : Book → Queue → List Call → Verdict
+-- the book fed with a list of calls on the record q and with what they give back, in turn
+unfoldable pub judged : Book → Queue → List Turn → Verdict
 judged b q [] = agrees b
 judged b q (c ∷ cs) = thenFeed (feed b c (reply q c)) (λ b′. judged b′ (after q c) cs)

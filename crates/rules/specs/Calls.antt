@@ -1,7 +1,7 @@
--- The calls: begin an Insert, begin a Delete_Min, step, on any record and with any numbers. Each is a list of refusals in the order of document
--- 01's table, and then what an accepted call does.
+-- The calls on any record and with any numbers: the refusals in the order of document 01's table,
+-- and what a call does that is not refused.
 use Prim.Native.Nat.{ℕ, _+_, _-_}
-use mathlib.Core.Bool.{cond, _||_}
+use mathlib.Core.Bool.{Bool, cond, _||_}
 use lib.Dec.{ltb, leb, eqb}
 use Rattle.record.specs.declared.stages.Place.{Place}
 use Rattle.record.specs.declared.stages.Insert.{Insert}
@@ -15,15 +15,18 @@ use Rattle.record.specs.declared.nodes.Node.{Node}
 use Rattle.record.specs.declared.queues.Processor.{Processor}
 use Rattle.record.specs.declared.queues.Queue.{Queue}
 use Rattle.checks.specs.Check.{valid}
+use Rattle.record.specs.declared.keys.Key.{Key}
 use Rattle.record.specs.Keys.{keyBefore}
 use Rattle.record.specs.Limits.{maxNumber}
 use Rattle.checks.specs.Making.{outside}
 use Rattle.record.specs.Nodes.{forwardAt, lockAt, keyOf, stampedBefore}
 use Rattle.record.specs.Queues.{nodeAt, processorAt, savedAt}
-use Rattle.record.specs.Stages.{place, insertCarried, removalCarried, isIdle}
+use Rattle.record.specs.Stages.{place, rowOf, isIdle}
 use Rattle.rules.specs.declared.answers.Answer.the-variants as ans
 use Rattle.rules.specs.declared.answers.Entry.{Entry}
 use Rattle.rules.specs.declared.answers.Outcome.{Outcome}
+use Rattle.rules.specs.declared.calls.Call.{Call}
+use Rattle.rules.specs.declared.calls.Call.the-variants as call
 use Rattle.rules.specs.declared.decisions.Effect.the-variants as eff
 use Rattle.rules.specs.declared.decisions.Carry.the-variants as carry
 use Rattle.rules.specs.declared.decisions.Decision.{Decision}
@@ -33,17 +36,16 @@ use Rattle.rules.specs.Choice.{chosen}
 use Rattle.rules.specs.Decide.{decide}
 use Rattle.rules.specs.Effects.{accepted}
 
--- the place that a step reads at: the walk's is at level 1, whatever level its place has ("W1: read b at level 1")
-abbrev pub walkPlace : Delete → Place
-walkPlace (del.Next a) = place (a .node) 1
-walkPlace (del.Stamped a) = place (a .node) 1
-walkPlace (del.Mark a) = place (a .node) 1
-walkPlace (del.Removal r) = removalCarried r .place
-
+-- the place that a step reads at: the stage's own, but a walk reads at level 1 (01, W1)
 abbrev pub readingPlace : Stage → Place
-readingPlace stage.Idle = place 0 1
-readingPlace (stage.Insert i) = insertCarried i .place
-readingPlace (stage.Delete d) = walkPlace d
+readingPlace g = cond (rowOf g .walks) (place (rowOf g .place .node) 1) (rowOf g .place)
+
+-- the operation's key: the own node's, which is k, at every stage that reads it
+abbrev pub keyFor : Stage → Key → Key
+keyFor stage.Idle k = k
+keyFor (stage.Insert i) k = k
+keyFor (stage.Delete d) k = k
+keyFor (stage.Removal job r) k = k
 
 abbrev pub entryOf : Node → Entry
 entryOf n = record { due = n .due; item = n .item; ticket = n .ticket }
@@ -59,7 +61,9 @@ sightOf q c a = record {
   height = nodeAt q (c .own) .height;
   holder = nodeAt q (c .own) .lock;
   next = nextOf q a;
-  before = keyBefore (keyOf (q .entries) (nextOf q a) (nodeAt q (nextOf q a))) (keyOf (q .entries) (c .own) (nodeAt q (c .own)));
+  before =
+      keyBefore (keyOf (q .entries) (nextOf q a) (nodeAt q (nextOf q a)))
+      (keyFor (c .stage) (keyOf (q .entries) (c .own) (nodeAt q (c .own))));
   tail = eqb (nextOf q a) (q .entries + 1);
   guard = lockAt (nodeAt q (a .node)) (a .level);
   onward = forwardAt (nodeAt q (c .own)) (a .level);
@@ -77,70 +81,103 @@ sightOf q c a = record {
 abbrev pub stepDecision : Queue → Processor → Decision
 stepDecision q c = decide (sightOf q c (readingPlace (c .stage))) (c .stage)
 
--- node x is taken; "Search, from the head at level L"
-abbrev pub insertDecision : Queue → ℕ → ℕ → ℕ → ℕ → Decision
-insertDecision q x due item height = record {
+-- what the begin of an Insert decides at the time t, on so many levels: node x is taken, and the
+-- Search begins at the head, on the highest level
+abbrev pub insertBegins : ℕ → ℕ → ℕ → ℕ → ℕ → ℕ → Decision
+insertBegins levels t x due item height = record {
   effect = eff.Fill x due item height;
-  stage = stage.Insert (ins.Search (place 0 (q .levels)));
+  stage = stage.Insert (ins.Search (place 0 levels));
   own = x;
   carry = carry.Begin;
-  answer = ans.Began (q .clock + 1);
+  answer = ans.Began t;
 }
 
--- "Delete_Min, from the head"
-abbrev pub deleteDecision : Queue → Decision
-deleteDecision q = record {
+-- a Delete_Min walks from the head
+abbrev pub deleteBegins : ℕ → Decision
+deleteBegins t = record {
   effect = eff.Keep;
   stage = stage.Delete (del.Next (place 0 1));
   own = 0;
   carry = carry.Begin;
-  answer = ans.Began (q .clock + 1);
+  answer = ans.Began t;
 }
 
--- "record, every call: 21"
-abbrev pub onRecord : Queue → Outcome → Outcome
-onRecord q r = cond (valid q) r (refused q 21)
+abbrev pub insertDecision : Queue → ℕ → ℕ → ℕ → ℕ → Decision
+insertDecision q x due item height = insertBegins (q .levels) (q .clock + 1) x due item height
 
--- "any begin or step: 31 clock is 999,999; 32 processor not below P"
-abbrev pub onProcessor : Queue → ℕ → Outcome → Outcome
-onProcessor q p r =
-    cond (leb maxNumber (q .clock)) (refused q 31)
-    (cond (leb (q .processors) p) (refused q 32) r)
+abbrev pub deleteDecision : Queue → Decision
+deleteDecision q = deleteBegins (q .clock + 1)
 
--- "begin: 33 processor busy"
-abbrev pub onIdle : Queue → ℕ → Outcome → Outcome
-onIdle q p r = cond (isIdle (processorAt q p .stage)) r (refused q 33)
+-- the decision of a call that is not refused
+abbrev pub decisionOf : Queue → Call → Decision
+decisionOf q (call.Insert p due item height) = insertDecision q (chosen q) due item height
+decisionOf q (call.DeleteMin p) = deleteDecision q
+decisionOf q (call.Step p) = stepDecision q (processorAt q p)
 
--- "step: 34 processor idle"
-abbrev pub onBusy : Queue → ℕ → Outcome → Outcome
-onBusy q p r = cond (isIdle (processorAt q p .stage)) (refused q 34) r
+abbrev pub processorOf : Call → ℕ
+processorOf (call.Insert p due item height) = p
+processorOf (call.DeleteMin p) = p
+processorOf (call.Step p) = p
 
--- "Insert: 35 due or item above 999,999; 36 height not 1 to L; 37 no node", and directly after 35
--- document 02's 39, item 0 (W10)
-abbrev pub onNumbers : Queue → ℕ → ℕ → ℕ → Outcome → Outcome
-onNumbers q due item height r =
-    cond (ltb maxNumber due || ltb maxNumber item) (refused q 35)
-    (cond (eqb item 0) (refused q 39)
-    (cond (outside height (q .levels)) (refused q 36)
-    (cond (eqb (chosen q) 0) (refused q 37) r)))
+-- 33 is for a begin of a busy processor, 34 for a step of an idle one
+abbrev pub turnRefusal : Call → Bool → ℕ
+turnRefusal (call.Insert p due item height) idle = cond idle 0 33
+turnRefusal (call.DeleteMin p) idle = cond idle 0 33
+turnRefusal (call.Step p) idle = cond idle 34 0
 
--- the calls on a record that passes check 21
-abbrev pub beginInsertValid : Queue → ℕ → ℕ → ℕ → ℕ → Outcome
-beginInsertValid q p due item height =
-    onProcessor q p (onIdle q p (onNumbers q due item height (accepted q p (insertDecision q (chosen q) due item height))))
+-- 35, 36 and, directly after 35, document 02's 39 (W10): an Insert's numbers, on l levels
+abbrev pub insertRefusal : ℕ → ℕ → ℕ → ℕ → ℕ
+insertRefusal due item height l =
+    cond (ltb maxNumber due || ltb maxNumber item) 35
+    (cond (eqb item 0) 39
+    (cond (outside height l) 36 0))
 
-abbrev pub beginDeleteValid : Queue → ℕ → Outcome
-beginDeleteValid q p = onProcessor q p (onIdle q p (accepted q p (deleteDecision q)))
+abbrev pub numbersRefusal : Call → ℕ → ℕ
+numbersRefusal (call.Insert p due item height) l = insertRefusal due item height l
+numbersRefusal (call.DeleteMin p) l = 0
+numbersRefusal (call.Step p) l = 0
 
-abbrev pub stepValid : Queue → ℕ → Outcome
-stepValid q p = onProcessor q p (onBusy q p (accepted q p (stepDecision q (processorAt q p))))
+-- 37 is for an Insert that finds no node; x is the one that it would take, or 0
+abbrev pub nodeRefusal : Call → ℕ → ℕ
+nodeRefusal (call.Insert p due item height) x = cond (eqb x 0) 37 0
+nodeRefusal (call.DeleteMin p) x = 0
+nodeRefusal (call.Step p) x = 0
 
--- the calls
+-- the first of two refusals, or 0
+abbrev pub firstOf : ℕ → ℕ → ℕ
+firstOf m n = cond (eqb m 0) n m
+
+-- what a call is refused with before a node is looked for, by the clock, P, L and whether its
+-- processor is idle; or 0 (01, refusals: from 31 on)
+abbrev pub refusalBy : Call → ℕ → ℕ → ℕ → Bool → ℕ
+refusalBy c clock processors levels idle =
+    cond (leb maxNumber clock) 31
+    (cond (leb processors (processorOf c)) 32
+    (firstOf (turnRefusal c idle) (numbersRefusal c levels)))
+
+abbrev pub idleAt : Queue → ℕ → Bool
+idleAt q p = isIdle (processorAt q p .stage)
+
+abbrev pub refusalOf : Queue → Call → ℕ
+refusalOf q c =
+    firstOf (refusalBy c (q .clock) (q .processors) (q .levels) (idleAt q (processorOf c)))
+    (nodeRefusal c (chosen q))
+
+-- a call on a record that passes check 21, and on any
+abbrev pub calledValid : Queue → Call → Outcome
+calledValid q c =
+    cond (eqb (refusalOf q c) 0) (accepted q (processorOf c) (decisionOf q c))
+    (refused q (refusalOf q c))
+
+abbrev pub called : Queue → Call → Outcome
+called q c = cond (valid q) (calledValid q c) (refused q 21)
+
+-- each by its name
 abbrev pub beginInsert : Queue → ℕ → ℕ → ℕ → ℕ → Outcome
-beginInsert q p due item height = onRecord q (beginInsertValid q p due item height)
+beginInsert q p due item height = called q (call.Insert p due item height)
 
 abbrev pub beginDelete : Queue → ℕ → Outcome
-beginDelete q p = onRecord q (beginDeleteValid q p)
+beginDelete q p = called q (call.DeleteMin p)
 
 abbrev pub step : Queue → ℕ → Outcome
-step q p = onRecord q (stepValid q p)
+step q p = called q (call.Step p)

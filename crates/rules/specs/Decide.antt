@@ -1,5 +1,5 @@
--- What a step decides, from what it reads. Each line of document 01's section "The steps" is one function here; a is the place, b the node
--- read, i the level, k the key of the operation's own node.
+-- What a step decides, from what it reads (01, the steps). Each line of that section is one
+-- function here, with the letters a for the place and b for the node after it.
 use Prim.Native.Nat.{_+_, _-_}
 use mathlib.Core.Bool.{cond}
 use lib.Dec.{ltb, leb, eqb}
@@ -10,12 +10,15 @@ use Rattle.record.specs.declared.stages.Insert.{Insert}
 use Rattle.record.specs.declared.stages.Insert.the-variants as ins
 use Rattle.record.specs.declared.stages.Removal.{Removal}
 use Rattle.record.specs.declared.stages.Removal.the-variants as rem
+use Rattle.record.specs.declared.stages.Job.{Job}
+use Rattle.record.specs.declared.stages.Job.the-variants as jobs
 use Rattle.record.specs.declared.stages.Delete.{Delete}
 use Rattle.record.specs.declared.stages.Delete.the-variants as del
 use Rattle.record.specs.declared.stages.Stage.{Stage}
 use Rattle.record.specs.declared.stages.Stage.the-variants as stage
 use Rattle.record.specs.Stages.{place}
 use Rattle.rules.specs.declared.answers.Answer.{Answer}
+use Rattle.rules.specs.declared.answers.Entry.{Entry}
 use Rattle.rules.specs.declared.answers.Answer.the-variants as ans
 use Rattle.rules.specs.declared.decisions.Effect.{Effect}
 use Rattle.rules.specs.declared.decisions.Effect.the-variants as eff
@@ -32,35 +35,40 @@ abbrev pub moved : Sight → Effect → Stage → Decision
 moved s e g = record { effect = e; stage = g; own = s .own; carry = carry.Keep; answer = ans.Moved }
 
 abbrev pub waits : Sight → Stage → Decision
-waits s g = record { effect = eff.Keep; stage = g; own = s .own; carry = carry.Keep; answer = ans.Waits }
+waits s g =
+    record { effect = eff.Keep; stage = g; own = s .own; carry = carry.Keep; answer = ans.Waits }
 
 -- on to another stage, a saved for its level
 abbrev pub saving : Sight → Place → Stage → Decision
-saving s a g = record { effect = eff.Keep; stage = g; own = s .own; carry = carry.Save a; answer = ans.Moved }
+saving s a g =
+    record { effect = eff.Keep; stage = g; own = s .own; carry = carry.Save a; answer = ans.Moved }
 
--- an answer, "which leaves the processor idle"
+-- an answer: the processor is idle, and nothing is saved
 abbrev pub answers : Effect → Answer → Decision
 answers e r = record { effect = e; stage = stage.Idle; own = 0; carry = carry.Clear; answer = r }
 
--- "Search, from the head at level L: read b after a at i. If b is before k, a becomes b. Otherwise save a for i; go one level down from the
--- same a, or after level 1 leave the search."
+-- Search: on along the level as long as the key ahead is smaller; then the place is saved for its
+-- level, and the level below is searched from it. After level 1 the Search is over.
 abbrev pub searchStep : Sight → Place → Searched
 searchStep s a =
     cond (s .before) (srch.Ahead (place (s .next) (a .level)))
     (cond (leb (a .level) 1) (srch.Left a) (srch.Down (place (a .node) (a .level - 1))))
 
--- "Lock-seek at i, from the saved node. G1: read b; if before k, move to b and stay in G1, else G2. G2: take a's lock at i, or wait while it
--- is held. G3: read b again; if before k go to G4, else done. G4: free the lock, move to the b of G3, go to G2."
+-- Lock-seek, on one level. G1 goes on as long as the key ahead is smaller. G2 takes the lock of the
+-- place, or waits for it. G3 looks whether the key ahead is smaller by now: if so, G4 gives the
+-- lock back and goes on to that node, for G2; if not, the Lock-seek is done.
 abbrev pub seekStep : Sight → Seek → Sought
 seekStep s (seek.Approach a) =
-    cond (s .before) (sght.Goes eff.Keep (seek.Approach (place (s .next) (a .level)))) (sght.Goes eff.Keep (seek.Take a))
+    cond (s .before) (sght.Goes eff.Keep (seek.Approach (place (s .next) (a .level))))
+    (sght.Goes eff.Keep (seek.Take a))
 seekStep s (seek.Take a) =
-    cond (eqb (s .guard) 0) (sght.Goes (eff.HoldLevel a) (seek.Confirm a)) (sght.Waits (seek.Take a))
+    cond (eqb (s .guard) 0) (sght.Goes (eff.HoldLevel a) (seek.Confirm a))
+    (sght.Waits (seek.Take a))
 seekStep s (seek.Confirm a) =
     cond (s .before) (sght.Goes eff.Keep (seek.Release a (s .next))) (sght.Done a)
 seekStep s (seek.Release a b) = sght.Goes (eff.FreeLevel a) (seek.Take (place b (a .level)))
 
--- "Insert: Search; then for i from 1 to the height: Lock-seek; .."
+-- an Insert's Search leads to the Lock-seek of level 1, and each Lock-seek to I1
 abbrev pub insertSearched : Sight → Place → Searched → Decision
 insertSearched s a (srch.Ahead b) = moved s eff.Keep (stage.Insert (ins.Search b))
 insertSearched s a (srch.Down b) = saving s a (stage.Insert (ins.Search b))
@@ -71,99 +79,118 @@ insertSought s (sght.Goes e k) = moved s e (stage.Insert (ins.Seek k))
 insertSought s (sght.Waits k) = waits s (stage.Insert (ins.Seek k))
 insertSought s (sght.Done a) = moved s eff.Keep (stage.Insert (ins.Copy a))
 
--- I3, "free a's lock"; "an Insert goes from I3 to I4 at any level not below the height"
+-- I3: the place's lock is free again; on to the next level or, from the height on, to I4
 abbrev pub insertFreed : Sight → Place → Decision
 insertFreed s a =
     cond (ltb (a .level) (s .height))
-    (moved s (eff.FreeLevel a) (stage.Insert (ins.Seek (seek.Approach (place (s .up) (a .level + 1))))))
+    (moved s (eff.FreeLevel a)
+    (stage.Insert (ins.Seek (seek.Approach (place (s .up) (a .level + 1))))))
     (moved s (eff.FreeLevel a) (stage.Insert ins.FreeNode))
 
--- ".. I1 own forward number := a's; I2 a's forward number := own node; I3 free a's lock. Then I4 free the node lock; I5 stamp := the time of
--- this call, and answer."
+-- I1: the own node leads to where the place leads; I2: the place leads to it; I4: its node lock is
+-- free; I5: its stamp, and the answer
 abbrev pub insertStep : Sight → Insert → Decision
 insertStep s (ins.Search a) = insertSearched s a (searchStep s a)
 insertStep s (ins.Seek k) = insertSought s (seekStep s k)
-insertStep s (ins.Copy a) = moved s (eff.Lead (place (s .own) (a .level)) (s .next)) (stage.Insert (ins.Link a))
+insertStep s (ins.Copy a) =
+    moved s (eff.Lead (place (s .own) (a .level)) (s .next)) (stage.Insert (ins.Link a))
 insertStep s (ins.Link a) = moved s (eff.Lead a (s .own)) (stage.Insert (ins.FreeLevel a))
 insertStep s (ins.FreeLevel a) = insertFreed s a
 insertStep s ins.FreeNode = moved s (eff.FreeNode (s .own)) (stage.Insert ins.Stamp)
 insertStep s ins.Stamp = answers (eff.Stamp (s .own)) (ans.Inserted (s .mine))
 
--- the removal of a Delete_Min
-abbrev pub removing : Removal → Stage
-removing r = stage.Delete (del.Removal r)
+-- the removal of a marked node, and its job
+abbrev pub removing : Job → Removal → Stage
+removing job r = stage.Removal job r
 
--- "Then Search; L1 take its node lock or wait; for i from the height down to 1: Lock-seek; .."
-abbrev pub removalSearched : Sight → Place → Searched → Decision
-removalSearched s a (srch.Ahead b) = moved s eff.Keep (removing (rem.Search b))
-removalSearched s a (srch.Down b) = saving s a (removing (rem.Search b))
-removalSearched s a (srch.Left b) = saving s a (removing rem.HoldNode)
+-- the Search, L1, and the Lock-seek of each level from the height down
+abbrev pub removalSearched : Job → Sight → Place → Searched → Decision
+removalSearched job s a (srch.Ahead b) = moved s eff.Keep (removing job (rem.Search b))
+removalSearched job s a (srch.Down b) = saving s a (removing job (rem.Search b))
+removalSearched job s a (srch.Left b) = saving s a (removing job rem.HoldNode)
 
-abbrev pub holdNode : Sight → Decision
-holdNode s =
+abbrev pub holdNode : Job → Sight → Decision
+holdNode job s =
     cond (eqb (s .holder) 0)
-    (moved s (eff.HoldNode (s .own)) (removing (rem.Seek (seek.Approach (place (s .top) (s .height))))))
-    (waits s (removing rem.HoldNode))
+    (moved s (eff.HoldNode (s .own))
+    (removing job (rem.Seek (seek.Approach (place (s .top) (s .height))))))
+    (waits s (removing job rem.HoldNode))
 
-abbrev pub removalSought : Sight → Sought → Decision
-removalSought s (sght.Goes e k) = moved s e (removing (rem.Seek k))
-removalSought s (sght.Waits k) = waits s (removing (rem.Seek k))
-removalSought s (sght.Done a) = moved s eff.Keep (removing (rem.HoldOwn a))
+abbrev pub removalSought : Job → Sight → Sought → Decision
+removalSought job s (sght.Goes e k) = moved s e (removing job (rem.Seek k))
+removalSought job s (sght.Waits k) = waits s (removing job (rem.Seek k))
+removalSought job s (sght.Done a) = moved s eff.Keep (removing job (rem.HoldOwn a))
 
--- "L2 take own lock at i or wait"
-abbrev pub holdOwn : Sight → Place → Decision
-holdOwn s a =
-    cond (eqb (s .latch) 0) (moved s (eff.HoldLevel (place (s .own) (a .level))) (removing (rem.Unlink a)))
-    (waits s (removing (rem.HoldOwn a)))
+-- L2: the own node's lock at the level, or wait for it
+abbrev pub holdOwn : Job → Sight → Place → Decision
+holdOwn job s a =
+    cond (eqb (s .latch) 0)
+    (moved s (eff.HoldLevel (place (s .own) (a .level))) (removing job (rem.Unlink a)))
+    (waits s (removing job (rem.HoldOwn a)))
 
--- "L6 free a's", and on to the level below or, after level 1, to L7
-abbrev pub removalFreed : Sight → Place → Decision
-removalFreed s a =
-    cond (leb (a .level) 1) (moved s (eff.FreeLevel a) (removing rem.FreeNode))
-    (moved s (eff.FreeLevel a) (removing (rem.Seek (seek.Approach (place (s .down) (a .level - 1))))))
+-- L6: the place's lock is free; on to the level below or, after level 1, to L7
+abbrev pub removalFreed : Job → Sight → Place → Decision
+removalFreed job s a =
+    cond (leb (a .level) 1) (moved s (eff.FreeLevel a) (removing job rem.FreeNode))
+    (moved s (eff.FreeLevel a)
+    (removing job (rem.Seek (seek.Approach (place (s .down) (a .level - 1))))))
 
--- ".. L2 take own lock at i or wait; L3 a's forward number := own; L4 own := a; L5 free own lock; L6 free a's. Then L7 free the node lock; L8
--- retire the node with this time and hand out due and item."
-abbrev pub removalStep : Sight → Removal → Decision
-removalStep s (rem.Search a) = removalSearched s a (searchStep s a)
-removalStep s rem.HoldNode = holdNode s
-removalStep s (rem.Seek k) = removalSought s (seekStep s k)
-removalStep s (rem.HoldOwn a) = holdOwn s a
-removalStep s (rem.Unlink a) = moved s (eff.Lead a (s .onward)) (removing (rem.Back a))
-removalStep s (rem.Back a) = moved s (eff.Lead (place (s .own) (a .level)) (a .node)) (removing (rem.FreeOwn a))
-removalStep s (rem.FreeOwn a) = moved s (eff.FreeLevel (place (s .own) (a .level))) (removing (rem.FreeLevel a))
-removalStep s (rem.FreeLevel a) = removalFreed s a
-removalStep s rem.FreeNode = moved s (eff.FreeNode (s .own)) (removing rem.Retire)
-removalStep s rem.Retire = answers (eff.Retire (s .own)) (ans.HandedOut (s .mine))
+-- what L8 answers, by the removal's job
+abbrev pub handing : Job → Entry → Answer
+handing jobs.Deliver e = ans.HandedOut e
 
--- "W1: read b at level 1; the tail answers EMPTY; else move to b."
+-- L3: the place leads past the own node; L4: that one leads back to the place; L5: its lock is
+-- free; L7: and its node lock; L8: it is retired, and the job tells the answer
+abbrev pub removalStep : Job → Sight → Removal → Decision
+removalStep job s (rem.Search a) = removalSearched job s a (searchStep s a)
+removalStep job s rem.HoldNode = holdNode job s
+removalStep job s (rem.Seek k) = removalSought job s (seekStep s k)
+removalStep job s (rem.HoldOwn a) = holdOwn job s a
+removalStep job s (rem.Unlink a) = moved s (eff.Lead a (s .onward)) (removing job (rem.Back a))
+removalStep job s (rem.Back a) =
+    moved s (eff.Lead (place (s .own) (a .level)) (a .node)) (removing job (rem.FreeOwn a))
+removalStep job s (rem.FreeOwn a) =
+    moved s (eff.FreeLevel (place (s .own) (a .level))) (removing job (rem.FreeLevel a))
+removalStep job s (rem.FreeLevel a) = removalFreed job s a
+removalStep job s rem.FreeNode = moved s (eff.FreeNode (s .own)) (removing job rem.Retire)
+removalStep job s rem.Retire = answers (eff.Retire (s .own)) (handing job (s .mine))
+
+-- W1: on to the next node of level 1, or EMPTY at the end
 abbrev pub walkOn : Sight → Decision
-walkOn s = cond (s .tail) (answers eff.Keep ans.Empty) (moved s eff.Keep (stage.Delete (del.Stamped (place (s .next) 1))))
+walkOn s =
+    cond (s .tail) (answers eff.Keep ans.Empty)
+    (moved s eff.Keep (stage.Delete (del.Stamped (place (s .next) 1))))
 
--- "W2: stamp earlier than the begin time goes to W3, any other or none to W1."
+-- W2: a node whose stamp is older than the operation may be marked; any other is walked past
 abbrev pub stampTest : Sight → Place → Decision
-stampTest s a = cond (s .stamped) (moved s eff.Keep (stage.Delete (del.Mark a))) (moved s eff.Keep (stage.Delete (del.Next a)))
+stampTest s a =
+    cond (s .stamped) (moved s eff.Keep (stage.Delete (del.Mark a)))
+    (moved s eff.Keep (stage.Delete (del.Next a)))
 
--- "W3: set the mark; if it was already set go to W1, else this node is the operation's own, and the call reports it marked."
+-- 01, W3 where the mark was not set: the node is the operation's own from here on, and its removal
+-- begins with the Search
+abbrev pub marking : Job → Sight → Place → Decision
+marking job s a = record {
+  effect = eff.Mark (a .node);
+  stage = removing job (rem.Search (place 0 (s .levels)));
+  own = a .node;
+  carry = carry.Keep;
+  answer = ans.Marked (s .seen);
+}
+
+-- 01, W3
 abbrev pub markTest : Sight → Place → Decision
 markTest s a =
-    cond (s .marked) (moved s eff.Keep (stage.Delete (del.Next a)))
-    (record {
-      effect = eff.Mark (a .node);
-      stage = removing (rem.Search (place 0 (s .levels)));
-      own = a .node;
-      carry = carry.Keep;
-      answer = ans.Marked (s .seen);
-    })
+    cond (s .marked) (moved s eff.Keep (stage.Delete (del.Next a))) (marking jobs.Deliver s a)
 
 abbrev pub deleteStep : Sight → Delete → Decision
 deleteStep s (del.Next a) = walkOn s
 deleteStep s (del.Stamped a) = stampTest s a
 deleteStep s (del.Mark a) = markTest s a
-deleteStep s (del.Removal r) = removalStep s r
 
 -- an idle processor has no step: the call is refused before this
 abbrev pub decide : Sight → Stage → Decision
 decide s stage.Idle = waits s stage.Idle
 decide s (stage.Insert i) = insertStep s i
 decide s (stage.Delete d) = deleteStep s d
+decide s (stage.Removal job r) = removalStep job s r

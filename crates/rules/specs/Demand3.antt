@@ -1,4 +1,5 @@
--- Demand 3, and what it means. Everything here is a statement; proofs/Demand3.antt and the files that it names prove each of them.
+-- Demand 3 (01, the book; held to by contract), and what it means. Everything here is a statement;
+-- proofs/Demand3.antt and the files that it names prove each of them.
 use Prim.Native.Nat.{ℕ, suc, _+_, _≤_, _<_}
 use mathlib.Core.Path.{_≡_}
 use mathlib.Core.Bool.{true, false, _&&_}
@@ -14,9 +15,9 @@ use Rattle.rules.specs.declared.answers.Entry.{Entry}
 use Rattle.rules.specs.Book.{Book, deleting, delivering, emptyBook, agrees, judged, earlier}
 use Rattle.rules.specs.Book.{answeredIn, pendingIn}
 use Rattle.rules.specs.Locks.{Lock, level, node, holderOf, Claims}
-use Rattle.rules.specs.Runs.{Call, steps, backlog, Reply, answered, counted, reply, afterAll}
+use Rattle.rules.specs.Runs.{Turn, steps, backlog, Reply, answered, counted, reply, afterAll}
 
--- "The queue is just made, with any P, N and L in range."
+-- a queue that was just made has sizes in their ranges
 pub record InRange (P N L : ℕ) : Type 0 where
   pub processors-low : 1 ≤ P
   pub processors-high : P ≤ 16
@@ -26,15 +27,17 @@ pub record InRange (P N L : ℕ) : Type 0 where
   pub levels-high : L ≤ 8
 
 -- b is the book after this list of calls on a queue that was just made: every answer agreed with it
-abbrev pub BookAfter : (P N L : ℕ) → List Call → Book → Type 0
+abbrev pub BookAfter : (P N L : ℕ) → List Turn → Book → Type 0
 BookAfter P N L cs b = judged emptyBook (freshQueue P N L) cs ≡ agrees b
 
--- DEMAND 3. "Every answer agrees with this book": for every list of calls, in any order, with any numbers, refused ones included.
+-- DEMAND 3: for every list of calls, in any order, with any numbers, refused ones included, the
+-- book takes every answer.
 abbrev pub Demand3 : Type 0
-Demand3 = (P N L : ℕ) → InRange P N L → (cs : List Call) → (b : Book) × BookAfter P N L cs b
+Demand3 = (P N L : ℕ) → InRange P N L → (cs : List Turn) → (b : Book) × BookAfter P N L cs b
 
--- What it means. In the statements below cs is any list of calls on a fresh queue, b the book after it, and the next call is a step of processor p.
-abbrev pub stepReply : (P N L : ℕ) → List Call → ℕ → Reply
+-- What it means. In the statements below cs is any list of calls on a fresh queue, b the book after
+-- it, and the next call is a step of processor p.
+abbrev pub stepReply : (P N L : ℕ) → List Turn → ℕ → Reply
 stepReply P N L cs p = reply (afterAll (freshQueue P N L) cs) (steps p)
 
 -- the entry with ticket t was answered before this begin, and no earlier step marked it
@@ -48,8 +51,8 @@ pub record Entered (b : Book) (e : Entry) : Type 0 where
   pub due : b .entry (e .ticket) .due ≡ e .due
   pub item : b .entry (e .ticket) .item ≡ e .item
 
--- "An entry that a Delete_Min marks is the earliest, by due and then by begin of its Insert, among those whose Insert had answered before this
--- Delete_Min began and that no earlier step had marked"; and of those for one minute it is the one that was begun first.
+-- What a Delete_Min marks had been answered when it began and was not marked before, and no other
+-- such entry is due earlier; of those for one minute it is the one whose Insert began first.
 pub record Earliest (b : Book) (p : ℕ) (e : Entry) : Type 0 where
   pub begin : ℕ
   pub opened : b .opened p ≡ deleting begin
@@ -60,9 +63,10 @@ pub record Earliest (b : Book) (p : ℕ) (e : Entry) : Type 0 where
 
 abbrev pub MarkedIsEarliest : Type 0
 MarkedIsEarliest =
-    (P N L : ℕ) → InRange P N L → (cs : List Call) (b : Book) → BookAfter P N L cs b → (p : ℕ) (e : Entry) → stepReply P N L cs p ≡ answered (ans.Marked e) → Earliest b p e
+    (P N L : ℕ) → InRange P N L → (cs : List Turn) (b : Book) → BookAfter P N L cs b
+    → (p : ℕ) (e : Entry) → stepReply P N L cs p ≡ answered (ans.Marked e) → Earliest b p e
 
--- "EMPTY means that no such entry is left."
+-- EMPTY: there is none.
 pub record NoneLeft (b : Book) (p : ℕ) : Type 0 where
   pub begin : ℕ
   pub opened : b .opened p ≡ deleting begin
@@ -70,9 +74,10 @@ pub record NoneLeft (b : Book) (p : ℕ) : Type 0 where
 
 abbrev pub EmptyIsTrue : Type 0
 EmptyIsTrue =
-    (P N L : ℕ) → InRange P N L → (cs : List Call) (b : Book) → BookAfter P N L cs b → (p : ℕ) → stepReply P N L cs p ≡ answered ans.Empty → NoneLeft b p
+    (P N L : ℕ) → InRange P N L → (cs : List Turn) (b : Book) → BookAfter P N L cs b → (p : ℕ)
+    → stepReply P N L cs p ≡ answered ans.Empty → NoneLeft b p
 
--- "What is handed out is the due, item and ticket that this Delete_Min marked"
+-- What is handed out is what this Delete_Min marked.
 pub record Delivered (b : Book) (p : ℕ) (e : Entry) : Type 0 where
   pub opened : b .opened p ≡ delivering (e .ticket)
   pub entered : Entered b e
@@ -80,22 +85,27 @@ pub record Delivered (b : Book) (p : ℕ) (e : Entry) : Type 0 where
 
 abbrev pub HandedOutIsMarked : Type 0
 HandedOutIsMarked =
-    (P N L : ℕ) → InRange P N L → (cs : List Call) (b : Book) → BookAfter P N L cs b → (p : ℕ) (e : Entry) → stepReply P N L cs p ≡ answered (ans.HandedOut e) → Delivered b p e
+    (P N L : ℕ) → InRange P N L → (cs : List Turn) (b : Book) → BookAfter P N L cs b
+    → (p : ℕ) (e : Entry) → stepReply P N L cs p ≡ answered (ans.HandedOut e) → Delivered b p e
 
--- "No entry is marked twice or handed out twice": a step of p and, any calls later, one of r
+-- Nothing is marked twice, and nothing is handed out twice: a step of p and, any calls later, one
+-- of r
 abbrev pub MarkedOnce : Type 0
 MarkedOnce =
-    (P N L : ℕ) → InRange P N L → (cs ds : List Call) (p r : ℕ) (e f : Entry) → stepReply P N L cs p ≡ answered (ans.Marked e) →
+    (P N L : ℕ) → InRange P N L → (cs ds : List Turn) (p r : ℕ) (e f : Entry)
+    → stepReply P N L cs p ≡ answered (ans.Marked e) →
     stepReply P N L (cs ++ (steps p ∷ ds)) r ≡ answered (ans.Marked f) → e .ticket ≡ f .ticket → ⊥
 
 abbrev pub HandedOutOnce : Type 0
 HandedOutOnce =
-    (P N L : ℕ) → InRange P N L → (cs ds : List Call) (p r : ℕ) (e f : Entry) → stepReply P N L cs p ≡ answered (ans.HandedOut e) →
-    stepReply P N L (cs ++ (steps p ∷ ds)) r ≡ answered (ans.HandedOut f) → e .ticket ≡ f .ticket → ⊥
+    (P N L : ℕ) → InRange P N L → (cs ds : List Turn) (p r : ℕ) (e f : Entry)
+    → stepReply P N L cs p ≡ answered (ans.HandedOut e) →
+    stepReply P N L (cs ++ (steps p ∷ ds)) r ≡ answered (ans.HandedOut f) → e .ticket ≡ f .ticket
+    → ⊥
 
 -- Backlog (02, W2). k is the number of the book's entries that are answered and not marked. With
--- the marked ones among the answered it makes up all that are answered, one for each Insert that has
--- answered; and every entry stands under a ticket from 1 to the book's count, so that no number
+-- the marked ones among the answered it makes up all that are answered, one for each Insert that
+-- has answered; and every entry stands under a ticket from 1 to the book's count, so that no number
 -- here leaves one out.
 pub record Pending (b : Book) (k : ℕ) : Type 0 where
   pub entries : k ≡ howMany (pendingIn b) (b .count)
@@ -108,35 +118,43 @@ pub record Pending (b : Book) (k : ℕ) : Type 0 where
 -- the book agrees with no other count.
 abbrev pub BacklogIsPending : Type 0
 BacklogIsPending =
-    (P N L : ℕ) → InRange P N L → (cs : List Call) (b : Book) → BookAfter P N L cs b →
+    (P N L : ℕ) → InRange P N L → (cs : List Turn) (b : Book) → BookAfter P N L cs b →
     (k : ℕ)
     × (reply (afterAll (freshQueue P N L) cs) backlog ≡ counted (count.Pending k))
     × Pending b k
 
 -- Every record reached passes check 21, so that 21 is never the answer in a run.
 abbrev pub ReachedIsValid : Type 0
-ReachedIsValid = (P N L : ℕ) → InRange P N L → (cs : List Call) → valid (afterAll (freshQueue P N L) cs) ≡ true
+ReachedIsValid =
+    (P N L : ℕ) → InRange P N L → (cs : List Turn) → valid (afterAll (freshQueue P N L) cs) ≡ true
 
--- No call changes a slot past P, N+1 or L, on any record: slot k of a node's or a processor's array is level k + 1.
+-- No call changes a slot past P, N + 1 or L, on any record: slot k of a node's or a processor's
+-- array is level k + 1.
 pub record SameOutside (q r : Queue) : Type 0 where
   pub processors : r .processors ≡ q .processors
   pub entries : r .entries ≡ q .entries
   pub levels : r .levels ≡ q .levels
   pub nodes : (x : ℕ) → q .entries + 1 < x → nodeAt r x ≡ nodeAt q x
   pub callers : (p : ℕ) → q .processors ≤ p → processorAt r p ≡ processorAt q p
-  pub forward : (x k : ℕ) → q .levels ≤ k → getD (nodeAt r x .forward) k 0 ≡ getD (nodeAt q x .forward) k 0
-  pub locks : (x k : ℕ) → q .levels ≤ k → getD (nodeAt r x .locks) k 0 ≡ getD (nodeAt q x .locks) k 0
-  pub saved : (p k : ℕ) → q .levels ≤ k → getD (processorAt r p .saved) k 0 ≡ getD (processorAt q p .saved) k 0
+  pub forward : (x k : ℕ) → q .levels ≤ k → getD (nodeAt r x .forward) k 0
+      ≡ getD (nodeAt q x .forward) k 0
+  pub locks : (x k : ℕ) → q .levels ≤ k → getD (nodeAt r x .locks) k 0
+      ≡ getD (nodeAt q x .locks) k 0
+  pub saved : (p k : ℕ) → q .levels ≤ k → getD (processorAt r p .saved) k 0
+      ≡ getD (processorAt q p .saved) k 0
 
 abbrev pub OutsideIsUntouched : Type 0
-OutsideIsUntouched = (q : Queue) (cs : List Call) → SameOutside q (afterAll q cs)
+OutsideIsUntouched = (q : Queue) (cs : List Turn) → SameOutside q (afterAll q cs)
 
--- The locks of a reached record: whoever's stage says that it holds a lock is the record's holder, and a held lock is held by a processor whose stage
--- says so.
+-- The locks of a reached record: whoever's stage says that it holds a lock is the record's holder,
+-- and a held lock is held by a processor whose stage says so.
 pub record LocksAgree (q : Queue) : Type 0 where
   pub claimed-is-held : (p : ℕ) (l : Lock) → Claims (processorAt q p) l → holderOf q l ≡ suc p
-  pub held-is-claimed : (p n i : ℕ) → 1 ≤ i → holderOf q (level n i) ≡ suc p → Claims (processorAt q p) (level n i)
-  pub node-held-is-claimed : (p n : ℕ) → holderOf q (node n) ≡ suc p → Claims (processorAt q p) (node n)
+  pub held-is-claimed : (p n i : ℕ) → 1 ≤ i → holderOf q (level n i) ≡ suc p
+      → Claims (processorAt q p) (level n i)
+  pub node-held-is-claimed : (p n : ℕ) → holderOf q (node n) ≡ suc p
+      → Claims (processorAt q p) (node n)
 
 abbrev pub ReachedLocksAgree : Type 0
-ReachedLocksAgree = (P N L : ℕ) → InRange P N L → (cs : List Call) → LocksAgree (afterAll (freshQueue P N L) cs)
+ReachedLocksAgree =
+    (P N L : ℕ) → InRange P N L → (cs : List Turn) → LocksAgree (afterAll (freshQueue P N L) cs)

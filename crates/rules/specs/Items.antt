@@ -14,7 +14,9 @@ use Rattle.checks.specs.Check.{valid}
 use Rattle.rules.specs.declared.answers.Answer.{Answer}
 use Rattle.rules.specs.declared.answers.Answer.the-variants as ans
 use Rattle.rules.specs.declared.answers.Entry.{Entry}
-use Rattle.rules.specs.Runs.{Call, insert, deleteMin, steps, backlog, after}
+use Rattle.rules.specs.declared.calls.Call.{Call}
+use Rattle.rules.specs.declared.calls.Call.the-variants as call
+use Rattle.rules.specs.Runs.{Turn, calls, deleteMin, steps, backlog, after}
 use Rattle.rules.specs.Runs.{Reply, answered, counted, reply}
 
 -- f gives new numbers to items: what was in its range and nothing else comes to be in it. 0 stays,
@@ -66,31 +68,37 @@ renamedReply f (answered a) = answered (renamedAnswer f a)
 renamedReply f (counted c) = counted c
 
 abbrev pub renamedCall : (ℕ → ℕ) → Call → Call
-renamedCall f (insert p due item height) = insert p due (f item) height
-renamedCall f (deleteMin p) = deleteMin p
-renamedCall f (steps p) = steps p
-renamedCall f backlog = backlog
+renamedCall f (call.Insert p due item height) = call.Insert p due (f item) height
+renamedCall f (call.DeleteMin p) = call.DeleteMin p
+renamedCall f (call.Step p) = call.Step p
+
+abbrev pub renamedTurn : (ℕ → ℕ) → Turn → Turn
+renamedTurn f (calls c) = calls (renamedCall f c)
+renamedTurn f backlog = backlog
 
 -- the item that a call files; 0 if it files none
 abbrev pub itemOf : Call → ℕ
-itemOf (insert p due item height) = item
-itemOf (deleteMin p) = 0
-itemOf (steps p) = 0
-itemOf backlog = 0
+itemOf (call.Insert p due item height) = item
+itemOf (call.DeleteMin p) = 0
+itemOf (call.Step p) = 0
+
+abbrev pub itemIn : Turn → ℕ
+itemIn (calls c) = itemOf c
+itemIn backlog = 0
 
 -- check 21 takes a record with the new items exactly if it takes the one with the old
 abbrev pub CheckSeesNoItem : Type 0
 CheckSeesNoItem = (f : ℕ → ℕ) → Renaming f → (q : Queue) → valid (renamed f q) ≡ valid q
 
 -- what a call leaves and gives back, on any record
-pub record SameButItems (f : ℕ → ℕ) (q : Queue) (c : Call) : Type 0 where
-  pub left : after (renamed f q) (renamedCall f c) ≡ renamed f (after q c)
-  pub given : reply (renamed f q) (renamedCall f c) ≡ renamedReply f (reply q c)
+pub record SameButItems (f : ℕ → ℕ) (q : Queue) (c : Turn) : Type 0 where
+  pub left : after (renamed f q) (renamedTurn f c) ≡ renamed f (after q c)
+  pub given : reply (renamed f q) (renamedTurn f c) ≡ renamedReply f (reply q c)
 
 -- every call; an Insert's item does not become 0, since 39 is for that
 abbrev pub NoRuleSeesAnItem : Type 0
 NoRuleSeesAnItem =
-    (f : ℕ → ℕ) → Renaming f → (q : Queue) (c : Call) → (f (itemOf c) ≡ 0 → itemOf c ≡ 0) →
+    (f : ℕ → ℕ) → Renaming f → (q : Queue) (c : Turn) → (f (itemIn c) ≡ 0 → itemIn c ≡ 0) →
     SameButItems f q c
 
 -- 0 in the place of the item k

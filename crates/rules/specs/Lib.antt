@@ -6,6 +6,5 @@ pub mod Calls
 pub mod Runs
 pub mod Items
 pub mod Book
-pub mod Starred
 pub mod Locks
 pub mod Demand3

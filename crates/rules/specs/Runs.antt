@@ -1,40 +1,45 @@
--- Lists of calls. "Each call of the list takes the record that the one before returned or left; nobody else writes it. Calls that only read the
--- record, as Backlog, may stand anywhere."
+-- Lists of calls (01, the book), each on the record that the one before it left. Backlog, which
+-- only reads, may be any of them.
 use Prim.Native.Nat.{ℕ}
 use mathlib.Core.List.{List, [], _∷_}
 use Rattle.checks.specs.declared.counting.Count.{Count}
 use Rattle.record.specs.declared.queues.Queue.{Queue}
 use Rattle.checks.specs.Backlog.{backlogOf}
 use Rattle.rules.specs.declared.answers.Answer.{Answer}
-use Rattle.rules.specs.Calls.{beginInsert, beginDelete, step}
+use Rattle.rules.specs.declared.calls.Call.{Call}
+use Rattle.rules.specs.declared.calls.Call.the-variants as call
+use Rattle.rules.specs.Calls.{called}
 
--- a call with its numbers: processor, due, item and height of an Insert; the processor of a Delete_Min and of a step
-pub data Call : Type 0 where
-  insert : ℕ → ℕ → ℕ → ℕ → Call
-  deleteMin : ℕ → Call
-  steps : ℕ → Call
-  backlog : Call
+-- one turn of a list: a call, or Backlog
+pub data Turn : Type 0 where
+  calls : Call → Turn
+  backlog : Turn
+
+abbrev pub insert : ℕ → ℕ → ℕ → ℕ → Turn
+insert p due item height = calls (call.Insert p due item height)
+
+abbrev pub deleteMin : ℕ → Turn
+deleteMin p = calls (call.DeleteMin p)
+
+abbrev pub steps : ℕ → Turn
+steps p = calls (call.Step p)
 
 -- what a call gives back: an answer, or Backlog's count
 pub data Reply : Type 0 where
   answered : Answer → Reply
   counted : Count → Reply
 
--- the record after a call
-abbrev pub after : Queue → Call → Queue
-after q (insert p due item height) = beginInsert q p due item height .queue
-after q (deleteMin p) = beginDelete q p .queue
-after q (steps p) = step q p .queue
+-- the record after a turn
+abbrev pub after : Queue → Turn → Queue
+after q (calls c) = called q c .queue
 after q backlog = q
 
--- what the call gives back
-abbrev pub reply : Queue → Call → Reply
-reply q (insert p due item height) = answered (beginInsert q p due item height .answer)
-reply q (deleteMin p) = answered (beginDelete q p .answer)
-reply q (steps p) = answered (step q p .answer)
+-- what it gives back
+abbrev pub reply : Queue → Turn → Reply
+reply q (calls c) = answered (called q c .answer)
 reply q backlog = counted (backlogOf q)
 
 -- the record after a list of calls
-unfoldable pub afterAll : Queue → List Call → Queue
+unfoldable pub afterAll : Queue → List Turn → Queue
 afterAll q [] = q
 afterAll q (c ∷ cs) = afterAll (after q c) cs

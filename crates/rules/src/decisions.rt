@@ -1,4 +1,5 @@
-// A step in three parts: what it reads, what it decides, what it changes. These are the values that pass between the parts.
+// A step in three parts: what it reads, what it decides, what it changes. These are the values that
+// pass between the parts.
 use crate::answers::Answer;
 use crate::answers::Entry;
 use record::Place;
@@ -11,7 +12,8 @@ pub struct Sight {
     pub own: u8,
     pub height: u8,
     pub holder: u8,
-    // the node after the place at its level; whether its key is before the own node's; whether it is the tail
+    // the node after the place at its level; whether its key is before the own node's; whether it
+    // is the tail
     pub next: u8,
     pub before: bool,
     pub tail: bool,
@@ -63,8 +65,8 @@ pub enum Effect {
     Fill(u8, u32, u32, u8),
 }
 
-// What becomes of the begin time and the saved nodes of the calling processor: both stay; the place is saved for its level; the answer
-// clears both; a begin sets the begin time.
+// What becomes of the begin time and the saved nodes of the calling processor: both stay; the place
+// is saved for its level; the answer clears both; a begin sets the begin time.
 pub enum Carry {
     Keep,
     Save(Place),

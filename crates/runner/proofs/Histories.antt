@@ -10,18 +10,18 @@ use Rattle.checks.specs.Check.{valid}
 use Rattle.rules.specs.declared.answers.Answer.{Answer}
 use Rattle.rules.specs.declared.answers.Answer.the-variants as ans
 use Rattle.rules.specs.declared.answers.Outcome.{Outcome}
-use Rattle.rules.specs.Answers.{refused, isRefused}
+use Rattle.rules.specs.Answers.{isRefused}
 use Rattle.rules.specs.Calls.{beginInsert, beginDelete, step}
-use Rattle.rules.proofs.Inner.{insert-inner, delete-inner}
-use Rattle.rules.proofs.Inner.{step-inner}
+use Rattle.rules.specs.declared.calls.Call.the-variants as call
+use Rattle.rules.proofs.Inner.{call-inner}
 use Rattle.sheet.specs.declared.events.Event.{Event}
 use Rattle.sheet.specs.declared.lines.Line.{Line}
 use Rattle.sheet.specs.Events.{Running, running, insertLine, deleteLine, stepOnce, stepsLine, event, beginEvents, stepEvents}
 use Rattle.sheet.specs.Letters.{letterD, letterI}
 use Rattle.sheet.specs.Lines.{lineOf, partAt}
 use Rattle.sheet.specs.Sheets.{runLine, runLines}
-use Rattle.runner.specs.Calls.{callOn, callsOf, leftAfter, eventsOf, beginPrints, stepPrints, prints, beginEvent, stepEvent, eventOf}
-use Rattle.runner.proofs.Called.{call-kept}
+use Rattle.runner.specs.Calls.{callsOf, leftAfter, eventsOf, beginPrints, stepPrints, prints, beginEvent, stepEvent, eventOf}
+use Rattle.runner.proofs.Called.{callOn, call-kept}
 
 -- what is printed is at most one line
 begin-one : (time p : ℕ) (begun : Event) (a : Answer) → beginEvents time p begun a ≡ cond (beginPrints a) (beginEvent time p begun a ∷ []) []
@@ -132,17 +132,17 @@ from-one l r = same-both (isRefused (callOn l (r .queue) .answer)) (after l r)
 -- the three kinds of lines
 module _ (l : Line) where
   insert-after : (r : Running) → valid (r .queue) ≡ true → eqb (l .letter) letterI ≡ true → after l r ≡ insertLine r l (beginInsert (r .queue) (l .first) (l .second) (l .third) (l .fourth))
-  insert-after r v e = rw e (ap (λ (o : Outcome). insertLine r l o) (sym (insert-inner (r .queue) (l .first) (l .second) (l .third) (l .fourth) v)))
+  insert-after r v e = rw e (ap (λ (o : Outcome). insertLine r l o) (sym (call-inner (r .queue) (call.Insert (l .first) (l .second) (l .third) (l .fourth)) v)))
 
   delete-after : (r : Running) → valid (r .queue) ≡ true → eqb (l .letter) letterI ≡ false → eqb (l .letter) letterD ≡ true → after l r ≡ deleteLine r l (beginDelete (r .queue) (l .first))
-  delete-after r v e f = rw e (rw f (ap (λ (o : Outcome). deleteLine r l o) (sym (delete-inner (r .queue) (l .first) v))))
+  delete-after r v e f = rw e (rw f (ap (λ (o : Outcome). deleteLine r l o) (sym (call-inner (r .queue) (call.DeleteMin (l .first)) v))))
 
   module _ (e : eqb (l .letter) letterI ≡ false) (f : eqb (l .letter) letterD ≡ false) where
     step-after : (r : Running) → valid (r .queue) ≡ true → after l r ≡ stepOnce r (l .first) (step (r .queue) (l .first))
-    step-after r v = rw e (rw f (ap (λ (o : Outcome). stepOnce r (l .first) o) (sym (step-inner (r .queue) (l .first) v))))
+    step-after r v = rw e (rw f (ap (λ (o : Outcome). stepOnce r (l .first) o) (sym (call-inner (r .queue) (call.Step (l .first)) v))))
 
     step-refuses : (r : Running) → valid (r .queue) ≡ true → isRefused (callOn l (r .queue) .answer) ≡ isRefused (step (r .queue) (l .first) .answer)
-    step-refuses r v = rw e (rw f (ap (λ (o : Outcome). isRefused (o .answer)) (sym (step-inner (r .queue) (l .first) v))))
+    step-refuses r v = rw e (rw f (ap (λ (o : Outcome). isRefused (o .answer)) (sym (call-inner (r .queue) (call.Step (l .first)) v))))
 
     steps-from : (n : ℕ) (r : Running) → valid (r .queue) ≡ true → lineFrom l n r ≡ stepsLine r (l .first) n
     unfolding lineFrom stepsLine

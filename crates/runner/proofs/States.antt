@@ -24,8 +24,8 @@ use Rattle.sheet.specs.Sheets.{runLine, runLines, history, fitted, atFront}
 use Rattle.sheet.proofs.Stores.{sets-behind}
 use Rattle.sheet.proofs.Reports.{fits-length}
 use Rattle.sheet.proofs.Written.{length-event, length-history, history-append}
-use Rattle.runner.specs.Calls.{callOn, callsOf, leftAfter, prints, eventOf}
-use Rattle.runner.proofs.Called.{call-queue}
+use Rattle.runner.specs.Calls.{callsOf, leftAfter, prints, eventOf}
+use Rattle.runner.proofs.Called.{callOn, call-queue}
 use Rattle.runner.proofs.Histories.{afterCall, lineFrom, from-none, from-more, from-left, whole-line, next-line, Grows, grows-on, history-grows, rest-grows, events-one, silent-accepts}
 
 -- an area with bytes at its front, or only counted

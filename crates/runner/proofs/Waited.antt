@@ -1,14 +1,14 @@
 -- After a step that waits, the next steps of the same line wait too: nothing but the clock changed.
 -- Assumes nothing.
 use mathlib.Core.Path.{_≡_, refl, sym, ap, _∙_, subst}
-use mathlib.Core.Bool.{Bool, true, false, cond, _||_, false≢true}
+use mathlib.Core.Bool.{Bool, true, false, cond, false≢true}
 use mathlib.Core.List.{List, append-nil}
 use Prim.Native.Nat.{ℕ, zero, suc, _+_, _-_, _≤_, _<_}
 use native.Mathlib.Omega.{arith}
 use lib.Dec.{ltb, leb, eqb}
 use lib.ListN.{length, set}
 use lib.Seq.{set-getD}
-use borrow.Author.Tests.{lt-leb, lt-ltb, le-ltb, leb-false, ltb-true, ltb-false}
+use borrow.Author.Tests.{lt-leb, lt-ltb, le-ltb, ltb-true, ltb-false, eqb-true}
 use Rattle.laws.proofs.Booleans.{cond-elim, cond-cases}
 use Rattle.checks.specs.Check.{valid}
 use Rattle.record.specs.declared.nodes.Node.{Node}
@@ -21,6 +21,8 @@ use Rattle.record.specs.declared.stages.Insert.{Insert}
 use Rattle.record.specs.declared.stages.Insert.the-variants as ins
 use Rattle.record.specs.declared.stages.Removal.{Removal}
 use Rattle.record.specs.declared.stages.Removal.the-variants as rem
+use Rattle.record.specs.declared.stages.Job.{Job}
+use Rattle.record.specs.declared.stages.Job.the-variants as jobs
 use Rattle.record.specs.declared.stages.Delete.{Delete}
 use Rattle.record.specs.declared.stages.Delete.the-variants as del
 use Rattle.record.specs.declared.stages.Stage.{Stage}
@@ -36,9 +38,11 @@ use Rattle.rules.specs.declared.decisions.Searched.{Searched}
 use Rattle.rules.specs.declared.decisions.Sight.{Sight}
 use Rattle.rules.specs.declared.decisions.Sought.{Sought}
 use Rattle.rules.specs.Answers.{refused, isRefused}
-use Rattle.rules.specs.Calls.{readingPlace, sightOf, stepDecision, beginInsertValid, beginDeleteValid, stepValid}
-use Rattle.checks.specs.Making.{outside}
-use Rattle.rules.specs.Choice.{chosen}
+use Rattle.rules.specs.declared.calls.Call.{Call}
+use Rattle.rules.specs.declared.calls.Call.the-variants as call
+use Rattle.rules.specs.Calls.{readingPlace, sightOf, stepDecision, decisionOf, refusalOf}
+use Rattle.rules.specs.Calls.{calledValid}
+use Rattle.rules.proofs.Allowed.{Allowed, allowed, busy-steps}
 use Rattle.rules.specs.Decide.{waits, searchStep, seekStep, insertSearched, insertSought, insertStep, removing, removalSearched, removalSought, removalStep, deleteStep, decide}
 use Rattle.rules.specs.Effects.{accepted}
 use Rattle.sheet.specs.declared.events.Event.{Event}
@@ -55,9 +59,9 @@ use Rattle.image.proofs.Sizes.{sized-in}
 use Rattle.image.proofs.Whole.{withClock, put-clock}
 use Rattle.image_parts.specs.Given.{Gives}
 use Rattle.rules.proofs.ValidFacts.{valid-facts}
-use Rattle.runner.specs.Calls.{callOn, prints}
+use Rattle.runner.specs.Calls.{prints}
 use Rattle.runner.specs.Waiting.{isWaits, waitsLeft, later}
-use Rattle.runner.proofs.Called.{call-kept, call-queue, clock-is, clock-high}
+use Rattle.runner.proofs.Called.{callOn, call-kept, call-queue, clock-is, clock-high}
 use Rattle.runner.proofs.Histories.{afterCall, lineFrom, from-more}
 use Rattle.runner.proofs.States.{Within, call-silent}
 
@@ -89,39 +93,51 @@ module _ (s : Sight) where
   insert-same ins.FreeNode = no
   insert-same ins.Stamp = no
 
-  removal-search : (a : Place) → Same (removing (rem.Search a)) (removalSearched s a (searchStep s a))
-  removal-search a =
-      cond-elim (λ (o : Searched). Same (removing (rem.Search a)) (removalSearched s a o)) (s .before) _ _ no
-      (cond-elim (λ (o : Searched). Same (removing (rem.Search a)) (removalSearched s a o)) (leb (a .level) 1) _ _ no no)
+  removal-search :
+      (j : Job) (a : Place) →
+      Same (removing j (rem.Search a)) (removalSearched j s a (searchStep s a))
+  removal-search j a =
+      let P : Searched → Type 0 = λ o. Same (removing j (rem.Search a)) (removalSearched j s a o) in
+      cond-elim P (s .before) _ _ no (cond-elim P (leb (a .level) 1) _ _ no no)
 
-  removal-seek : (k : Seek) → Same (removing (rem.Seek k)) (removalSought s (seekStep s k))
-  removal-seek (seek.Approach a) = cond-elim (λ (o : Sought). Same (removing (rem.Seek (seek.Approach a))) (removalSought s o)) (s .before) _ _ no no
-  removal-seek (seek.Take a) = cond-elim (λ (o : Sought). Same (removing (rem.Seek (seek.Take a))) (removalSought s o)) (eqb (s .guard) 0) _ _ no (λ _. refl)
-  removal-seek (seek.Confirm a) = cond-elim (λ (o : Sought). Same (removing (rem.Seek (seek.Confirm a))) (removalSought s o)) (s .before) _ _ no no
-  removal-seek (seek.Release a b) = no
+  removal-seek :
+      (j : Job) (k : Seek) → Same (removing j (rem.Seek k)) (removalSought j s (seekStep s k))
+  removal-seek j (seek.Approach a) =
+      let g = removing j (rem.Seek (seek.Approach a)) in
+      cond-elim (λ (o : Sought). Same g (removalSought j s o)) (s .before) _ _ no no
+  removal-seek j (seek.Take a) =
+      let g = removing j (rem.Seek (seek.Take a)) in
+      cond-elim (λ (o : Sought). Same g (removalSought j s o)) (eqb (s .guard) 0) _ _ no (λ _. refl)
+  removal-seek j (seek.Confirm a) =
+      let g = removing j (rem.Seek (seek.Confirm a)) in
+      cond-elim (λ (o : Sought). Same g (removalSought j s o)) (s .before) _ _ no no
+  removal-seek j (seek.Release a b) = no
 
-  removal-same : (r : Removal) → Same (removing r) (removalStep s r)
-  removal-same (rem.Search a) = removal-search a
-  removal-same rem.HoldNode = cond-elim (Same (removing rem.HoldNode)) (eqb (s .holder) 0) _ _ no (λ _. refl)
-  removal-same (rem.Seek k) = removal-seek k
-  removal-same (rem.HoldOwn a) = cond-elim (Same (removing (rem.HoldOwn a))) (eqb (s .latch) 0) _ _ no (λ _. refl)
-  removal-same (rem.Unlink a) = no
-  removal-same (rem.Back a) = no
-  removal-same (rem.FreeOwn a) = no
-  removal-same (rem.FreeLevel a) = cond-elim (Same (removing (rem.FreeLevel a))) (leb (a .level) 1) _ _ no no
-  removal-same rem.FreeNode = no
-  removal-same rem.Retire = no
+  removal-same : (j : Job) (r : Removal) → Same (removing j r) (removalStep j s r)
+  removal-same j (rem.Search a) = removal-search j a
+  removal-same j rem.HoldNode =
+      cond-elim (Same (removing j rem.HoldNode)) (eqb (s .holder) 0) _ _ no (λ _. refl)
+  removal-same j (rem.Seek k) = removal-seek j k
+  removal-same j (rem.HoldOwn a) =
+      cond-elim (Same (removing j (rem.HoldOwn a))) (eqb (s .latch) 0) _ _ no (λ _. refl)
+  removal-same j (rem.Unlink a) = no
+  removal-same j (rem.Back a) = no
+  removal-same j (rem.FreeOwn a) = no
+  removal-same j (rem.FreeLevel a) =
+      cond-elim (Same (removing j (rem.FreeLevel a))) (leb (a .level) 1) _ _ no no
+  removal-same j rem.FreeNode = no
+  removal-same jobs.Deliver rem.Retire = no
 
   delete-same : (d : Delete) → Same (stage.Delete d) (deleteStep s d)
   delete-same (del.Next a) = cond-elim (Same (stage.Delete (del.Next a))) (s .tail) _ _ no no
   delete-same (del.Stamped a) = cond-elim (Same (stage.Delete (del.Stamped a))) (s .stamped) _ _ no no
   delete-same (del.Mark a) = cond-elim (Same (stage.Delete (del.Mark a))) (s .marked) _ _ no no
-  delete-same (del.Removal r) = removal-same r
 
   waits-same : (g : Stage) → Same g (decide s g)
   waits-same stage.Idle = λ _. refl
   waits-same (stage.Insert i) = insert-same i
   waits-same (stage.Delete d) = delete-same d
+  waits-same (stage.Removal j r) = removal-same j r
 
 abbrev waited : Queue → Outcome
 waited q = record { queue = later q 1; answer = ans.Waits }
@@ -199,45 +215,50 @@ abbrev Moves : Outcome → Type 0
 Moves o = isWaits (o .answer) ≡ false
 
 module _ (q : Queue) where
-  insert-moves : (p due item height : ℕ) → Moves (beginInsertValid q p due item height)
+  insert-moves : (p due item height : ℕ) → Moves (calledValid q (call.Insert p due item height))
   insert-moves p due item height =
-      cond-elim Moves (leb maxNumber (q .clock)) _ _ refl
-      (cond-elim Moves (leb (q .processors) p) _ _ refl
-      (cond-elim Moves (isIdle (processorAt q p .stage)) _ _
-      (cond-elim Moves (ltb maxNumber due || ltb maxNumber item) _ _ refl
-      (cond-elim Moves (eqb item 0) _ _ refl
-      (cond-elim Moves (outside height (q .levels)) _ _ refl
-      (cond-elim Moves (eqb (chosen q) 0) _ _ refl refl)))) refl))
+      cond-elim Moves (eqb (refusalOf q (call.Insert p due item height)) 0) _ _ refl refl
 
-  delete-moves : (p : ℕ) → Moves (beginDeleteValid q p)
-  delete-moves p =
-      cond-elim Moves (leb maxNumber (q .clock)) _ _ refl
-      (cond-elim Moves (leb (q .processors) p) _ _ refl
-      (cond-elim Moves (isIdle (processorAt q p .stage)) _ _ refl refl))
+  delete-moves : (p : ℕ) → Moves (calledValid q (call.DeleteMin p))
+  delete-moves p = cond-elim Moves (eqb (refusalOf q (call.DeleteMin p)) 0) _ _ refl refl
 
   waited-step :
-      (a b idle : Bool) (o : Outcome) →
-      isWaits (cond a (refused q 31) (cond b (refused q 32) (cond idle (refused q 34) o)) .answer) ≡ true →
-      (a ≡ false) × ((b ≡ false) × ((idle ≡ false) × (isWaits (o .answer) ≡ true)))
-  waited-step true b idle o e = no e
-  waited-step false true idle o e = no e
-  waited-step false false true o e = no e
-  waited-step false false false o e = (refl, (refl, (refl, e)))
+      (p : ℕ) → isWaits (calledValid q (call.Step p) .answer) ≡ true →
+      Allowed q (call.Step p)
+      × (isWaits (accepted q p (stepDecision q (processorAt q p)) .answer) ≡ true)
+  waited-step p = go (eqb (refusalOf q (call.Step p)) 0) refl
+    where
+      c : Call
+      c = call.Step p
+
+      go : (t : Bool) → eqb (refusalOf q c) 0 ≡ t →
+          isWaits
+          (cond t (accepted q p (decisionOf q c)) (refused q (refusalOf q c)) .answer) ≡ true →
+          Allowed q c × (isWaits (accepted q p (decisionOf q c) .answer) ≡ true)
+      go true z e = (allowed q c (eqb-true (refusalOf q c) 0 z), e)
+      go false z e = no e
 
 module _ (l : Line) (q : Queue) where
   waiting-by :
       (i d : Bool) → eqb (l .letter) letterI ≡ i → eqb (l .letter) letterD ≡ d →
       isWaits
-      (cond i (beginInsertValid q (l .first) (l .second) (l .third) (l .fourth))
-      (cond d (beginDeleteValid q (l .first)) (stepValid q (l .first))) .answer)
+      (calledValid q (cond i (call.Insert (l .first) (l .second) (l .third) (l .fourth))
+      (cond d (call.DeleteMin (l .first)) (call.Step (l .first)))) .answer)
       ≡ true →
       (q .clock < maxNumber) × Waiting l q
   waiting-by true d e f h = no (sym (insert-moves q (l .first) (l .second) (l .third) (l .fourth)) ∙ h)
   waiting-by false true e f h = no (sym (delete-moves q (l .first)) ∙ h)
   waiting-by false false e f h =
-      let p = waited-step q (leb maxNumber (q .clock)) (leb (q .processors) (l .first)) (isIdle (processorAt q (l .first) .stage)) (accepted q (l .first) (stepDecision q (processorAt q (l .first)))) h in (
-        leb-false maxNumber (q .clock) (p .0),
-        record { no-insert = e; no-delete = f; known = p .1 .0; busy = p .1 .1 .0; stands = p .1 .1 .1 },
+      let p = waited-step q (l .first) h in
+      let A = p .0 in (
+        A .ticks,
+        record {
+          no-insert = e;
+          no-delete = f;
+          known = lt-leb _ _ (A .here);
+          busy = busy-steps _ (A .turn);
+          stands = p .1;
+        },
       )
 
   waiting : isWaits (callOn l q .answer) ≡ true → (q .clock < maxNumber) × Waiting l q

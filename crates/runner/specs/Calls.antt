@@ -5,12 +5,11 @@ use Prim.Native.Nat.{ℕ}
 use mathlib.Core.Bool.{Bool, true, false, cond}
 use mathlib.Core.List.{List}
 use lib.Dec.{eqb}
-use Rattle.record.specs.declared.queues.Queue.{Queue}
 use Rattle.rules.specs.declared.answers.Answer.{Answer}
 use Rattle.rules.specs.declared.answers.Answer.the-variants as ans
-use Rattle.rules.specs.declared.answers.Outcome.{Outcome}
 use Rattle.rules.specs.Answers.{isRefused}
-use Rattle.rules.specs.Calls.{beginInsertValid, beginDeleteValid, stepValid}
+use Rattle.rules.specs.declared.calls.Call.{Call}
+use Rattle.rules.specs.declared.calls.Call.the-variants as call
 use Rattle.sheet.specs.declared.events.Event.{Event}
 use Rattle.sheet.specs.declared.lines.Line.{Line}
 use Rattle.sheet.specs.Events.{event, entryEvent, beginEvents, stepEvents}
@@ -24,11 +23,11 @@ byLetter letter i d s = cond (eqb letter letterI) i (cond (eqb letter letterD) d
 abbrev pub callsOf : Line → ℕ
 callsOf l = byLetter (l .letter) 1 1 (l .second)
 
--- a call of the line on a record that passes check 21
-abbrev pub callOn : Line → Queue → Outcome
-callOn l q =
-    byLetter (l .letter) (beginInsertValid q (l .first) (l .second) (l .third) (l .fourth))
-    (beginDeleteValid q (l .first)) (stepValid q (l .first))
+-- the call of a line
+abbrev pub callOf : Line → Call
+callOf l =
+    byLetter (l .letter) (call.Insert (l .first) (l .second) (l .third) (l .fourth))
+    (call.DeleteMin (l .first)) (call.Step (l .first))
 
 -- how many of the calls that are left are made after an answer: a refused call ends its line
 abbrev pub leftAfter : Answer → ℕ → ℕ
@@ -37,8 +36,11 @@ leftAfter a left = cond (isRefused a) 0 left
 -- what a call prints, at the clock after it
 abbrev pub eventsOf : Line → ℕ → Answer → List Event
 eventsOf l time a =
-    byLetter (l .letter) (beginEvents time (l .first) (event letterI time (l .first) (l .second) (l .third) (l .fourth)) a)
-    (beginEvents time (l .first) (event letterD time (l .first) 0 0 0) a) (stepEvents time (l .first) a)
+    byLetter (l .letter)
+    (beginEvents time (l .first)
+    (event letterI time (l .first) (l .second) (l .third) (l .fourth)) a)
+    (beginEvents time (l .first) (event letterD time (l .first) 0 0 0) a)
+    (stepEvents time (l .first) a)
 
 -- whether it prints at all
 abbrev pub beginPrints : Answer → Bool
@@ -90,5 +92,8 @@ stepEvent time p (ans.HandedOut e) = entryEvent letterT time p e
 
 abbrev pub eventOf : Line → ℕ → Answer → Event
 eventOf l time a =
-    byLetter (l .letter) (beginEvent time (l .first) (event letterI time (l .first) (l .second) (l .third) (l .fourth)) a)
-    (beginEvent time (l .first) (event letterD time (l .first) 0 0 0) a) (stepEvent time (l .first) a)
+    byLetter (l .letter)
+    (beginEvent time (l .first)
+    (event letterI time (l .first) (l .second) (l .third) (l .fourth)) a)
+    (beginEvent time (l .first) (event letterD time (l .first) 0 0 0) a)
+    (stepEvent time (l .first) a)

@@ -1,11 +1,11 @@
-// The calls of a line: how many it makes, one of them in place, and how many are left after it.
+// The calls of a line: how many it makes, which they are, and how many are left after one.
 ghost use mathlib.Core.Path.{_≡_};
-ghost use Rattle.image.specs.Image.{queueIn, Sound};
-ghost use Rattle.image_parts.specs.Given.{Gives};
+ghost use Rattle.image.specs.Image.{Sound};
+ghost use Rattle.image_parts.specs.Given.{Called};
 ghost use Rattle.rules.specs.Answers.{isRefused};
-ghost use Rattle.runner.specs.Calls.{callOn, callsOf, leftAfter};
-use image_begin::begins::begin_delete_at;
-use image_begin::begins::begin_insert_at;
+ghost use Rattle.runner.specs.Calls.{callOf, callsOf, leftAfter};
+use image_begin::begin_delete_at;
+use image_begin::begin_insert_at;
 use image_step::step_at;
 use rules::Answer;
 use sheet::Line;
@@ -22,12 +22,11 @@ pub fn calls_of(l: Line) -> u32
     if l.letter == LETTER_D { 1 } else { l.second }
 }
 
-// One call of a line, on the image of a record that passes check 21; the image that it leaves is
-// one again.
-pub fn call_at(image: &mut [u8], l: Line) -> Answer
+// The call of a line, in place on the image of a record that passes check 21. No `Call` is made of
+// the line: to store one and read it for each step takes as long as a step.
+pub fn call_line(image: &mut [u8], l: Line) -> Answer
     requires { ⌜ Sound (now image) ⌝ }
-    ensures { λ r. ⌜ Gives (callOn l (queueIn (now (image .entry)))) (now (image .exit)) r ⌝ }
-    ensures { λ _. ⌜ Sound (now (image .exit)) ⌝ }
+    ensures { λ r. ⌜ Called (now (image .entry)) (callOf l) (now (image .exit)) r ⌝ }
 {
     if l.letter == LETTER_I {
         return begin_insert_at(image, l.first, l.second, l.third, l.fourth);

@@ -5,7 +5,7 @@ ghost use Rattle.image.specs.Image.{queueIn, Sound};
 ghost use Rattle.sheet.specs.Kept.{IsKept};
 ghost use Rattle.sheet.specs.Sheets.{history as historyOf, fitted};
 ghost use Rattle.runner.specs.Area.{areaWith};
-use crate::calls::call_at;
+use crate::calls::call_line;
 use crate::calls::calls_of;
 use crate::calls::left_after;
 use crate::printing::event_of;
@@ -52,7 +52,7 @@ pub fn run_lines(
         let mut left = calls_of(l);
         while 0 < left {
             left = left - 1;
-            let answer = call_at(image, l);
+            let answer = call_line(image, l);
             if is_waits(answer) {
                 left = pass_waits(image, left);
                 continue;

@@ -69,7 +69,8 @@ lastDigit n = digitZero + n % 10
 -- k columns that end in the digits of n, with spaces before; none where n is 0
 abbrev pub padded : ℕ → ℕ → List ℕ
 padded zero n = []
-padded (suc k) n = cond (eqb n 0) (replicate (suc k) space) (padded k (n / 10) ++ (lastDigit n ∷ []))
+padded (suc k) n =
+    cond (eqb n 0) (replicate (suc k) space) (padded k (n / 10) ++ (lastDigit n ∷ []))
 
 -- the seven columns of a number
 abbrev pub columns : ℕ → List ℕ

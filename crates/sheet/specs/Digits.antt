@@ -13,7 +13,8 @@ use Rattle.sheet.specs.Letters.{digitZero, maxField}
 abbrev pub extendedBy : ℕ → ℕ → ℕ
 extendedBy v c = v * 10 + (c - digitZero)
 
--- what a reader has behind k columns of a number: they keep the form, and n is their value and not 0
+-- what a reader has behind k columns of a number: they keep the form, and n is their value and not
+-- 0
 abbrev pub NumberSoFar : List ℕ → ℕ → ℕ → Type 0
 NumberSoFar s k n = (n ≡ columnsValue s k) × (1 ≤ n) × (columnsKeep s k ≡ true)
 

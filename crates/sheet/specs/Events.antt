@@ -1,8 +1,9 @@
--- The history. "A history line has a letter, five such fields and a line feed (37 bytes): time, processor, then due, item, ticket for A (Insert
--- answered), M (marked), T (handed out); due, item, height for I; zeros for D and E (EMPTY); the refusal number and two zeros for R, whose time is the
--- unchanged clock. Moves and waits print nothing."
+-- The history (01, sheet and history): a line for each begin, each refusal and each answer that is
+-- no move and no wait. Its five numbers are the time, the processor and three more: what an entry
+-- holds for A, M and T; an Insert's due, item and height for I; 0 for D and E; the number of the
+-- refusal for R, at the clock as it stands.
 use Prim.Native.Nat.{ℕ, zero, suc}
-use mathlib.Core.Bool.{Bool, true, false, cond}
+use mathlib.Core.Bool.{cond}
 use mathlib.Core.List.{List, [], _∷_, _++_}
 use Rattle.record.specs.declared.queues.Queue.{Queue}
 use Rattle.rules.specs.declared.answers.Answer.{Answer}
@@ -14,13 +15,15 @@ use Rattle.rules.specs.Calls.{step}
 use Rattle.sheet.specs.declared.events.Event.{Event}
 use Rattle.sheet.specs.declared.lines.Line.{Line}
 use Rattle.sheet.specs.Columns.{columns}
-use Rattle.sheet.specs.Letters.{lineFeed, letterA, letterD, letterE, letterI, letterM, letterR, letterT}
+use Rattle.sheet.specs.Letters.{lineFeed, letterA, letterD, letterE, letterI, letterM}
+use Rattle.sheet.specs.Letters.{letterR, letterT}
 
 abbrev pub eventLength : ℕ
 eventLength = 37
 
 abbrev pub event : ℕ → ℕ → ℕ → ℕ → ℕ → ℕ → Event
-event letter time p x y z = record { letter = letter; time = time; processor = p; first = x; second = y; third = z }
+event letter time p x y z =
+    record { letter = letter; time = time; processor = p; first = x; second = y; third = z }
 
 abbrev pub entryEvent : ℕ → ℕ → ℕ → Entry → Event
 entryEvent letter time p e = event letter time p (e .due) (e .item) (e .ticket)
@@ -29,7 +32,10 @@ entryEvent letter time p e = event letter time p (e .due) (e .item) (e .ticket)
 abbrev pub eventBytes : Event → List ℕ
 eventBytes e =
     (e .letter ∷ [])
-    ++ (columns (e .time) ++ (columns (e .processor) ++ (columns (e .first) ++ (columns (e .second) ++ (columns (e .third) ++ (lineFeed ∷ []))))))
+    ++ (columns (e .time)
+    ++ (columns (e .processor)
+    ++ (columns (e .first)
+    ++ (columns (e .second) ++ (columns (e .third) ++ (lineFeed ∷ []))))))
 
 abbrev pub historyBytes : List Event → List ℕ
 historyBytes [] = []
@@ -68,18 +74,23 @@ running q es = record { queue = q; events = es }
 abbrev pub insertLine : Running → Line → Outcome → Running
 insertLine r l o =
     running (o .queue)
-    (r .events ++ beginEvents (o .queue .clock) (l .first) (event letterI (o .queue .clock) (l .first) (l .second) (l .third) (l .fourth)) (o .answer))
+    (r .events
+    ++ beginEvents (o .queue .clock) (l .first)
+    (event letterI (o .queue .clock) (l .first) (l .second) (l .third) (l .fourth)) (o .answer))
 
 abbrev pub deleteLine : Running → Line → Outcome → Running
 deleteLine r l o =
     running (o .queue)
-    (r .events ++ beginEvents (o .queue .clock) (l .first) (event letterD (o .queue .clock) (l .first) 0 0 0) (o .answer))
+    (r .events
+    ++ beginEvents (o .queue .clock) (l .first)
+    (event letterD (o .queue .clock) (l .first) 0 0 0) (o .answer))
 
 abbrev pub stepOnce : Running → ℕ → Outcome → Running
 stepOnce r p o = running (o .queue) (r .events ++ stepEvents (o .queue .clock) p (o .answer))
 
--- k steps of processor p; "A refused step ends its S line only."
+-- k steps of processor p; a refused one is the last of its line
 unfoldable pub stepsLine : Running → ℕ → ℕ → Running
 stepsLine r p zero = r
 stepsLine r p (suc k) =
-    cond (isRefused (step (r .queue) p .answer)) (stepOnce r p (step (r .queue) p)) (stepsLine (stepOnce r p (step (r .queue) p)) p k)
+    cond (isRefused (step (r .queue) p .answer)) (stepOnce r p (step (r .queue) p))
+    (stepsLine (stepOnce r p (step (r .queue) p)) p k)

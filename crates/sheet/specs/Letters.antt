@@ -1,8 +1,8 @@
--- The bytes of sheets and histories, and the table of the sheet's letters.
--- "Q: P, N, L. I: processor, due, item, height. D: processor. S: processor, steps (1 to 999). Another step count or another letter is out of form; other
--- values are left to the call. Fields that a letter does not use hold 0."
+-- The bytes of sheets and histories, and the table of the sheet's letters (01, sheet and history).
+-- A field that a letter does not use is 0. Of those that it uses the form bounds the count of steps
+-- alone; every other number is the call's business.
 use Prim.Native.Nat.{ℕ}
-use mathlib.Core.Bool.{true, false}
+use mathlib.Core.Bool.{Bool, true, false}
 use mathlib.Core.List.{List, [], _∷_}
 use Rattle.sheet.specs.declared.lines.Rule.{Rule}
 
@@ -50,11 +50,15 @@ maxField = 9999999
 abbrev pub four : {A : Type 0} → A → A → A → A → List A
 four a b c d = a ∷ (b ∷ (c ∷ (d ∷ [])))
 
--- for each letter, which of its four fields are used, and the bounds of each
+abbrev pub rule : ℕ → List Bool → List ℕ → List ℕ → Rule
+rule letter used low high = record { letter = letter; used = used; low = low; high = high }
+
+-- the letters, each with the fields that it uses and their bounds
 abbrev pub letterRules : List Rule
 letterRules =
-    record { letter = letterQ; used = four true true true false; low = four 0 0 0 0; high = four maxField maxField maxField 0 }
-    ∷ (record { letter = letterI; used = four true true true true; low = four 0 0 0 0; high = four maxField maxField maxField maxField }
-    ∷ (record { letter = letterD; used = four true false false false; low = four 0 0 0 0; high = four maxField 0 0 0 }
-    ∷ (record { letter = letterS; used = four true true false false; low = four 0 1 0 0; high = four maxField 999 0 0 }
-    ∷ [])))
+    rule letterQ (four true true true false) (four 0 0 0 0) (four maxField maxField maxField 0)
+    ∷ rule letterI (four true true true true) (four 0 0 0 0)
+    (four maxField maxField maxField maxField)
+    ∷ rule letterD (four true false false false) (four 0 0 0 0) (four maxField 0 0 0)
+    ∷ rule letterS (four true true false false) (four 0 1 0 0) (four maxField 999 0 0)
+    ∷ []

@@ -1,4 +1,5 @@
--- A line of a sheet. "Each line of the sheet is thirty bytes: a letter, four numbers right-justified in 7 columns, a line feed."
+-- A line of a sheet, of thirty bytes: its letter, four fields of seven columns, and a line feed
+-- (01, sheet and history).
 use Prim.Native.Nat.{ℕ, zero, suc, _+_, _-_, _*_, _/_}
 use mathlib.Core.Bool.{Bool, false, cond, _&&_, not}
 use mathlib.Core.List.{List, [], _∷_}
@@ -85,11 +86,11 @@ firstFailing keeps zero = 0
 firstFailing keeps (suc n) =
     cond (leb 1 (firstFailing keeps n)) (firstFailing keeps n) (cond (keeps (suc n)) 0 (suc n))
 
--- 41: "a line not in form, or a short last one; first such line, from 1"
+-- what 41 tells: the first line that is out of form, a last one that is cut off among them
 abbrev pub firstOutOfForm : List ℕ → ℕ
 firstOutOfForm s = firstFailing (λ k. lineInForm (partAt s k)) (lineCount s)
 
--- 42: "first line not Q, or a later Q; that line (empty sheet: 1)"
+-- what 42 tells: the first line if it is no Q line, else the first further one; 1 of no lines
 abbrev pub rightLetter : List ℕ → ℕ → Bool
 rightLetter s k =
     cond (eqb k 1) (eqb (letterOf (partAt s k)) letterQ) (not (eqb (letterOf (partAt s k)) letterQ))

@@ -1,5 +1,6 @@
--- What the program prints. "The program reads the first 64 KiB of standard input and lends 64 KiB for the history. It prints the history, or the refusal
--- number, a space, the line number and a line feed."
+-- What the program prints (01, sheet and history): the history or, in one line, the number of the
+-- refusal and the line that it is for. It looks at 64 KiB of its input and has as many for the
+-- history.
 use Prim.Native.Nat.{ℕ}
 use mathlib.Core.List.{List, [], _∷_, _++_}
 use lib.ListN.{take}

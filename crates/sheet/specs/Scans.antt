@@ -31,7 +31,8 @@ lineNumbers s = letterOf s ∷ (fieldAt s 0 ∷ (fieldAt s 1 ∷ (fieldAt s 2 �
 -- each line in document 01's numbers: 0 with its letter and its four numbers, or refusal 41
 abbrev pub reportedReading : Reading → Report
 reportedReading reading.Bad = report 41 []
-reportedReading (reading.Form l) = report 0 (l .letter ∷ (l .first ∷ (l .second ∷ (l .third ∷ (l .fourth ∷ [])))))
+reportedReading (reading.Form l) =
+    report 0 (l .letter ∷ (l .first ∷ (l .second ∷ (l .third ∷ (l .fourth ∷ [])))))
 
 -- a column before the last of a number: a digit of what is left of it, or a space
 abbrev pub paddedDigit : ℕ → ℕ
@@ -47,4 +48,5 @@ roomAt area at = leb (at + eventLength) (length area)
 
 -- the area with an event's line at this place, if it is to be written and there is room for it
 abbrev pub withEvent : List ℕ → ℕ → Event → Bool → List ℕ
-withEvent area at e writing = cond (roomAt area at) (cond writing (sets area at (eventBytes e)) area) area
+withEvent area at e writing =
+    cond (roomAt area at) (cond writing (sets area at (eventBytes e)) area) area

@@ -1,4 +1,5 @@
--- The run of a sheet: refusals 41, 42, 11 to 13 and 43 in their order, the history, its length, and the area that is lent for it.
+-- The run of a sheet: refusals 41, 42, 11 to 13 and 43 in their order, the history, its length, and
+-- the area that is lent for it (01, refusals; sheet and history).
 use Prim.Native.Nat.{ℕ, zero, suc, _+_, _-_}
 use mathlib.Core.Bool.{cond}
 use mathlib.Core.List.{List, [], _∷_, _++_}
@@ -11,14 +12,16 @@ use Rattle.rules.specs.Calls.{beginInsert, beginDelete}
 use Rattle.sheet.specs.declared.events.Ran.{Ran}
 use Rattle.sheet.specs.declared.events.Ran.the-variants as ran
 use Rattle.sheet.specs.declared.lines.Line.{Line}
-use Rattle.sheet.specs.Events.{Running, running, insertLine, deleteLine, stepsLine, historyBytes}
+use Rattle.sheet.specs.Events.{Running, running, insertLine, deleteLine, stepsLine}
+use Rattle.sheet.specs.Events.{historyBytes}
 use Rattle.sheet.specs.Letters.{letterI, letterD}
 use Rattle.sheet.specs.Lines.{lineOf, partAt, lineCount, firstOutOfForm, firstMisplaced}
 
 -- a line after the Q line: I, D, or S
 abbrev pub runLine : Running → Line → Running
 runLine r l =
-    cond (eqb (l .letter) letterI) (insertLine r l (beginInsert (r .queue) (l .first) (l .second) (l .third) (l .fourth)))
+    cond (eqb (l .letter) letterI)
+    (insertLine r l (beginInsert (r .queue) (l .first) (l .second) (l .third) (l .fourth)))
     (cond (eqb (l .letter) letterD) (deleteLine r l (beginDelete (r .queue) (l .first)))
     (stepsLine r (l .first) (l .second)))
 
@@ -31,7 +34,7 @@ runLines s r (suc k) = runLine (runLines s r k) (lineOf (partAt s (k + 2)))
 abbrev pub history : List ℕ → Queue → List ℕ
 history s q = historyBytes (runLines s (running q []) (lineCount s - 1) .events)
 
--- 43: "history longer than its area; line 0"
+-- 43, told for line 0: the area is too short for the history
 abbrev pub fittedOutcome : List ℕ → ℕ → Report
 fittedOutcome h room = cond (ltb room (length h)) (report 43 (0 ∷ [])) (report 0 (length h ∷ []))
 
@@ -74,7 +77,7 @@ reportedRun (ran.Length n) = report 0 (n ∷ [])
 abbrev pub atFront : List ℕ → List ℕ → List ℕ
 atFront text area = text ++ drop (length text) area
 
--- "A refusal returns its number and leaves everything lent untouched." "The rest of the area is untouched."
+-- the area as it was or, after a run that is not refused, with the history at its front
 abbrev pub written : List ℕ → List ℕ → Ran → List ℕ
 written h area (ran.Refused n k) = area
 written h area (ran.Length n) = h ++ drop n area

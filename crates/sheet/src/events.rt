@@ -39,7 +39,8 @@ fn event_into(area: &mut [u8], at: usize, e: Event)
     area[at + 36] = LINE_FEED;
 }
 
-// A line of the history at `at`, if the area has room for it there, and whether it has; where it is only counted nothing is written.
+// A line of the history at `at`, if the area has room for it there, and whether it has; where it is
+// only counted nothing is written.
 pub fn append_event(area: &mut [u8], at: usize, e: Event, writing: bool) -> bool
     ensures { λ r. ⌜ r ≡ roomAt (now (area .entry)) at ⌝ }
     ensures { λ _. ⌜ now (area .exit) ≡ withEvent (now (area .entry)) at e writing ⌝ }

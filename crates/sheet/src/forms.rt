@@ -53,7 +53,8 @@ fn right_letter(letter: u8, k: usize) -> bool
     }
 }
 
-// The first line, from 1, that is a Q where none may stand or no Q where one must, or 0; 1 of an empty sheet.
+// The first line, from 1, that is a Q where none may stand or no Q where one must, or 0; 1 of an
+// empty sheet.
 pub fn first_misplaced(sheet: &[u8]) -> usize
     ensures { λ r. ⌜ r ≡ firstMisplaced (now (sheet .entry)) ⌝ }
 {

@@ -19,7 +19,7 @@ use crate::letters::MAX_FIELD;
 use crate::letters::WIDTH;
 use record::levels::both;
 
-// For a letter, which of its four fields are used, and the bounds of each. A field that is not used holds 0.
+// A letter with the fields that it uses and their bounds. A field that it does not use holds 0.
 pub struct Rule {
     pub letter: u8,
     pub used: [bool; 4],
@@ -52,7 +52,7 @@ const THIRD: usize = SECOND + WIDTH;
 
 const FOURTH: usize = THIRD + WIDTH;
 
-// For each letter, which of its four fields are used, and their bounds: `letterRules` of specs/Letters.antt.
+// The letters of a sheet: `letterRules` of specs/Letters.antt.
 const RULES: [Rule; 4] = [
     Rule {
         letter: LETTER_Q,

@@ -1,4 +1,5 @@
-// The run of a sheet for hosts in C and Rust. It is exported, takes any bytes, and has no `requires`. include/darthog_sheet.h declares it for C.
+// The run of a sheet for hosts in C and Rust. It is exported, takes any bytes, and has no
+// `requires`. include/darthog_sheet.h declares it for C.
 ghost use mathlib.Core.Path.{_≡_};
 ghost use lib.ListN.{length};
 ghost use Rattle.sheet.specs.Sheets.{outcome, reportedRun, areaAfter};
@@ -28,7 +29,8 @@ fn sheet_reply(r: Ran) -> SheetReply
     }
 }
 
-// Runs a sheet and writes its history to the front of the area; a refused sheet leaves the area as it was.
+// Runs a sheet and writes its history to the front of the area; a refused sheet leaves the area as
+// it was.
 #[no_mangle]
 pub extern "C" fn darthog_run_sheet(sheet: &[u8], history: &mut [u8]) -> SheetReply
     ensures { λ r. ⌜ r ≡ replyTo (outcome (now (sheet .entry)) (length (now (history .entry)))) ⌝ }

@@ -9,8 +9,8 @@ use Rattle.laws.proofs.Booleans.{cond-elim}
 use Rattle.record.specs.declared.queues.Queue.{Queue}
 use Rattle.rules.specs.declared.answers.Outcome.{Outcome}
 use Rattle.rules.specs.Answers.{isRefused}
-use Rattle.rules.specs.Calls.{step}
-use Rattle.rules.specs.Runs.{Call, insert, deleteMin, steps, after, afterAll}
+use Rattle.rules.specs.Calls.{called, step}
+use Rattle.rules.specs.Runs.{Turn, calls, insert, deleteMin, steps, after, afterAll}
 use Rattle.rules.specs.Book.{Book, emptyBook, agrees, judged}
 use Rattle.rules.proofs.Demand3.{demand-three}
 use Rattle.checks.specs.Making.{made}
@@ -21,11 +21,12 @@ use Rattle.sheet.specs.Events.{Running, running, stepOnce, stepsLine, historyBy
 use Rattle.sheet.specs.Letters.{letterD, letterI}
 use Rattle.sheet.specs.Lines.{lineOf, partAt, lineCount}
 use Rattle.sheet.specs.Sheets.{runLine, runLines}
-use Rattle.sheets.specs.Agreement.{callMade, outcomeMade, lineCalls, sheetCalls, callPrints, callsPrint, allCalls, madeBy, SheetAgrees}
-use Rattle.runner.specs.Calls.{callsOf}
+use Rattle.sheets.specs.Agreement.{lineCalls, sheetCalls, callPrints, callsPrint, allCalls}
+use Rattle.sheets.specs.Agreement.{madeBy, SheetAgrees}
+use Rattle.runner.specs.Calls.{callOf, callsOf}
 
 -- a record and a history after a list of calls
-abbrev runCalls : Running → List Call → Running
+abbrev runCalls : Running → List Turn → Running
 runCalls r cs = running (afterAll (r .queue) cs) (r .events ++ callsPrint (r .queue) cs)
 
 -- after no call, after one, and after two lists
@@ -33,15 +34,15 @@ none-run : (r : Running) → r ≡ runCalls r []
 unfolding afterAll callsPrint
 none-run r = ap (λ (es : List Event). running (r .queue) es) (sym (append-nil (r .events)))
 
-first-run : (r : Running) (c : Call) (cs : List Call) → runCalls r (c ∷ cs) ≡ runCalls (running (after (r .queue) c) (r .events ++ callPrints (r .queue) c)) cs
+first-run : (r : Running) (c : Turn) (cs : List Turn) → runCalls r (c ∷ cs) ≡ runCalls (running (after (r .queue) c) (r .events ++ callPrints (r .queue) c)) cs
 unfolding afterAll callsPrint
 first-run r c cs =
     ap (λ (es : List Event). running (afterAll (after (r .queue) c) cs) es) (sym (append-assoc (r .events) (callPrints (r .queue) c) (callsPrint (after (r .queue) c) cs)))
 
-one-run : (r : Running) (c : Call) → runCalls r (c ∷ []) ≡ running (after (r .queue) c) (r .events ++ callPrints (r .queue) c)
+one-run : (r : Running) (c : Turn) → runCalls r (c ∷ []) ≡ running (after (r .queue) c) (r .events ++ callPrints (r .queue) c)
 one-run r c = first-run r c [] ∙ sym (none-run (running (after (r .queue) c) (r .events ++ callPrints (r .queue) c)))
 
-append-run : (cs ds : List Call) (r : Running) → runCalls r (cs ++ ds) ≡ runCalls (runCalls r cs) ds
+append-run : (cs ds : List Turn) (r : Running) → runCalls r (cs ++ ds) ≡ runCalls (runCalls r cs) ds
 append-run [] ds r = ap (λ (x : Running). runCalls x ds) (none-run r)
 append-run (c ∷ cs) ds r =
     first-run r c (cs ++ ds)
@@ -50,10 +51,10 @@ append-run (c ∷ cs) ds r =
 
 -- a step that is refused, or not
 module _ (l : Line) (e : eqb (l .letter) letterI ≡ false) (f : eqb (l .letter) letterD ≡ false) where
-  step-call : callMade l ≡ steps (l .first)
+  step-call : calls (callOf l) ≡ steps (l .first)
   step-call = rw e (rw f refl)
 
-  step-outcome : (q : Queue) → outcomeMade q l ≡ step q (l .first)
+  step-outcome : (q : Queue) → called q (callOf l) ≡ step q (l .first)
   step-outcome q = rw e (rw f refl)
 
   steps-run : (n : ℕ) (r : Running) → stepsLine r (l .first) n ≡ runCalls r (lineCalls (r .queue) l n)
@@ -64,7 +65,7 @@ module _ (l : Line) (e : eqb (l .letter) letterI ≡ false) (f : eqb (l .letter)
       let o = step (r .queue) p in
       both (isRefused (o .answer)) n r (stepsLine (stepOnce r p o) p n) (steps-run n (stepOnce r p o))
       ∙ ap (λ (b : Bool). runCalls r (steps p ∷ cond b [] (lineCalls (o .queue) l n))) (ap (λ (u : Outcome). isRefused (u .answer)) (sym (step-outcome (r .queue))))
-      ∙ ap (λ (c : Call). runCalls r (c ∷ cond (isRefused (outcomeMade (r .queue) l .answer)) [] (lineCalls (after (r .queue) c) l n))) (sym step-call)
+      ∙ ap (λ (c : Turn). runCalls r (c ∷ cond (isRefused (called (r .queue) (callOf l) .answer)) [] (lineCalls (after (r .queue) c) l n))) (sym step-call)
     where
       both :
           (b : Bool) (n : ℕ) (r : Running) (rest : Running) →
@@ -73,18 +74,18 @@ module _ (l : Line) (e : eqb (l .letter) letterI ≡ false) (f : eqb (l .letter)
       both true n r rest h = sym (one-run r (steps (l .first)))
       both false n r rest h = h ∙ sym (first-run r (steps (l .first)) (lineCalls (step (r .queue) (l .first) .queue) l n))
 
-one-call : (q : Queue) (l : Line) → lineCalls q l 1 ≡ callMade l ∷ []
+one-call : (q : Queue) (l : Line) → lineCalls q l 1 ≡ calls (callOf l) ∷ []
 unfolding lineCalls
-one-call q l = ap (λ (cs : List Call). callMade l ∷ cs) (cond-elim (λ (cs : List Call). cs ≡ []) (isRefused (outcomeMade q l .answer)) [] [] refl refl)
+one-call q l = ap (λ (cs : List Turn). calls (callOf l) ∷ cs) (cond-elim (λ (cs : List Turn). cs ≡ []) (isRefused (called q (callOf l) .answer)) [] [] refl refl)
 
 line-by : (l : Line) (i d : Bool) → eqb (l .letter) letterI ≡ i → eqb (l .letter) letterD ≡ d → (r : Running) → runLine r l ≡ runCalls r (lineCalls (r .queue) l (callsOf l))
 line-by l true d e f r =
     rw e
     (sym
-    (ap (runCalls r) (one-call (r .queue) l ∙ ap (λ (c : Call). c ∷ []) (rw e refl))
+    (ap (runCalls r) (one-call (r .queue) l ∙ ap (λ (c : Turn). c ∷ []) (rw e refl))
     ∙ one-run r (insert (l .first) (l .second) (l .third) (l .fourth))))
 line-by l false true e f r =
-    rw e (rw f (sym (ap (runCalls r) (one-call (r .queue) l ∙ ap (λ (c : Call). c ∷ []) (rw e (rw f refl))) ∙ one-run r (deleteMin (l .first)))))
+    rw e (rw f (sym (ap (runCalls r) (one-call (r .queue) l ∙ ap (λ (c : Turn). c ∷ []) (rw e (rw f refl))) ∙ one-run r (deleteMin (l .first)))))
 line-by l false false e f r = rw e (rw f (steps-run l e f (l .second) r))
 
 line-run : (l : Line) (r : Running) → runLine r l ≡ runCalls r (lineCalls (r .queue) l (callsOf l))
@@ -100,7 +101,7 @@ lines-run s q (suc k) =
 
 -- the book agrees, also on the smallest queue, which stands for one that is not made
 made-judged :
-    (p n l : ℕ) (cs : List Call) →
+    (p n l : ℕ) (cs : List Turn) →
     (b : Book) × (judged emptyBook (made p n l .queue) cs ≡ agrees b)
 made-judged p n l cs = at (made p n l .refusal) refl
   where

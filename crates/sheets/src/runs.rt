@@ -31,7 +31,8 @@ fn run_twice(
     requires { ⌜ IsKept (now sheet) (now kept) ⌝ }
     ensures { λ r.
         ⌜ r
-        ≡ fitted (historyOf (now (sheet .entry)) (freshQueue p n l)) (length (now (area .entry))) ⌝ }
+        ≡ fitted (historyOf (now (sheet .entry)) (freshQueue p n l))
+        (length (now (area .entry))) ⌝ }
     ensures { λ r.
         ⌜ now (area .exit)
         ≡ written (historyOf (now (sheet .entry)) (freshQueue p n l)) (now (area .entry)) r ⌝ }

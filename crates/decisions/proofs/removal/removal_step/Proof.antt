@@ -69,6 +69,9 @@ moved-requires c κs = search needs
 enum-told-3 : tie.Need-enum-told-3
 enum-told-3 c = search needs
 
+handing-requires : tie.Need-handing-requires
+handing-requires c κs = search needs
+
 answers-requires : tie.Need-answers-requires
 answers-requires c κs = search needs
 
@@ -100,7 +103,13 @@ returns-9 : tie.Need-returns-9
 returns-9 c = search (tests, c .moved .ensures, c .before .removing .ensures, c .before .before .enum-told2 .given .1)
 
 returns-10 : tie.Need-returns-10
-returns-10 c = search (tests, c .answers .ensures, c .before .before .enum-told3 .given .1)
+returns-10 c =
+    search (
+      tests,
+      c .answers .ensures,
+      c .before .handing .ensures,
+      c .before .before .enum-told3 .given .1,
+    )
 
 pub removal-step-spec : {M : Type 1} → statement M
 removal-step-spec =
@@ -128,6 +137,7 @@ removal-step-spec =
     removing-requires
     moved-requires
     enum-told-3
+    handing-requires
     answers-requires
     returns
     returns-2

@@ -21,6 +21,12 @@ enum-known-g-2 c = search needs
 delete-step-requires : tie.Need-delete-step-requires
 delete-step-requires c κs = search needs
 
+enum-known-g-3 : tie.Need-enum-known-g-3
+enum-known-g-3 c = search needs
+
+removal-step-requires : tie.Need-removal-step-requires
+removal-step-requires c κs = search needs
+
 returns : tie.Need-returns
 returns c = search (tests, c .waits .ensures, c .before .enum-told .given .1)
 
@@ -29,6 +35,9 @@ returns-2 c = search (tests, c .insert-step .ensures, c .before .before .g .give
 
 returns-3 : tie.Need-returns-3
 returns-3 c = search (tests, c .delete-step .ensures, c .before .before .g2 .given .1)
+
+returns-4 : tie.Need-returns-4
+returns-4 c = search (tests, c .removal-step .ensures, c .before .before .g3 .given .1)
 
 pub decide-spec : {M : Type 1} → statement M
 decide-spec =
@@ -40,6 +49,9 @@ decide-spec =
     insert-step-requires
     enum-known-g-2
     delete-step-requires
+    enum-known-g-3
+    removal-step-requires
     returns
     returns-2
-    returns-3)
+    returns-3
+    returns-4)

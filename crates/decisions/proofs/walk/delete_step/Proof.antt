@@ -21,12 +21,6 @@ enum-known-g-2 c = search needs
 mark-test-requires : tie.Need-mark-test-requires
 mark-test-requires c κs = search needs
 
-enum-known-g-3 : tie.Need-enum-known-g-3
-enum-known-g-3 c = search needs
-
-removal-step-requires : tie.Need-removal-step-requires
-removal-step-requires c κs = search needs
-
 returns : tie.Need-returns
 returns c = search (tests, c .walk-on .ensures, c .before .enum-told .given .1)
 
@@ -35,9 +29,6 @@ returns-2 c = search (tests, c .stamp-test .ensures, c .before .before .g .given
 
 returns-3 : tie.Need-returns-3
 returns-3 c = search (tests, c .mark-test .ensures, c .before .before .g2 .given .1)
-
-returns-4 : tie.Need-returns-4
-returns-4 c = search (tests, c .removal-step .ensures, c .before .before .g3 .given .1)
 
 pub delete-step-spec : {M : Type 1} → statement M
 delete-step-spec =
@@ -49,9 +40,6 @@ delete-step-spec =
     stamp-test-requires
     enum-known-g-2
     mark-test-requires
-    enum-known-g-3
-    removal-step-requires
     returns
     returns-2
-    returns-3
-    returns-4)
+    returns-3)

@@ -1,6 +1,6 @@
 use mathlib.Core.Path.{ap, _∙_}
-use Rattle.checks.specs.declared.seconds.Minutes.{Minutes}
-use Rattle.checks.specs.Due.{reportedMinutes}
+use Rattle.due.specs.declared.seconds.Minutes.{Minutes}
+use Rattle.due.specs.Due.{reportedMinutes}
 use Rattle.entries.specs.Entries.{replyOf}
 use borrow.Author.Needs.{needs}
 use Rattle.entries.proofs.reads.darthog_due.Statement.{statement}

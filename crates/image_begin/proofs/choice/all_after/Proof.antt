@@ -1,18 +1,21 @@
 use borrow.Author.Needs.{needs}
 use mathlib.Core.Path.{_≡_, refl, _∙_, ap}
 use native.Mathlib.Omega.{arith}
-use Prim.Native.Nat.{ℕ, _-_, _≤_}
+use Prim.Native.Nat.{_-_, _≤_}
 use lib.ListN.{getD}
+use Rattle.laws.specs.Every.{everyBelow}
 use Rattle.laws.proofs.Counting.{every-next}
 use Rattle.record.specs.Queues.{processorAt}
 use Rattle.choosing.specs.Choosing.{beganAfter}
-use Rattle.choosing.proofs.Choosing.{afterTo}
 use Rattle.image.specs.Image.{queueIn}
 use Rattle.image_begin.proofs.choice.all_after.Statement.{statement}
 use Rattle.image_begin.proofs.choice.all_after.Tie as tie
 
 abbrev Inv-loop : tie.InvT-loop
-Inv-loop b t end ok₀ p₀ ok p = (ok ≡ afterTo (queueIn b) t p) × (p ≤ getD b 0 0)
+Inv-loop b t end ok₀ p₀ ok p =
+    let Q = queueIn b in
+    (ok ≡ everyBelow (λ x. beganAfter t (processorAt Q x .stage) (processorAt Q x .begin)) p)
+    × (p ≤ getD b 0 0)
 
 abbrev μ-loop : tie.MeasureT-loop
 μ-loop b t end ok₀ p₀ ok p = getD b 0 0 - p
@@ -48,9 +51,13 @@ loop-again c = let s = c .before .before .before .before .before .before in
     )
 
 returns : tie.Need-returns Inv-loop μ-loop
+unfolding queueIn
 returns c = let s = c .before .before .before .before in
+    let Q = queueIn (s .args .b .now) in
     let e : c .before .loop .p ≡ getD (s .args .b .now) 0 0 = omega arith in
-    c .before .loop .inv .0 ∙ ap (λ (n : ℕ). afterTo (queueIn (s .args .b .now)) (s .args .t) n) e
+    c .before .loop .inv .0
+    ∙ ap (everyBelow
+    (λ x. beganAfter (s .args .t) (processorAt Q x .stage) (processorAt Q x .begin))) e
 
 pub all-after-spec : {M : Type 1} → statement M
 all-after-spec =

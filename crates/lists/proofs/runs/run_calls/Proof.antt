@@ -44,18 +44,16 @@ loop-holds c =
 mul-from : tie.Need-mul-from Inv-loop μ-loop
 mul-from c = search needs
 
-asked-at-requires : tie.Need-asked-at-requires Inv-loop μ-loop
-asked-at-requires c κs = search needs
-
 turn-requires : tie.Need-turn-requires Inv-loop μ-loop
-turn-requires c κs = c .before .before .before .loop .inv .0
+turn-requires c κs =
+    (c .before .before .loop .inv .0, omega (arith, c .before .loop-test .taken, c .before .before .loop .inv .5))
 
 numbers-of-requires : tie.Need-numbers-of-requires Inv-loop μ-loop
 numbers-of-requires c κs = search needs
 
 number-from-requires : tie.Need-number-from-requires Inv-loop μ-loop
 number-from-requires c κs =
-    omega (arith, c .before .before .before .before .before .turn .ensures .sound .long)
+    omega (arith, c .before .before .before .before .before .turn .ensures .1 .long)
 
 put-requires : tie.Need-put-requires Inv-loop μ-loop
 put-requires c κs = search needs
@@ -68,21 +66,18 @@ loop-less c = search needs
 
 loop-again : tie.Need-loop-again Inv-loop μ-loop
 loop-again c =
-    let v = c .before .before .before .before .before .before .before .before .before .before .before .before .before .loop in
+    let v = c .before .before .before .before .before .before .before .before .before .before .before .before .loop in
     let T = c .before .before .before .before .before .before .before .before .before .turn .ensures in
-    let A = c .before .before .before .before .before .before .before .before .before .before .before .asked-at .ensures in
     let P = c .before .before .put .ensures in (
-      T .sound,
-      queue-next _ _ (v .answers) (v .i) _ _ _ _ (v .inv .1) A T,
-      written-next _ _ _ (v .i) _ _ _ _ (v .inv .1) A T _ _ _ _ (v .inv .2)
-          (c .before .before .before .before .before .numbers-of .ensures)
-          (c .before .before .before .number-from .ensures) P,
+      T .1,
+      queue-next _ _ (v .answers) (v .i) _ _ _ _ (v .inv .0) (v .inv .1) refl T,
+      written-next _ _ _ (v .i) _ _ _ _ (v .inv .0) (v .inv .1) refl T _ _ _ _ (v .inv .2)
+          (c .before .before .before .before .before .numbers-of .ensures) (c .before .before .before .number-from .ensures) P,
       put-length (v .answers) _ (v .i * 5) _ _ _ P (v .inv .3),
       omega arith,
       v .inv .5,
       v .inv .6,
-      c .before .before .before .before .before .before .before .before .before .turn .kept .0
-          ∙ v .inv .7,
+      c .before .before .before .before .before .before .before .before .before .turn .kept .0 ∙ v .inv .7,
     )
 
 same-length : tie.Need-same-length Inv-loop μ-loop
@@ -108,7 +103,6 @@ run-calls-spec =
     smaller-requires
     loop-holds
     mul-from
-    asked-at-requires
     turn-requires
     numbers-of-requires
     number-from-requires

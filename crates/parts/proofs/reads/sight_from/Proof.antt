@@ -8,6 +8,9 @@ key-requires c κs = search needs
 key-requires-2 : tie.Need-key-requires-2
 key-requires-2 c κs = search needs
 
+key-for-requires : tie.Need-key-for-requires
+key-for-requires c κs = search needs
+
 before-requires : tie.Need-before-requires
 before-requires c κs = search needs
 
@@ -42,7 +45,24 @@ entry-of-requires-2 : tie.Need-entry-of-requires-2
 entry-of-requires-2 c κs = search needs
 
 returns : tie.Need-returns
-returns c = simp (c .entry-of2 .ensures, c .before .entry-of .ensures, c .before .before .saved-at .ensures, c .before .before .before .saved-below .ensures, c .before .before .before .before .saved-above .ensures, c .before .before .before .before .before .stamped-before .ensures, c .before .before .before .before .before .before .lock-at2 .ensures, c .before .before .before .before .before .before .before .forward-at .ensures, c .before .before .before .before .before .before .before .before .lock-at .ensures, c .before .before .before .before .before .before .before .before .before .is-tail .ensures, c .before .before .before .before .before .before .before .before .before .before .before2 .ensures, c .before .before .before .before .before .before .before .before .before .before .before .key2 .ensures, c .before .before .before .before .before .before .before .before .before .before .before .before .key .ensures)
+returns c =
+    let k = c .before .before .before .before .before .before .before .before .before .before in
+    simp (
+      c .entry-of2 .ensures,
+      c .before .entry-of .ensures,
+      c .before .before .saved-at .ensures,
+      c .before .before .before .saved-below .ensures,
+      c .before .before .before .before .saved-above .ensures,
+      c .before .before .before .before .before .stamped-before .ensures,
+      c .before .before .before .before .before .before .lock-at2 .ensures,
+      c .before .before .before .before .before .before .before .forward-at .ensures,
+      c .before .before .before .before .before .before .before .before .lock-at .ensures,
+      c .before .before .before .before .before .before .before .before .before .is-tail .ensures,
+      k .before2 .ensures,
+      k .before .key-for .ensures,
+      k .before .before .key2 .ensures,
+      k .before .before .before .key .ensures,
+    )
 
 pub sight-from-spec : {M : Type 1} → statement M
 sight-from-spec =
@@ -50,6 +70,7 @@ sight-from-spec =
     (tie.spec
     key-requires
     key-requires-2
+    key-for-requires
     before-requires
     is-tail-requires
     lock-at-requires

@@ -21,12 +21,6 @@ enum-known-d-3 c = search needs
 at-requires-3 : tie.Need-at-requires-3
 at-requires-3 c κs = search needs
 
-enum-known-d-4 : tie.Need-enum-known-d-4
-enum-known-d-4 c = search needs
-
-carried-place-requires : tie.Need-carried-place-requires
-carried-place-requires c κs = search needs
-
 returns : tie.Need-returns
 returns c = search (tests, c .at .ensures, c .before .before .d .given .1)
 
@@ -35,9 +29,6 @@ returns-2 c = search (tests, c .at2 .ensures, c .before .before .d2 .given .1)
 
 returns-3 : tie.Need-returns-3
 returns-3 c = search (tests, c .at3 .ensures, c .before .before .d3 .given .1)
-
-returns-4 : tie.Need-returns-4
-returns-4 c = search needs
 
 pub walk-place-spec : {M : Type 1} → statement M
 walk-place-spec =
@@ -49,9 +40,6 @@ walk-place-spec =
     at-requires-2
     enum-known-d-3
     at-requires-3
-    enum-known-d-4
-    carried-place-requires
     returns
     returns-2
-    returns-3
-    returns-4)
+    returns-3)

@@ -21,14 +21,23 @@ enum-known-g-2 c = search needs
 delete-carried-requires : tie.Need-delete-carried-requires
 delete-carried-requires c κs = search needs
 
+enum-known-g-3 : tie.Need-enum-known-g-3
+enum-known-g-3 c = search needs
+
+removal-carried-requires : tie.Need-removal-carried-requires
+removal-carried-requires c κs = search needs
+
 returns : tie.Need-returns
 returns c = search (tests, c .at .ensures, c .before .enum-told .given .1)
 
 returns-2 : tie.Need-returns-2
-returns-2 c = search needs
+returns-2 c = simp (c .insert-carried .ensures, c .before .before .g .given .1)
 
 returns-3 : tie.Need-returns-3
-returns-3 c = search needs
+returns-3 c = simp (c .delete-carried .ensures, c .before .before .g2 .given .1)
+
+returns-4 : tie.Need-returns-4
+returns-4 c = simp (c .removal-carried .ensures, c .before .before .g3 .given .1)
 
 pub carried-by-spec : {M : Type 1} → statement M
 carried-by-spec =
@@ -40,6 +49,9 @@ carried-by-spec =
     insert-carried-requires
     enum-known-g-2
     delete-carried-requires
+    enum-known-g-3
+    removal-carried-requires
     returns
     returns-2
-    returns-3)
+    returns-3
+    returns-4)

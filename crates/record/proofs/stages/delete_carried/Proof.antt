@@ -18,12 +18,6 @@ at-requires-2 c κs = search needs
 enum-known-g-3 : tie.Need-enum-known-g-3
 enum-known-g-3 c = search needs
 
-enum-known-g-4 : tie.Need-enum-known-g-4
-enum-known-g-4 c = search needs
-
-removal-carried-requires : tie.Need-removal-carried-requires
-removal-carried-requires c κs = search needs
-
 returns : tie.Need-returns
 returns c = search (tests, c .at .ensures, c .before .before .g .given .1)
 
@@ -32,9 +26,6 @@ returns-2 c = search (tests, c .at2 .ensures, c .before .before .g2 .given .1)
 
 returns-3 : tie.Need-returns-3
 returns-3 c = search (tests, c .before .g3 .given .1)
-
-returns-4 : tie.Need-returns-4
-returns-4 c = search needs
 
 pub delete-carried-spec : {M : Type 1} → statement M
 delete-carried-spec =
@@ -45,9 +36,6 @@ delete-carried-spec =
     enum-known-g-2
     at-requires-2
     enum-known-g-3
-    enum-known-g-4
-    removal-carried-requires
     returns
     returns-2
-    returns-3
-    returns-4)
+    returns-3)

@@ -145,14 +145,14 @@ loop-again c =
 sub-left : tie.Need-sub-left Inv-loop2 μ-loop2 Inv-loop μ-loop
 sub-left c = c .loop2-test .taken
 
-call-at-requires : tie.Need-call-at-requires Inv-loop2 μ-loop2 Inv-loop μ-loop
-call-at-requires c κs = held (c .before) .sound
+call-line-requires : tie.Need-call-line-requires Inv-loop2 μ-loop2 Inv-loop μ-loop
+call-line-requires c κs = held (c .before) .sound
 
 is-waits-requires : tie.Need-is-waits-requires Inv-loop2 μ-loop2 Inv-loop μ-loop
 is-waits-requires c κs = search needs
 
 pass-waits-requires : tie.Need-pass-waits-requires Inv-loop2 μ-loop2 Inv-loop μ-loop
-pass-waits-requires c κs = c .before .before .before .before .before .call-at .ensures .1
+pass-waits-requires c κs = c .before .before .before .before .before .call-line .ensures .1
 
 loop2-less : tie.Need-loop2-less Inv-loop2 μ-loop2 Inv-loop μ-loop
 loop2-less c =
@@ -164,7 +164,7 @@ loop2-again c =
     let b = (c .before .before .before .before .before .before .before .before .before .before) in
     let o = (c .before .before .before .before .before .before .before .before .before .before .before .before .before .before .before .before) in
     let a = c .before .before .before .before .before .before .before .before .before .before .before .before .before .before .before .before .before .before .before .before .before .before .args in
-    let call = c .before .before .before .before .before .before .before .before .call-at in
+    let call = c .before .before .before .before .before .before .before .before .call-line in
     let pass = c .before .before .pass-waits in (
       λ q x e. call-waits (a .sheet .now) q (o .loop .k + 1) (c .before .before .before .before .before .before .before .before .before .before .before .before .before .kept-line .result) x (a .writing)
           (b .before .loop2 .image) (b .before .loop2 .area) (b .before .loop2 .at) (b .before .loop2 .left) (c .before .before .before .before .before .before .before .before .before .before .before .loop2 .inv .0 q x e) (b .loop2-test .taken)
@@ -184,7 +184,7 @@ loop2-again-2 c =
     let b = (c .before .before .before .before .before .before .before .before) in
     let o = (c .before .before .before .before .before .before .before .before .before .before .before .before .before .before) in
     let a = c .before .before .before .before .before .before .before .before .before .before .before .before .before .before .before .before .before .before .before .before .args in
-    let call = c .before .before .before .before .before .before .call-at in (
+    let call = c .before .before .before .before .before .before .call-line in (
       λ q x e. call-silent (a .sheet .now) q (o .loop .k + 1) (c .before .before .before .before .before .before .before .before .before .before .before .kept-line .result) x (a .writing)
           (b .before .loop2 .image) (b .before .loop2 .area) (b .before .loop2 .at) (b .before .loop2 .left) (c .before .before .before .before .before .before .before .before .before .loop2 .inv .0 q x e) (b .loop2-test .taken)
           _ _ (call .ensures .0) (call .ensures .1)
@@ -193,7 +193,7 @@ loop2-again-2 c =
     )
 
 number-from-requires : tie.Need-number-from-requires Inv-loop2 μ-loop2 Inv-loop μ-loop
-number-from-requires c κs = omega (arith, long-enough _ (c .before .before .before .before .before .before .before .call-at .ensures .1))
+number-from-requires c κs = omega (arith, long-enough _ (c .before .before .before .before .before .before .before .call-line .ensures .1))
 
 event-of-requires : tie.Need-event-of-requires Inv-loop2 μ-loop2 Inv-loop μ-loop
 event-of-requires c κs = search needs
@@ -202,7 +202,7 @@ append-event-requires : tie.Need-append-event-requires Inv-loop2 μ-loop2 Inv-lo
 append-event-requires c κs = search needs
 
 same-length : tie.Need-same-length Inv-loop2 μ-loop2 Inv-loop μ-loop
-same-length c = c .before .before .before .before .before .before .before .before .before .before .before .before .before .before .call-at .kept .0 ∙ image-long (c .before .before .before .before .before .before .before .before .before .before .before .before .before .before .before .before)
+same-length c = c .before .before .before .before .before .before .before .before .before .before .before .before .before .before .call-line .kept .0 ∙ image-long (c .before .before .before .before .before .before .before .before .before .before .before .before .before .before .before .before)
 
 same-length-2 : tie.Need-same-length-2 Inv-loop2 μ-loop2 Inv-loop μ-loop
 same-length-2 c =
@@ -214,7 +214,7 @@ returns c =
     let b = (c .before .before .before .before .before .before .before .before .before .before .before .before .before .before .before .before) in
     let o = (c .before .before .before .before .before .before .before .before .before .before .before .before .before .before .before .before .before .before .before .before .before .before) in
     let a = c .before .before .before .before .before .before .before .before .before .before .before .before .before .before .before .before .before .before .before .before .before .before .before .before .before .before .before .before .args in
-    let call = c .before .before .before .before .before .before .before .before .before .before .before .before .before .before .call-at in
+    let call = c .before .before .before .before .before .before .before .before .before .before .before .before .before .before .call-line in
     let room = sym (c .before .before .before .append-event .ensures .0) ∙ not-true _ (c .if3 .taken) in
     let long = call-long (a .sheet .now) (queueIn (a .image .now)) (o .loop .k + 1) (c .before .before .before .before .before .before .before .before .before .before .before .before .before .before .before .before .before .before .before .kept-line .result) (a .area .now) (a .writing)
     (b .before .loop2 .image) (b .before .loop2 .area) (b .before .loop2 .at) (b .before .loop2 .left) (held b) (b .loop2-test .taken)
@@ -236,7 +236,7 @@ left-after-requires c κs = search needs
 loop2-less-3 : tie.Need-loop2-less-3 Inv-loop2 μ-loop2 Inv-loop μ-loop
 loop2-less-3 c =
     let h = c .left-after .ensures in
-    let n = left-low (c .before .before .before .before .before .before .before .before .before .before .before .before .before .before .before .call-at .result) (c .before .before .before .before .before .before .before .before .before .before .before .before .before .before .before .before .before .before .loop2 .left - 1) in
+    let n = left-low (c .before .before .before .before .before .before .before .before .before .before .before .before .before .before .before .call-line .result) (c .before .before .before .before .before .before .before .before .before .before .before .before .before .before .before .before .before .before .loop2 .left - 1) in
     omega (arith, h, n, c .before .before .before .before .before .before .before .before .before .before .before .before .before .before .before .before .before .loop2-test .taken)
 
 loop2-again-3 : tie.Need-loop2-again-3 Inv-loop2 μ-loop2 Inv-loop μ-loop
@@ -244,7 +244,7 @@ loop2-again-3 c =
     let b = (c .before .before .before .before .before .before .before .before .before .before .before .before .before .before .before .before .before) in
     let o = (c .before .before .before .before .before .before .before .before .before .before .before .before .before .before .before .before .before .before .before .before .before .before .before) in
     let a = c .before .before .before .before .before .before .before .before .before .before .before .before .before .before .before .before .before .before .before .before .before .before .before .before .before .before .before .before .before .args in
-    let call = c .before .before .before .before .before .before .before .before .before .before .before .before .before .before .before .call-at in (
+    let call = c .before .before .before .before .before .before .before .before .before .before .before .before .before .before .before .call-line in (
       λ q x e. call-prints (a .sheet .now) q (o .loop .k + 1) (c .before .before .before .before .before .before .before .before .before .before .before .before .before .before .before .before .before .before .before .before .kept-line .result) x (a .writing)
           (b .before .loop2 .image) (b .before .loop2 .area) (b .before .loop2 .at) (b .before .loop2 .left) (c .before .before .before .before .before .before .before .before .before .before .before .before .before .before .before .before .before .before .loop2 .inv .0 q x e) (b .loop2-test .taken)
           _ _ (call .ensures .0) (call .ensures .1)
@@ -290,7 +290,7 @@ run-lines-spec =
     loop-less
     loop-again
     sub-left
-    call-at-requires
+    call-line-requires
     is-waits-requires
     pass-waits-requires
     loop2-less

@@ -1,0 +1,91 @@
+// The numbers of a stage, by its tag.
+ghost use mathlib.Core.Path.{_≡_};
+ghost use mathlib.Core.Bool.{cond};
+ghost use Prim.Native.Nat.{_≤_, _<_};
+ghost use Rattle.image_check.specs.Bounds.{rowAt, inBounds};
+
+// Columns of the table of stages, for a tag. They are no constant arrays, which would be copied for
+// each look.
+fn owns(tag: usize) -> bool
+    requires { ⌜ tag < 27 ⌝ }
+    ensures { λ r. ⌜ r ≡ rowAt tag .owns ⌝ }
+{
+    match tag {
+        0 => false,
+        11 => false,
+        12 => false,
+        13 => false,
+        _ => true,
+    }
+}
+
+fn is_placed(tag: usize) -> bool
+    requires { ⌜ tag < 27 ⌝ }
+    ensures { λ r. ⌜ r ≡ rowAt tag .placed ⌝ }
+{
+    match tag {
+        0 => false,
+        9 => false,
+        10 => false,
+        15 => false,
+        25 => false,
+        26 => false,
+        _ => true,
+    }
+}
+
+fn releases(tag: usize) -> bool
+    requires { ⌜ tag < 27 ⌝ }
+    ensures { λ r. ⌜ r ≡ rowAt tag .releases ⌝ }
+{
+    match tag {
+        5 => true,
+        19 => true,
+        _ => false,
+    }
+}
+
+fn marks(tag: usize) -> bool
+    requires { ⌜ tag < 27 ⌝ }
+    ensures { λ r. ⌜ r ≡ rowAt tag .marks ⌝ }
+{
+    match tag {
+        13 => true,
+        _ => false,
+    }
+}
+
+fn pick(c: bool, a: u8, b: u8) -> u8
+    ensures { λ r. ⌜ r ≡ cond c a b ⌝ }
+{
+    if c { a } else { b }
+}
+
+// The place's node a and level i, the node x that G3 read and the own node are in their bounds.
+pub(crate) fn stage_passes(tag: usize, a: u8, i: u8, x: u8, own: u8, n: u8, l: u8) -> bool
+    requires { ⌜ (tag < 27) × (n ≤ 200) ⌝ }
+    ensures { λ r. ⌜ r ≡ inBounds (rowAt tag) a i x own n l ⌝ }
+{
+    let placed = is_placed(tag);
+    let marked = marks(tag);
+    let owned = owns(tag);
+    if i < pick(placed, 1, 0) {
+        return false;
+    }
+    if pick(placed, l, 0) < i {
+        return false;
+    }
+    if pick(releases(tag), n + 1, 0) < x {
+        return false;
+    }
+    if a < pick(marked, 1, 0) {
+        return false;
+    }
+    if pick(marked, n, pick(placed, n + 1, 0)) < a {
+        return false;
+    }
+    if own < pick(owned, 1, 0) {
+        return false;
+    }
+    own <= pick(owned, n, n + 1)
+}

@@ -1,0 +1,28 @@
+// What a call on the bytes of a record that passes check 21 is refused with.
+ghost use mathlib.Core.Path.{_≡_};
+ghost use Rattle.image.specs.Image.{Sound};
+ghost use Rattle.image_parts.specs.Given.{idleIn, refusalIn};
+use image::numbers::number_from;
+use refusals::processor_of;
+use refusals::refusal_of;
+use rules::Call;
+
+// Whether a processor is idle; it is not where the queue has none of this number.
+fn idle_at(b: &[u8], processor: u32) -> bool
+    requires { ⌜ Sound (now b) ⌝ }
+    ensures { λ r. ⌜ r ≡ idleIn (now (b .entry)) processor ⌝ }
+{
+    if (b[0] as u32) <= processor {
+        return false;
+    }
+    b[7 + 17 * (processor as usize) + 5] == 0
+}
+
+// The refusal of a call before a node is looked for, or 0.
+pub fn refusal_at(b: &[u8], c: Call) -> u8
+    requires { ⌜ Sound (now b) ⌝ }
+    ensures { λ r. ⌜ r ≡ refusalIn (now (b .entry)) c ⌝ }
+{
+    let idle = idle_at(b, processor_of(c));
+    refusal_of(c, number_from(b, 3), b[0], b[2], idle)
+}

@@ -1,0 +1,30 @@
+use Rattle.laws.proofs.Rules.{tests}
+use borrow.Author.Needs.{needs}
+use Rattle.queue.proofs.reading.taken.Statement.{statement}
+use Rattle.queue.proofs.reading.taken.Tie as tie
+
+enum-told : tie.Need-enum-told
+enum-told c = search needs
+
+choose-requires : tie.Need-choose-requires
+choose-requires c κs = search needs
+
+enum-told-2 : tie.Need-enum-told-2
+enum-told-2 c = search needs
+
+enum-told-3 : tie.Need-enum-told-3
+enum-told-3 c = search needs
+
+returns : tie.Need-returns
+returns c = search (tests, c .choose .ensures, c .before .enum-told .given .1)
+
+returns-2 : tie.Need-returns-2
+returns-2 c = search needs
+
+returns-3 : tie.Need-returns-3
+returns-3 c = search needs
+
+pub taken-spec : {M : Type 1} → statement M
+taken-spec =
+    tie.close
+    (tie.spec enum-told choose-requires enum-told-2 enum-told-3 returns returns-2 returns-3)

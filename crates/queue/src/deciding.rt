@@ -1,0 +1,61 @@
+// What a call decides that is not refused.
+ghost use mathlib.Core.Path.{_≡_};
+ghost use mathlib.Core.Bool.{true};
+ghost use Prim.Native.Nat.{ℕ, _<_};
+ghost use Rattle.checks.specs.Check.{valid as validOf};
+ghost use Rattle.record.specs.Queues.{processorAt};
+ghost use Rattle.rules.specs.Calls.{stepDecision, decisionOf, refusalOf};
+ghost use Rattle.queue.specs.Taken.{taken};
+use choosing::begins::delete_begins;
+use choosing::begins::insert_begins;
+use decisions::walk::decide;
+use parts::reads::reading_place;
+use parts::reads::sight_from;
+use record::Node;
+use record::Place;
+use record::Processor;
+use record::Queue;
+use record::Stage;
+use rules::Call;
+use rules::Decision;
+use rules::Sight;
+
+// A step of processor p: three nodes are read, and the stage decides.
+fn step_decision(q: Queue, p: u32) -> Decision
+    requires { ⌜ (validOf q ≡ true) × (p < q .processors) ⌝ }
+    ensures { λ r. ⌜ r ≡ stepDecision q (processorAt q p) ⌝ }
+{
+    let k = p as usize;
+    let c = q.callers[k];
+    let g = c.stage;
+    let a = reading_place(g);
+    let x = a.node as usize;
+    let here = q.nodes[x];
+    let next = here.forward_at(a.level);
+    let y = next as usize;
+    let ahead = q.nodes[y];
+    let z = c.own as usize;
+    let own = q.nodes[z];
+    let s = sight_from(here, own, ahead, next, c, a, q.entries, q.levels);
+    decide(s, g)
+}
+
+// The decision of a call, where an Insert takes node x.
+pub fn decision_of(q: Queue, c: Call, x: u8) -> Decision
+    requires { ⌜ (validOf q ≡ true) × (refusalOf q c ≡ 0) × (x ≡ taken q c) ⌝ }
+    ensures { λ r. ⌜ r ≡ decisionOf q c ⌝ }
+{
+    let t = q.clock + 1;
+    match c {
+        Call::Insert(_, due, item, height) => insert_begins(
+            q.levels,
+            t,
+            x,
+            due,
+            item,
+            height as u8,
+        ),
+        Call::DeleteMin(_) => delete_begins(t),
+        Call::Step(p) => step_decision(q, p),
+    }
+}
