@@ -1,5 +1,6 @@
-/* Runs the sheet on standard input, its first 64 KiB, and prints its history, or a refusal's number and line: the program again, by a host in C. The
- * area that is lent for the history has guard bytes on both sides, and what a run may not touch is looked at after it. */
+/* Runs the sheet on standard input, its first 64 KiB, and prints its history, or a refusal's number
+ * and line: the program again, by a host in C. The area that is lent for the history has guard bytes
+ * on both sides, and what a run may not touch is looked at after it. */
 #include <stdio.h>
 #include <string.h>
 #include "darthog_sheet.h"

@@ -1,6 +1,6 @@
 //! Check 21: every number that the record stores lies in its range.
 //!
-//! Slots past P, N+1 and L are not looked at.
+//! What lies past P, N + 1 or L may be anything.
 
 use crate::queue::{
     Node, Place, Processor, Queue, Stage, Use, LIMIT, MOST_LEVELS, MOST_NODES, MOST_PROCESSORS,
@@ -15,9 +15,9 @@ fn none_above(numbers: &Levels, greatest: &Levels) -> bool {
 }
 
 impl Queue {
-    /// Whether the record passes check 21. But for the sizes nothing ends it
-    /// early: a record mostly passes, and without branches the compiler tests
-    /// several numbers at once.
+    /// Whether the record passes check 21. The levels of a node are compared
+    /// without branches, so that the compiler takes several at once; the other
+    /// tests end it where one fails, since a record mostly passes.
     pub fn sound(&self) -> bool {
         if !self.sizes_sound() {
             return false;
@@ -28,11 +28,12 @@ impl Queue {
         let holders = self.on_levels(self.processor_count);
         let (first, last) = (&nodes[0], &nodes[nodes.len() - 1]);
         let ends = first.stamp.is_none() & last.stamp.is_none();
-        nodes.iter().fold(ends, |sound, node| {
-            sound & self.node_sound(node, &links, &holders)
-        }) && processors
+        ends && nodes
             .iter()
-            .all(|processor| self.processor_sound(processor, &links))
+            .all(|node| self.node_sound(node, &links, &holders))
+            && processors
+                .iter()
+                .all(|processor| self.processor_sound(processor, &links))
     }
 
     fn sizes_sound(&self) -> bool {
@@ -56,15 +57,14 @@ impl Queue {
             Use::Never | Use::InUse => true,
             Use::Retired(time) => time <= self.clock,
         };
-        none_above(&node.forward, links)
-            & none_above(&node.locks, holders)
-            & (node.node_lock <= self.processor_count)
-            & (node.due <= LIMIT)
-            & (node.item <= LIMIT)
-            & (node.ticket <= self.clock)
-            & self.is_level(node.height)
-            & stamp_sound
-            & use_sound
+        (none_above(&node.forward, links) & none_above(&node.locks, holders))
+            && node.node_lock <= self.processor_count
+            && node.due <= LIMIT
+            && node.item <= LIMIT
+            && node.ticket <= self.clock
+            && self.is_level(node.height)
+            && stamp_sound
+            && use_sound
     }
 
     fn processor_sound(&self, processor: &Processor, links: &Levels) -> bool {

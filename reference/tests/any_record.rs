@@ -1,5 +1,5 @@
-//! The steps are defined for every record that passes check 21, reached by a
-//! run or not, and keep check 21.
+//! Any record that passes check 21, be it one that no run leads to: every step
+//! does what is defined, and leaves such a record.
 
 use darthog_reference::answer::{Answer, Entry};
 use darthog_reference::any_record::{any_record, slots_past};

@@ -208,7 +208,7 @@ fn the_longest_retired_node_is_taken_and_the_lowest_on_a_tie() {
 }
 
 #[test]
-fn an_insert_goes_on_to_i4_at_any_level_not_below_the_height() {
+fn an_insert_goes_on_to_i4_from_its_height_on() {
     use darthog_reference::queue::{Place, Stage};
     for (height, stage) in [(1, true), (2, true), (3, false)] {
         let mut queue = fresh(1, 1, 3).unwrap();

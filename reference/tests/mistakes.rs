@@ -104,7 +104,7 @@ fn leaving_a_removed_nodes_number_forward() {
 
 /// The head is marked as if it were an entry.
 #[test]
-fn marking_the_head_when_the_walk_is_led_back_to_it() {
+fn a_walk_led_back_marks_the_head() {
     let faults = faults_of(Mistake::HeadMarked);
     let head = "Marked(Entry { due: 0, item: 0, ticket: 0 })";
     assert!(count(&faults, head) > 0, "{faults:?}");
@@ -113,7 +113,7 @@ fn marking_the_head_when_the_walk_is_led_back_to_it() {
 /// A walk that tested the old entry's stamp marks the new entry, or is led
 /// astray by the new forward numbers.
 #[test]
-fn giving_a_node_out_again_as_soon_as_it_is_unlinked() {
+fn an_unlinked_node_is_taken_at_once() {
     let faults = faults_of(Mistake::ReuseAtOnce);
     assert!(count(&faults, "marked, but") > 0, "{faults:?}");
 }

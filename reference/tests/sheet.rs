@@ -60,7 +60,7 @@ fn refusal_41_comes_before_all_others() {
 }
 
 #[test]
-fn refusal_42_first_line_not_q_or_a_later_q() {
+fn refusal_42_q_missing_or_in_a_later_line() {
     assert_eq!(refusal(b""), (42, 1));
     assert_eq!(refusal(D.as_bytes()), (42, 1));
     assert_eq!(refusal(format!("{D}{Q}").as_bytes()), (42, 1));
