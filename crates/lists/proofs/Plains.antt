@@ -24,6 +24,7 @@ use Rattle.lists.specs.InPlace.{listCode, bytesAfterList, answersAfterLi
 use Rattle.image.specs.Image.{imageOf, queueIn, passesOf, Sound}
 use Rattle.image.specs.Numbers.{number32}
 use Rattle.image_parts.specs.Given.{Called}
+use Rattle.image_parts.proofs.Readings.{clock-is}
 use Rattle.image_parts.proofs.Reached.{reached-read}
 use Rattle.image_call.proofs.Results.{queue-called, answer-called}
 
@@ -51,10 +52,6 @@ unfolding writtenTo
 written-none q l a = refl
 
 -- a turn of the loop: from the bytes b to c, with the answer r to the call x
-clock-is : (b : List ℕ) → number32 b 3 ≡ queueIn b .clock
-unfolding queueIn
-clock-is b = refl
-
 module _ (q : Queue) (l w : List ℕ) (i : ℕ) (b c : List ℕ) (x : Call) (r : Answer) (s : Sound b)
     (h : queueIn b ≡ recordTo q l i) (is : x ≡ callFrom l (i * 5)) (t : Called b x c r) where
   same : called (queueIn b) x ≡ called (recordTo q l i) (callAt l i)
@@ -73,7 +70,7 @@ module _ (q : Queue) (l w : List ℕ) (i : ℕ) (b c : List ℕ) (x : Call) (r :
       k ∙ rw (
         e,
         f ∙ ap told (answer-called b s x c r t ∙ ap (λ (o : Outcome). o .answer) same),
-        g ∙ clock-is c ∙ ap (λ (u : Queue). u .clock) queue-is,
+        g ∙ sym (clock-is c) ∙ ap (λ (u : Queue). u .clock) queue-is,
       ) (sym (written-more q l i w))
 
 pub image-at : (q : Queue) (l : List ℕ) (n : ℕ) (b : List ℕ) → Sound b → queueIn b

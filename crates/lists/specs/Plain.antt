@@ -16,15 +16,15 @@ use Rattle.rules.specs.Runs.{Turn, calls}
 use Rattle.lists.specs.declared.runs.Told.{Told}
 
 -- a call by its kind, processor, due, item and height
-abbrev pub callOf : ℕ → ℕ → ℕ → ℕ → ℕ → Call
-callOf kind p due item height =
+abbrev pub byKind : ℕ → ℕ → ℕ → ℕ → ℕ → Call
+byKind kind p due item height =
     cond (eqb kind 1) (call.Insert p due item height)
     (cond (eqb kind 2) (call.DeleteMin p) (call.Step p))
 
 -- the call whose numbers begin at this place of the list
 abbrev pub callFrom : List ℕ → ℕ → Call
 callFrom l i =
-    callOf (getD l i 0) (getD l (i + 1) 0) (getD l (i + 2) 0) (getD l (i + 3) 0) (getD l (i + 4) 0)
+    byKind (getD l i 0) (getD l (i + 1) 0) (getD l (i + 2) 0) (getD l (i + 3) 0) (getD l (i + 4) 0)
 
 -- call number k, from 0
 abbrev pub callAt : List ℕ → ℕ → Call
