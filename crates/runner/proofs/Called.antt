@@ -34,10 +34,6 @@ call-queue l b s a r g =
     queue-after b s (calls (callOf l)) (callOn l (queueIn b)) (call-is b s (callOf l)) a r g
 
 -- the clock's bytes, and how many bytes there are
-pub clock-is : (b : List ℕ) → number32 b 3 ≡ queueIn b .clock
-unfolding queueIn
-clock-is b = refl
-
 module _ (b : List ℕ) (s : Sound b) where
   pub long-enough : 7 ≤ length b
   long-enough = omega (arith, s .long)

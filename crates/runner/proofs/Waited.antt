@@ -61,7 +61,8 @@ use Rattle.image_parts.specs.Given.{Gives}
 use Rattle.rules.proofs.ValidFacts.{valid-facts}
 use Rattle.runner.specs.Calls.{prints}
 use Rattle.runner.specs.Waiting.{isWaits, waitsLeft, later}
-use Rattle.runner.proofs.Called.{callOn, call-kept, call-queue, clock-is, clock-high}
+use Rattle.image_parts.proofs.Readings.{clock-is}
+use Rattle.runner.proofs.Called.{callOn, call-kept, call-queue, clock-high}
 use Rattle.runner.proofs.Histories.{afterCall, lineFrom, from-more}
 use Rattle.runner.proofs.States.{Within, call-silent}
 
@@ -317,7 +318,7 @@ module _ (b : List ℕ) (s : Sound b) (left t : ℕ) (e : t ≡ number32 b 3) (a
 
   passed : (m : ℕ) → waitsLeft left t ≡ m → after ≡ puts b 0 (four 3 (t + m)) → Passed (left - m)
   passed m w h =
-      let c : queueIn b .clock ≡ t = sym (e ∙ clock-is b) in
+      let c : queueIn b .clock ≡ t = clock-is b ∙ sym e in
       let k : waitsLeft left (queueIn b .clock) ≡ m = ap (waitsLeft left) c ∙ w in
       (ap (λ (j : ℕ). left - j) (sym k), h ∙ clock-put b s (t + m) m (ap (λ (j : ℕ). j + m) (sym c)) ∙ ap (λ (j : ℕ). imageOf (later (queueIn b) j)) (sym k))
 

@@ -18,7 +18,8 @@ use Rattle.sheet.proofs.Parts.{tail-part, line-start, part-next}
 use Rattle.sheet.proofs.Reports.{refuses-long}
 use Rattle.runner.specs.Calls.{eventOf}
 use Rattle.runner.proofs.Areas.{area-whole, area-part}
-use Rattle.runner.proofs.Called.{clock-is, long-enough}
+use Rattle.image_parts.proofs.Readings.{clock-is}
+use Rattle.runner.proofs.Called.{long-enough}
 use Rattle.runner.proofs.Histories.{left-low}
 use Rattle.runner.proofs.States.{Between, Within, same-area, at-first, begins, ends, call-silent, call-prints, call-long, at-last}
 use Rattle.runner.proofs.Waited.{call-waits}
@@ -249,7 +250,7 @@ loop2-again-3 c =
           (b .before .loop2 .image) (b .before .loop2 .area) (b .before .loop2 .at) (b .before .loop2 .left) (c .before .before .before .before .before .before .before .before .before .before .before .before .before .before .before .before .before .before .loop2 .inv .0 q x e) (b .loop2-test .taken)
           _ _ (call .ensures .0) (call .ensures .1)
           _ _ _ (c .left-after .ensures) (sym (c .before .before .before .before .before .before .before .before .before .before .prints .ensures) ∙ not-false _ (c .before .before .before .before .before .before .before .before .before .if2 .left))
-          (c .before .before .before .before .before .before .event-of .ensures ∙ ap (λ (t : ℕ). eventOf (c .before .before .before .before .before .before .before .before .before .before .before .before .before .before .before .before .before .before .before .before .kept-line .result) t (call .result)) (c .before .before .before .before .before .before .before .number-from .ensures ∙ clock-is _))
+          (c .before .before .before .before .before .before .event-of .ensures ∙ ap (λ (t : ℕ). eventOf (c .before .before .before .before .before .before .before .before .before .before .before .before .before .before .before .before .before .before .before .before .kept-line .result) t (call .result)) (c .before .before .before .before .before .before .before .number-from .ensures ∙ sym (clock-is _)))
           (sym (c .before .before .before .before .append-event .ensures .0) ∙ not-false _ (c .before .if3 .left)) (c .before .before .before .before .append-event .ensures .1),
       call .kept .0 ∙ c .before .before .before .before .before .before .before .before .before .before .before .before .before .before .before .before .before .before .loop2 .inv .1,
     )
