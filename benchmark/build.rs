@@ -1,5 +1,5 @@
 //! Links the bare steps: `rt staticlib bench` writes the archive. The crate
-//! `host` links the calls of `libentries.a`.
+//! `host` links the calls of `libhost_calls.a`.
 
 use std::path::Path;
 

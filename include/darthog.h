@@ -1,6 +1,6 @@
 /* Darthog: a priority queue of timed withdrawals, advanced one step per call. The host keeps a
  * queue as bytes, its image, and lends them to each call; darthog_image_length tells how many there
- * are, by the queue's sizes, and docs/IMAGE.md has their layout. Link libentries.a.
+ * are, by the queue's sizes, and docs/IMAGE.md has their layout. Link libhost_calls.a.
  *
  * An accepted call leaves the image of the record after the call in place of the bytes; a refused
  * one leaves every byte as it was. Bytes that are no image, of whatever length and whatever they

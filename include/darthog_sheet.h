@@ -1,4 +1,4 @@
-/* Darthog: the run of a whole sheet of calls, on a queue of its own. Link libsheetentry.a.
+/* Darthog: the run of a whole sheet of calls, on a queue of its own. Link libhost_sheet.a.
  *
  * A line of a sheet has 30 bytes: its letter, four fields of seven columns each, and a line feed.
  * Its history has lines of 37 bytes with five such fields. Nothing is kept between calls, and no

@@ -1,5 +1,5 @@
 //! The proved functions, on slices: `bench_steps` of crates/bench, and the
-//! calls for hosts of crates/entries. A lent slice is a pointer and a length.
+//! calls for hosts of crates/host_calls. A lent slice is a pointer and a length.
 
 use darthog_host::raw::{
     darthog_backlog, darthog_begin_insert, darthog_calls, darthog_step, Reply,

@@ -2,7 +2,7 @@
 //! advanced one step per call.
 //!
 //! A [`Queue`] owns the bytes of its image, as many as its sizes take, and lends
-//! them to the calls of the proved library `libentries.a`. A refused call leaves
+//! them to the calls of the proved library `libhost_calls.a`. A refused call leaves
 //! the queue as it was. [`Queue::calls`] makes the calls of a list in one go,
 //! and [`raw`] has the library's own functions.
 //!

@@ -23,7 +23,7 @@ fn read(path: &str) -> String {
 
 /// Every source of the entries.
 fn sources() -> Vec<String> {
-    let folder = "crates/entries/src";
+    let folder = "crates/host_calls/src";
     let path = Path::new(env!("CARGO_MANIFEST_DIR"))
         .join("..")
         .join(folder);
@@ -145,9 +145,10 @@ fn of_source(text: &str, start: &str) -> BTreeMap<String, Function> {
                 parameters.push((length, "usize".to_string()));
             }
         }
+        // what the source calls a plain answer is a reply for hosts
         let function = Function {
             parameters,
-            gives: gives[..end].to_string(),
+            gives: gives[..end].replace("PlainAnswer", "Reply"),
         };
         functions.insert(part[..open].to_string(), function);
     }
@@ -183,14 +184,19 @@ fn a_reply_is_that_of_the_source() {
         .split(';')
         .filter_map(|field| field.trim().strip_prefix("uint32_t "))
         .collect();
-    let of = |text: &str| -> Vec<String> {
-        let text = fields(text, "pub struct Reply {");
+    let of = |text: &str, start: &str| -> Vec<String> {
+        let text = fields(text, start);
         let fields = parts(&text).into_iter();
         let names = fields.filter_map(|field| field.strip_prefix("pub ")?.strip_suffix(": u32"));
         names.map(str::to_string).collect()
     };
-    assert_eq!(of(&read("crates/entries/src/replies.rt")), header);
-    assert_eq!(of(&read("host/src/raw.rs")), header);
+    let source = of(
+        &read("crates/rules/src/answers.rt"),
+        "pub struct PlainAnswer {",
+    );
+    assert_eq!(source, header);
+    let host = of(&read("host/src/raw.rs"), "pub struct Reply {");
+    assert_eq!(host, header);
     assert_eq!(header, ["code", "first", "second", "third"]);
     assert_eq!(std::mem::size_of::<raw::Reply>(), 16);
 }

@@ -6,7 +6,7 @@ use common::{compare, compare_list, edge, junk, refused, seed, Call, Counts, Len
 use darthog_host::raw::{darthog_due, darthog_image_length, Reply};
 use darthog_host::MAX_IMAGE_LENGTH;
 use darthog_reference::image::{encode, image_length};
-use darthog_reference::queue::{due_from_seconds, fresh, Queue, LIMIT};
+use darthog_reference::queue::{due_from_seconds, fresh, Queue, MAX_NUMBER};
 use darthog_reference::random::Random;
 use darthog_reference::stated::images::LENGTHS;
 use darthog_reference::stated::minutes::{MINUTES, TOO_MANY_SECONDS};
@@ -176,7 +176,7 @@ fn making_takes_the_sizes_that_the_reference_takes() {
 fn records() -> Vec<Queue> {
     let mut records = Vec::new();
     for (p, n, l) in [(1, 1, 1), (2, 1, 1), (2, 3, 4), (16, 200, 8)] {
-        for clock in [0, LIMIT - 1, LIMIT, LIMIT + 1, u32::MAX] {
+        for clock in [0, MAX_NUMBER - 1, MAX_NUMBER, MAX_NUMBER + 1, u32::MAX] {
             let idle = fresh(p, n, l).expect("sizes in range");
             let mut inserting = idle.clone();
             inserting.begin_insert(0, 5, 6, l).expect("a node is free");
@@ -221,13 +221,13 @@ fn numbers_at_and_past_every_edge() {
             }
         }
         for call in [
-            Call::Insert(0, LIMIT, LIMIT, u32::from(record.level_count)),
-            Call::Insert(0, LIMIT + 1, LIMIT, u32::from(record.level_count)),
-            Call::Insert(0, LIMIT, LIMIT + 1, u32::from(record.level_count)),
-            Call::Insert(0, LIMIT, LIMIT, u32::from(record.level_count) + 1),
-            Call::Insert(0, LIMIT, LIMIT, 0),
-            Call::Insert(0, LIMIT, 0, u32::from(record.level_count)),
-            Call::Insert(0, LIMIT, 0, 0),
+            Call::Insert(0, MAX_NUMBER, MAX_NUMBER, u32::from(record.level_count)),
+            Call::Insert(0, MAX_NUMBER + 1, MAX_NUMBER, u32::from(record.level_count)),
+            Call::Insert(0, MAX_NUMBER, MAX_NUMBER + 1, u32::from(record.level_count)),
+            Call::Insert(0, MAX_NUMBER, MAX_NUMBER, u32::from(record.level_count) + 1),
+            Call::Insert(0, MAX_NUMBER, MAX_NUMBER, 0),
+            Call::Insert(0, MAX_NUMBER, 0, u32::from(record.level_count)),
+            Call::Insert(0, MAX_NUMBER, 0, 0),
             Call::Insert(u32::MAX, u32::MAX, u32::MAX, u32::MAX),
             Call::Insert(u32::from(record.processor_count) - 1, 7, 42, 1),
             Call::DeleteMin(u32::from(record.processor_count) - 1),

@@ -8,7 +8,7 @@ mod common;
 use common::{any_call, compare_list, edge, expected_list, junk, seed, Call, Counts, Lent, MARGIN};
 use darthog_reference::any_record::any_record;
 use darthog_reference::image::encode;
-use darthog_reference::queue::{fresh, Queue, LIMIT};
+use darthog_reference::queue::{fresh, Queue, MAX_NUMBER};
 use darthog_reference::random::Random;
 use darthog_reference::schedule::{Schedule, Sizes};
 use darthog_reference::stated::images;
@@ -146,7 +146,7 @@ fn run(number: u64, random: &mut Random, counts: &mut Counts) {
     let mut record = fresh_of(sizes);
     // one schedule in five runs into the end of the clock
     if number % 5 == 4 {
-        record.clock = LIMIT - 400;
+        record.clock = MAX_NUMBER - 400;
     }
     let mut lent = Lent::new(&encode(&record), random);
     let mut schedule = Schedule::new(random.draw(), sizes);

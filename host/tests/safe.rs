@@ -9,7 +9,7 @@ use darthog_host::{Entry, Queue, Refusal, Step, MAX_IMAGE_LENGTH};
 use darthog_reference::answer::{self, Answer};
 use darthog_reference::calls::{Call, Outcome};
 use darthog_reference::image::encode;
-use darthog_reference::queue::{due_from_seconds, fresh, LIMIT};
+use darthog_reference::queue::{due_from_seconds, fresh, MAX_NUMBER};
 use darthog_reference::random::Random;
 use darthog_reference::schedule::{Schedule, Sizes};
 use darthog_reference::stated::images::LENGTHS;
@@ -122,7 +122,7 @@ fn the_queue_does_what_the_reference_does() {
         let mut queue = Queue::new(p as u32, n as u32, l as u32).expect("sizes in range");
         assert!(queue.as_bytes()[..] == encode(&record));
         if number % 5 == 4 {
-            record.clock = LIMIT - 400;
+            record.clock = MAX_NUMBER - 400;
             queue = Queue::from_bytes(&encode(&record)).expect("an image");
         }
         let mut schedule = Schedule::new(random.draw(), sizes);
@@ -187,7 +187,7 @@ fn a_list_does_what_the_reference_does_call_by_call() {
         };
         let mut record = fresh_of(sizes);
         if number % 5 == 4 {
-            record.clock = LIMIT - 400;
+            record.clock = MAX_NUMBER - 400;
         }
         let mut queue = Queue::from_bytes(&encode(&record)).expect("an image");
         let mut schedule = Schedule::new(random.draw(), sizes);

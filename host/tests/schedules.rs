@@ -7,7 +7,7 @@ use common::{call_on, refused, seed, Call, Counts, Lent};
 use darthog_reference::answer::{Answer, Entry};
 use darthog_reference::calls::Outcome;
 use darthog_reference::image::encode;
-use darthog_reference::queue::LIMIT;
+use darthog_reference::queue::MAX_NUMBER;
 use darthog_reference::random::Random;
 use darthog_reference::schedule::{Schedule, Sizes};
 use darthog_reference::trial::fresh_of;
@@ -60,7 +60,7 @@ fn run(number: u64, random: &mut Random, counts: &mut Counts) {
     counts.note(make.entry(), 0);
     // one schedule in five runs into the end of the clock
     if number % 5 == 4 {
-        record.clock = LIMIT - 400;
+        record.clock = MAX_NUMBER - 400;
         lent.put(&encode(&record));
     }
     let mut schedule = Schedule::new(random.draw(), sizes);

@@ -2,8 +2,8 @@
 //! N+1 and L hold anything.
 
 use crate::queue::{
-    Node, Operation, Place, Processor, Queue, Stage, Use, HEAD, LIMIT, MOST_LEVELS,
-    MOST_PROCESSORS, NODE_SLOTS,
+    Node, Operation, Place, Processor, Queue, Stage, Use, HEAD, MAX_LEVELS, MAX_NUMBER,
+    MAX_PROCESSORS, NODE_SLOTS,
 };
 use crate::random::Random;
 use crate::schedule::Sizes;
@@ -19,7 +19,7 @@ pub fn any_record(random: &mut Random) -> Queue {
         tail: sizes.nodes as u8 + 1,
         processors: sizes.processors as u8,
         levels: sizes.levels as u8,
-        clock: random.among(&[0, 1, 5, 30, 1000, LIMIT - 1, LIMIT]),
+        clock: random.among(&[0, 1, 5, 30, 1000, MAX_NUMBER - 1, MAX_NUMBER]),
         random,
     };
     let mut nodes = [maker.junk_node(); NODE_SLOTS];
@@ -29,7 +29,7 @@ pub fn any_record(random: &mut Random) -> Queue {
             maker.settle_node(number as u8, node);
         }
     }
-    let mut processors = [maker.junk_processor(); MOST_PROCESSORS];
+    let mut processors = [maker.junk_processor(); MAX_PROCESSORS];
     for (number, processor) in processors.iter_mut().enumerate() {
         *processor = maker.junk_processor();
         if number < maker.processors as usize {
@@ -95,7 +95,7 @@ impl Maker<'_> {
     }
 
     /// Eight bytes of anything.
-    fn bytes(&mut self) -> [u8; MOST_LEVELS] {
+    fn bytes(&mut self) -> [u8; MAX_LEVELS] {
         self.random.draw().to_le_bytes()
     }
 
@@ -115,14 +115,14 @@ impl Maker<'_> {
     }
 
     fn value(&mut self) -> u32 {
-        let last = self.random.among(&[0, 2, u64::from(LIMIT)]);
+        let last = self.random.among(&[0, 2, u64::from(MAX_NUMBER)]);
         self.random.between(0, last) as u32
     }
 
     fn junk_node(&mut self) -> Node {
         Node {
             forward: self.bytes(),
-            locks: self.bytes(),
+            level_locks: self.bytes(),
             node_lock: self.byte(),
             mark: self.random.one_in(2),
             stamp: Some(self.word()),
@@ -130,7 +130,7 @@ impl Maker<'_> {
             ticket: self.word(),
             item: self.word(),
             height: self.byte(),
-            usage: Use::Retired(self.word()),
+            state: Use::Retired(self.word()),
         }
     }
 
@@ -154,7 +154,7 @@ impl Maker<'_> {
         let locked = self.random.one_in(3);
         for slot in 0..levels {
             node.forward[slot] = self.up_to(self.tail);
-            node.locks[slot] = if locked { self.holder() } else { 0 };
+            node.level_locks[slot] = if locked { self.holder() } else { 0 };
         }
         node.node_lock = if locked { self.holder() } else { 0 };
         node.stamp = None;
@@ -165,7 +165,7 @@ impl Maker<'_> {
         node.item = self.value();
         node.ticket = self.time();
         node.height = self.random.between(1, u64::from(self.levels)) as u8;
-        node.usage = match self.random.below(20) {
+        node.state = match self.random.below(20) {
             0 => Use::Never,
             1..=9 => Use::InUse,
             _ => Use::Retired(self.time()),
@@ -218,7 +218,7 @@ pub fn slots_past(queue: &Queue) -> (Vec<Node>, Vec<Processor>, Vec<u8>) {
     let mut past_levels = Vec::new();
     for node in &queue.nodes[..=last] {
         past_levels.extend_from_slice(&node.forward[levels..]);
-        past_levels.extend_from_slice(&node.locks[levels..]);
+        past_levels.extend_from_slice(&node.level_locks[levels..]);
     }
     for processor in &queue.processors[..count] {
         past_levels.extend_from_slice(&processor.saved[levels..]);

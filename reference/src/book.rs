@@ -3,7 +3,7 @@
 
 use crate::answer::{Answer, Entry};
 use crate::calls::{Call, Outcome};
-use crate::queue::MOST_PROCESSORS;
+use crate::queue::MAX_PROCESSORS;
 
 /// An entry that was not handed out yet.
 #[derive(Clone, Copy, PartialEq, Eq, Debug)]
@@ -45,7 +45,7 @@ pub struct Book {
     /// The entries not handed out.
     pub entries: Vec<Written>,
     /// What each processor has open.
-    pub open: [Open; MOST_PROCESSORS],
+    pub open: [Open; MAX_PROCESSORS],
 }
 
 impl Default for Book {
@@ -60,7 +60,7 @@ impl Book {
         Book {
             count: 0,
             entries: Vec::new(),
-            open: [Open::Nothing; MOST_PROCESSORS],
+            open: [Open::Nothing; MAX_PROCESSORS],
         }
     }
 
@@ -136,7 +136,7 @@ impl Book {
     }
 
     fn begin(&mut self, processor: u64, time: u32) -> Result<usize, Fault> {
-        if processor >= MOST_PROCESSORS as u64 {
+        if processor >= MAX_PROCESSORS as u64 {
             return Err("a begin of no processor was accepted");
         }
         if self.open[processor as usize] != Open::Nothing {
@@ -150,7 +150,7 @@ impl Book {
     }
 
     fn step(&mut self, processor: u64, answer: Answer) -> Result<(), Fault> {
-        if processor >= MOST_PROCESSORS as u64 {
+        if processor >= MAX_PROCESSORS as u64 {
             return Err("a step of no processor was accepted");
         }
         let p = processor as usize;

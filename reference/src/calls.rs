@@ -6,7 +6,9 @@
 //! refused call changes nothing.
 
 use crate::answer::Answer;
-use crate::queue::{Node, Operation, Queue, Refusal, Stage, Use, FREE, HEAD, LIMIT, MOST_LEVELS};
+use crate::queue::{
+    Node, Operation, Queue, Refusal, Stage, Use, FREE, HEAD, MAX_LEVELS, MAX_NUMBER,
+};
 use crate::stages::{at, holder};
 
 /// A call of a host. Numbers may have any value.
@@ -162,7 +164,7 @@ impl Queue {
 
     /// Refusals 31 and 32.
     fn caller(&self, processor: u64) -> Result<usize, Refusal> {
-        if self.clock == LIMIT {
+        if self.clock == MAX_NUMBER {
             return Err(31);
         }
         if processor >= u64::from(self.processor_count) {
@@ -189,7 +191,7 @@ impl Queue {
         height: u64,
     ) -> Result<(usize, Filing), Refusal> {
         let p = self.idle_caller(processor)?;
-        if due > u64::from(LIMIT) || item > u64::from(LIMIT) {
+        if due > u64::from(MAX_NUMBER) || item > u64::from(MAX_NUMBER) {
             return Err(35);
         }
         if item == 0 {
@@ -210,7 +212,7 @@ impl Queue {
     /// ago, provided that every busy processor began after its retirement.
     fn choose_node(&self) -> Option<u8> {
         for number in 1..=self.node_count {
-            if self.nodes[number as usize].usage == Use::Never {
+            if self.nodes[number as usize].state == Use::Never {
                 return Some(number);
             }
         }
@@ -226,7 +228,7 @@ impl Queue {
     pub(crate) fn longest_retired(&self) -> Option<(u8, u32)> {
         let mut longest: Option<(u8, u32)> = None;
         for number in 1..=self.node_count {
-            if let Use::Retired(time) = self.nodes[number as usize].usage {
+            if let Use::Retired(time) = self.nodes[number as usize].state {
                 match longest {
                     Some((_, earliest)) if earliest <= time => {}
                     _ => longest = Some((number, time)),
@@ -242,13 +244,13 @@ impl Queue {
         let levels = self.level_count as usize;
         let tail = self.tail();
         let old = self.nodes[number as usize];
-        let mut forward: [u8; MOST_LEVELS] = old.forward;
-        let mut locks: [u8; MOST_LEVELS] = old.locks;
+        let mut forward: [u8; MAX_LEVELS] = old.forward;
+        let mut level_locks: [u8; MAX_LEVELS] = old.level_locks;
         forward[..levels].fill(tail);
-        locks[..levels].fill(FREE);
+        level_locks[..levels].fill(FREE);
         self.nodes[number as usize] = Node {
             forward,
-            locks,
+            level_locks,
             node_lock: holder(p),
             mark: false,
             stamp: None,
@@ -256,7 +258,7 @@ impl Queue {
             ticket: self.clock,
             item: filing.item,
             height: filing.height,
-            usage: Use::InUse,
+            state: Use::InUse,
         };
         let start = at(HEAD, self.level_count);
         let caller = &mut self.processors[p];

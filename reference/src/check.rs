@@ -3,10 +3,10 @@
 //! What lies past P, N + 1 or L may be anything.
 
 use crate::queue::{
-    Node, Place, Processor, Queue, Stage, Use, LIMIT, MOST_LEVELS, MOST_NODES, MOST_PROCESSORS,
+    Node, Place, Processor, Queue, Stage, Use, MAX_LEVELS, MAX_NODES, MAX_NUMBER, MAX_PROCESSORS,
 };
 
-type Levels = [u8; MOST_LEVELS];
+type Levels = [u8; MAX_LEVELS];
 
 /// Whether each number is at most the greatest for its level.
 fn none_above(numbers: &Levels, greatest: &Levels) -> bool {
@@ -37,30 +37,30 @@ impl Queue {
     }
 
     fn sizes_sound(&self) -> bool {
-        (1..=MOST_PROCESSORS).contains(&(self.processor_count as usize))
-            && (1..=MOST_NODES).contains(&(self.node_count as usize))
-            && (1..=MOST_LEVELS).contains(&(self.level_count as usize))
-            && self.clock <= LIMIT
+        (1..=MAX_PROCESSORS).contains(&(self.processor_count as usize))
+            && (1..=MAX_NODES).contains(&(self.node_count as usize))
+            && (1..=MAX_LEVELS).contains(&(self.level_count as usize))
+            && self.clock <= MAX_NUMBER
     }
 
     /// The greatest number for each level: this one on the queue's levels, and
     /// any on those past them.
-    fn on_levels(&self, greatest: u8) -> [u8; MOST_LEVELS] {
-        let mut on = [u8::MAX; MOST_LEVELS];
+    fn on_levels(&self, greatest: u8) -> [u8; MAX_LEVELS] {
+        let mut on = [u8::MAX; MAX_LEVELS];
         on[..self.level_count as usize].fill(greatest);
         on
     }
 
     fn node_sound(&self, node: &Node, links: &Levels, holders: &Levels) -> bool {
         let stamp_sound = node.stamp.unwrap_or(0) <= self.clock;
-        let use_sound = match node.usage {
+        let use_sound = match node.state {
             Use::Never | Use::InUse => true,
             Use::Retired(time) => time <= self.clock,
         };
-        (none_above(&node.forward, links) & none_above(&node.locks, holders))
+        (none_above(&node.forward, links) & none_above(&node.level_locks, holders))
             && node.node_lock <= self.processor_count
-            && node.due <= LIMIT
-            && node.item <= LIMIT
+            && node.due <= MAX_NUMBER
+            && node.item <= MAX_NUMBER
             && node.ticket <= self.clock
             && self.is_level(node.height)
             && stamp_sound

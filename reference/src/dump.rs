@@ -52,7 +52,7 @@ pub fn record_words(queue: &Queue) -> String {
         queue.processor_count, queue.node_count, queue.level_count, queue.clock
     );
     for (number, node) in queue.nodes[..=queue.tail() as usize].iter().enumerate() {
-        let usage = match node.usage {
+        let usage = match node.state {
             Use::Never => "never".to_string(),
             Use::InUse => "inuse".to_string(),
             Use::Retired(time) => format!("retired:{time}"),
@@ -68,7 +68,7 @@ pub fn record_words(queue: &Queue) -> String {
             node.ticket,
             node.height,
             numbers(&node.forward),
-            numbers(&node.locks),
+            numbers(&node.level_locks),
         );
     }
     let count = queue.processor_count as usize;

@@ -1,25 +1,25 @@
 //! The one ghost function of the proof, followed along the calls from outside.
 
 use crate::calls::{Call, Outcome};
-use crate::queue::{slot, Processor, Queue, Stage, HEAD, LIMIT, MOST_LEVELS, NODE_SLOTS};
+use crate::queue::{slot, Processor, Queue, Stage, HEAD, MAX_LEVELS, MAX_NUMBER, NODE_SLOTS};
 
 /// A time above every clock: linked until further notice.
-pub const EVER: u32 = LIMIT + 1;
+pub const EVER: u32 = MAX_NUMBER + 1;
 
 /// `until[n][i]`: `EVER` while node n is linked at level i; the time at which
 /// it was unlinked there, in its present use; 0 before it is linked.
 #[derive(Clone, PartialEq, Eq, Debug)]
 pub struct Ghost {
     /// The times, by node and level slot.
-    pub until: [[u32; MOST_LEVELS]; NODE_SLOTS],
+    pub until: [[u32; MAX_LEVELS]; NODE_SLOTS],
 }
 
 impl Ghost {
     /// The ghost of a fresh queue: only the head and the tail are linked.
     pub fn new(queue: &Queue) -> Ghost {
-        let mut until = [[0; MOST_LEVELS]; NODE_SLOTS];
-        until[HEAD as usize] = [EVER; MOST_LEVELS];
-        until[queue.tail() as usize] = [EVER; MOST_LEVELS];
+        let mut until = [[0; MAX_LEVELS]; NODE_SLOTS];
+        until[HEAD as usize] = [EVER; MAX_LEVELS];
+        until[queue.tail() as usize] = [EVER; MAX_LEVELS];
         Ghost { until }
     }
 
@@ -29,7 +29,7 @@ impl Ghost {
         match (*call, *outcome) {
             (Call::Insert { processor, .. }, Outcome::Began(_)) => {
                 let own = queue.processors[processor as usize].own;
-                self.until[own as usize] = [0; MOST_LEVELS];
+                self.until[own as usize] = [0; MAX_LEVELS];
             }
             (Call::Step { .. }, Outcome::Stepped(_)) => match was.stage {
                 Stage::I2Link(a) => self.until[was.own as usize][slot(a.level)] = EVER,

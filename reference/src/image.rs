@@ -7,7 +7,7 @@
 //! that they are read as. Whether the numbers are in their ranges is check 21.
 
 use crate::queue::{
-    Node, Operation, Place, Processor, Queue, Stage, Use, MOST_LEVELS, MOST_NODES, MOST_PROCESSORS,
+    Node, Operation, Place, Processor, Queue, Stage, Use, MAX_LEVELS, MAX_NODES, MAX_PROCESSORS,
     NODE_SLOTS,
 };
 
@@ -21,8 +21,8 @@ pub const NODE_BYTES: usize = 41;
 /// The length of an image for so many processors and entries; none where no
 /// queue has these sizes.
 pub fn image_length(processors: u64, entries: u64) -> Option<usize> {
-    let made = (1..=MOST_PROCESSORS as u64).contains(&processors)
-        && (1..=MOST_NODES as u64).contains(&entries);
+    let made = (1..=MAX_PROCESSORS as u64).contains(&processors)
+        && (1..=MAX_NODES as u64).contains(&entries);
     made.then(|| node_at(processors as usize, entries as usize + 2))
 }
 
@@ -57,7 +57,7 @@ pub fn encode(queue: &Queue) -> Vec<u8> {
 pub fn decode(bytes: &[u8]) -> Option<Queue> {
     let (&processor_count, &node_count) = (bytes.first()?, bytes.get(1)?);
     let (processors, entries) = (usize::from(processor_count), usize::from(node_count));
-    let room = processors <= MOST_PROCESSORS && entries <= MOST_NODES;
+    let room = processors <= MAX_PROCESSORS && entries <= MAX_NODES;
     if !room || bytes.len() != node_at(processors, entries + 2) {
         return None;
     }
@@ -68,7 +68,7 @@ pub fn decode(bytes: &[u8]) -> Option<Queue> {
         level_count: reader.byte(),
         clock: reader.number(),
         nodes: [Node::made(node_count + 1); NODE_SLOTS],
-        processors: [Processor::made(); MOST_PROCESSORS],
+        processors: [Processor::made(); MAX_PROCESSORS],
     };
     for processor in &mut queue.processors[..processors] {
         *processor = reader.processor()?;
@@ -100,7 +100,7 @@ fn put_number(bytes: &mut Vec<u8>, number: u32) {
 
 fn put_node(bytes: &mut Vec<u8>, node: &Node) {
     bytes.extend_from_slice(&node.forward);
-    bytes.extend_from_slice(&node.locks);
+    bytes.extend_from_slice(&node.level_locks);
     bytes.push(node.node_lock);
     bytes.push(u8::from(node.mark));
     bytes.push(u8::from(node.stamp.is_some()));
@@ -109,7 +109,7 @@ fn put_node(bytes: &mut Vec<u8>, node: &Node) {
     put_number(bytes, node.ticket);
     put_number(bytes, node.item);
     bytes.push(node.height);
-    let (tag, time) = match node.usage {
+    let (tag, time) = match node.state {
         Use::Never => (0, 0),
         Use::InUse => (1, 0),
         Use::Retired(time) => (2, time),
@@ -211,8 +211,8 @@ impl Reader<'_> {
         u32::from_le_bytes([self.byte(), self.byte(), self.byte(), self.byte()])
     }
 
-    fn levels(&mut self) -> [u8; MOST_LEVELS] {
-        let mut levels = [0; MOST_LEVELS];
+    fn levels(&mut self) -> [u8; MAX_LEVELS] {
+        let mut levels = [0; MAX_LEVELS];
         for level in &mut levels {
             *level = self.byte();
         }
@@ -221,7 +221,7 @@ impl Reader<'_> {
 
     fn node(&mut self) -> Option<Node> {
         let forward = self.levels();
-        let locks = self.levels();
+        let level_locks = self.levels();
         let node_lock = self.byte();
         let mark = match self.byte() {
             0 => false,
@@ -237,7 +237,7 @@ impl Reader<'_> {
         let ticket = self.number();
         let item = self.number();
         let height = self.byte();
-        let usage = match (self.byte(), self.number()) {
+        let state = match (self.byte(), self.number()) {
             (0, 0) => Use::Never,
             (1, 0) => Use::InUse,
             (2, time) => Use::Retired(time),
@@ -245,7 +245,7 @@ impl Reader<'_> {
         };
         Some(Node {
             forward,
-            locks,
+            level_locks,
             node_lock,
             mark,
             stamp,
@@ -253,7 +253,7 @@ impl Reader<'_> {
             ticket,
             item,
             height,
-            usage,
+            state,
         })
     }
 

@@ -23,7 +23,7 @@ fn main() -> ExitCode {
             ("trace", Some(numbers)) => print_schedule(numbers, false),
             ("record", Some(numbers)) => print_schedule(numbers, true),
             _ => Err(io::Error::other(
-                "usage: darthog-reference [trace|record SEED P N L CALLS]",
+                "state: darthog-reference [trace|record SEED P N L CALLS]",
             )),
         },
     };

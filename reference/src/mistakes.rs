@@ -4,7 +4,7 @@
 
 use crate::answer::Answer;
 use crate::calls::{Call, Outcome};
-use crate::queue::{Key, Place, Queue, Stage, HEAD, LIMIT, MOST_PROCESSORS};
+use crate::queue::{Key, Place, Queue, Stage, HEAD, MAX_NUMBER, MAX_PROCESSORS};
 use crate::trial::Machine;
 
 /// A mistake.
@@ -31,7 +31,7 @@ pub struct Wrong {
     queue: Queue,
     mistake: Mistake,
     /// For `StampInTwoCalls`: the time that each processor has read.
-    read_time: [Option<u32>; MOST_PROCESSORS],
+    read_time: [Option<u32>; MAX_PROCESSORS],
 }
 
 impl Wrong {
@@ -40,7 +40,7 @@ impl Wrong {
         Wrong {
             queue,
             mistake,
-            read_time: [None; MOST_PROCESSORS],
+            read_time: [None; MAX_PROCESSORS],
         }
     }
 
@@ -129,7 +129,7 @@ impl Machine for Wrong {
     fn call(&mut self, call: &Call) -> Outcome {
         if let Call::Step { processor } = *call {
             let known = processor < u64::from(self.queue.processor_count);
-            if known && self.queue.clock < LIMIT {
+            if known && self.queue.clock < MAX_NUMBER {
                 if let Some(answer) = self.wrong_step(processor as usize) {
                     return Outcome::Stepped(answer);
                 }

@@ -8,17 +8,17 @@
 use std::cmp::Ordering;
 
 /// The most processors a queue can have.
-pub const MOST_PROCESSORS: usize = 16;
+pub const MAX_PROCESSORS: usize = 16;
 /// The most nodes for entries a queue can have.
-pub const MOST_NODES: usize = 200;
+pub const MAX_NODES: usize = 200;
 /// The most levels a queue can have.
-pub const MOST_LEVELS: usize = 8;
+pub const MAX_LEVELS: usize = 8;
 /// Node slots of a record: the entries, the head and the tail.
-pub const NODE_SLOTS: usize = MOST_NODES + 2;
+pub const NODE_SLOTS: usize = MAX_NODES + 2;
 /// The last value of the clock, and the greatest due minute and item.
-pub const LIMIT: u32 = 999_999;
+pub const MAX_NUMBER: u32 = 999_999;
 /// The greatest count of seconds that becomes a due minute (document 02, W8).
-pub const MOST_SECONDS: u64 = 59_999_969;
+pub const MAX_SECONDS: u64 = 59_999_969;
 /// The number of the head.
 pub const HEAD: u8 = 0;
 /// What a lock holds while nobody has it.
@@ -42,9 +42,9 @@ pub enum Use {
 #[derive(Clone, Copy, PartialEq, Eq, Debug)]
 pub struct Node {
     /// The next node, for each level.
-    pub forward: [u8; MOST_LEVELS],
+    pub forward: [u8; MAX_LEVELS],
     /// The holder of the lock, for each level.
-    pub locks: [u8; MOST_LEVELS],
+    pub level_locks: [u8; MAX_LEVELS],
     /// The holder of the node lock.
     pub node_lock: u8,
     /// Set by the Delete_Min that takes this entry.
@@ -60,7 +60,7 @@ pub struct Node {
     /// On how many levels the node is linked.
     pub height: u8,
     /// Never used, in use or retired.
-    pub usage: Use,
+    pub state: Use,
 }
 
 /// Where an operation stands: a node and a level.
@@ -140,7 +140,7 @@ pub struct Processor {
     /// What its next step does.
     pub stage: Stage,
     /// The saved node, for each level.
-    pub saved: [u8; MOST_LEVELS],
+    pub saved: [u8; MAX_LEVELS],
 }
 
 /// The queue record.
@@ -157,7 +157,7 @@ pub struct Queue {
     /// The nodes, by number.
     pub nodes: [Node; NODE_SLOTS],
     /// The processors, by number.
-    pub processors: [Processor; MOST_PROCESSORS],
+    pub processors: [Processor; MAX_PROCESSORS],
 }
 
 /// The order of nodes: the head, then entries by due and ticket, then the
@@ -175,13 +175,13 @@ pub enum Key {
 /// A fresh queue for `p` processors, `n` nodes and `l` levels.
 /// Refused with 11, 12 or 13 when the first, second or third is out of range.
 pub fn fresh(p: u64, n: u64, l: u64) -> Result<Queue, Refusal> {
-    if p < 1 || p > MOST_PROCESSORS as u64 {
+    if p < 1 || p > MAX_PROCESSORS as u64 {
         return Err(11);
     }
-    if n < 1 || n > MOST_NODES as u64 {
+    if n < 1 || n > MAX_NODES as u64 {
         return Err(12);
     }
-    if l < 1 || l > MOST_LEVELS as u64 {
+    if l < 1 || l > MAX_LEVELS as u64 {
         return Err(13);
     }
     Ok(Queue {
@@ -190,7 +190,7 @@ pub fn fresh(p: u64, n: u64, l: u64) -> Result<Queue, Refusal> {
         level_count: l as u8,
         clock: 0,
         nodes: [Node::made(n as u8 + 1); NODE_SLOTS],
-        processors: [Processor::made(); MOST_PROCESSORS],
+        processors: [Processor::made(); MAX_PROCESSORS],
     })
 }
 
@@ -198,8 +198,8 @@ impl Node {
     /// A node as a fresh queue with this tail has it, in every slot.
     pub fn made(tail: u8) -> Node {
         Node {
-            forward: [tail; MOST_LEVELS],
-            locks: [FREE; MOST_LEVELS],
+            forward: [tail; MAX_LEVELS],
+            level_locks: [FREE; MAX_LEVELS],
             node_lock: FREE,
             mark: false,
             stamp: None,
@@ -207,7 +207,7 @@ impl Node {
             ticket: 0,
             item: 0,
             height: 1,
-            usage: Use::Never,
+            state: Use::Never,
         }
     }
 }
@@ -219,7 +219,7 @@ impl Processor {
             begin: 0,
             own: 0,
             stage: Stage::Idle,
-            saved: [HEAD; MOST_LEVELS],
+            saved: [HEAD; MAX_LEVELS],
         }
     }
 }
@@ -227,7 +227,7 @@ impl Processor {
 /// The minute nearest to a count of seconds; half a minute goes to the even one
 /// of its two. Refused with 35 above 59,999,969 seconds (document 02, W8).
 pub fn due_from_seconds(seconds: u64) -> Result<u32, Refusal> {
-    if seconds > MOST_SECONDS {
+    if seconds > MAX_SECONDS {
         return Err(35);
     }
     let below = (seconds / 60) as u32;
@@ -277,14 +277,14 @@ impl Queue {
     /// How many nodes are in use. No call gives this: the watchers look at it,
     /// and the benchmarks fill queues by it.
     pub fn in_use(&self) -> u32 {
-        let used = |node: &&Node| node.usage == Use::InUse;
+        let used = |node: &&Node| node.state == Use::InUse;
         self.entry_nodes().filter(used).count() as u32
     }
 
     /// How many entries are answered and not marked, told by the nodes
     /// (document 02, W2), without check 21.
     pub fn backlog_inner(&self) -> u32 {
-        let counts = |node: &&Node| node.usage == Use::InUse && node.stamp.is_some() && !node.mark;
+        let counts = |node: &&Node| node.state == Use::InUse && node.stamp.is_some() && !node.mark;
         self.entry_nodes().filter(counts).count() as u32
     }
 }

@@ -6,7 +6,7 @@
 use crate::answer::Answer;
 use crate::book::{Book, Open};
 use crate::calls::{Call, Outcome};
-use crate::queue::{Refusal, LIMIT};
+use crate::queue::{Refusal, MAX_NUMBER};
 use crate::schedule::Sizes;
 use std::collections::VecDeque;
 
@@ -41,7 +41,7 @@ impl Refusals {
             Call::DeleteMin { processor } => processor,
             Call::Step { processor } => processor,
         };
-        if book.count == LIMIT {
+        if book.count == MAX_NUMBER {
             return Some(31);
         }
         if processor >= self.sizes.processors {
@@ -59,7 +59,7 @@ impl Refusals {
     }
 
     fn expected_of_insert(&self, book: &Book, due: u64, item: u64, height: u64) -> Option<Refusal> {
-        if due > u64::from(LIMIT) || item > u64::from(LIMIT) {
+        if due > u64::from(MAX_NUMBER) || item > u64::from(MAX_NUMBER) {
             return Some(35);
         }
         if item == 0 {

@@ -7,7 +7,7 @@
 
 use crate::answer::Answer;
 use crate::calls::{Call, Outcome};
-use crate::queue::{LIMIT, MOST_LEVELS, MOST_NODES, MOST_PROCESSORS};
+use crate::queue::{MAX_LEVELS, MAX_NODES, MAX_NUMBER, MAX_PROCESSORS};
 use crate::random::Random;
 
 /// The sizes of a queue.
@@ -44,15 +44,15 @@ impl Sizes {
     pub fn large(random: &mut Random) -> Sizes {
         if random.one_in(4) {
             return Sizes {
-                processors: MOST_PROCESSORS as u64,
-                nodes: MOST_NODES as u64,
-                levels: MOST_LEVELS as u64,
+                processors: MAX_PROCESSORS as u64,
+                nodes: MAX_NODES as u64,
+                levels: MAX_LEVELS as u64,
             };
         }
         Sizes {
-            processors: random.between(1, MOST_PROCESSORS as u64),
-            nodes: random.between(13, MOST_NODES as u64),
-            levels: random.between(1, MOST_LEVELS as u64),
+            processors: random.between(1, MAX_PROCESSORS as u64),
+            nodes: random.between(13, MAX_NODES as u64),
+            levels: random.between(1, MAX_LEVELS as u64),
         }
     }
 }
@@ -79,9 +79,9 @@ pub struct Schedule {
     /// Calls in vain since the last release.
     in_vain: u64,
     /// Until which call each processor is held back.
-    held_until: [u64; MOST_PROCESSORS],
+    held_until: [u64; MAX_PROCESSORS],
     /// Which processors are in an operation.
-    busy: [bool; MOST_PROCESSORS],
+    busy: [bool; MAX_PROCESSORS],
 }
 
 impl Schedule {
@@ -89,7 +89,7 @@ impl Schedule {
     /// give equal schedules.
     pub fn new(seed: u64, sizes: Sizes) -> Schedule {
         let mut random = Random::new(seed);
-        let dues = random.among(&[1, 2, 3, 3, 8, u64::from(LIMIT) + 1]);
+        let dues = random.among(&[1, 2, 3, 3, 8, u64::from(MAX_NUMBER) + 1]);
         let bad_once_in = random.among(&[10, 30, 100]);
         let hold_once_in = random.among(&[10, 40, 200, 1000]);
         let patience = random.among(&[3, 10, 30, 100, 1000]);
@@ -104,8 +104,8 @@ impl Schedule {
             burst: (0, 0),
             patience,
             in_vain: 0,
-            held_until: [0; MOST_PROCESSORS],
-            busy: [false; MOST_PROCESSORS],
+            held_until: [0; MAX_PROCESSORS],
+            busy: [false; MAX_PROCESSORS],
         }
     }
 
@@ -169,7 +169,7 @@ impl Schedule {
         }
         if self.in_vain > self.patience {
             self.in_vain = 0;
-            self.held_until = [0; MOST_PROCESSORS];
+            self.held_until = [0; MAX_PROCESSORS];
         }
     }
 
@@ -189,7 +189,7 @@ impl Schedule {
             .filter(|&p| self.held_until[p as usize] < self.made)
             .collect();
         if ready.is_empty() {
-            self.held_until = [0; MOST_PROCESSORS];
+            self.held_until = [0; MAX_PROCESSORS];
             return self.random.below(self.sizes.processors);
         }
         let processor = self.random.among(&ready);
@@ -231,7 +231,7 @@ impl Schedule {
         let far = [sizes.processors, 16, 17, 255, 256, 1_000_000, 1 << 32];
         let stranger = self.random.among(&far).max(sizes.processors);
         let processor = self.random.below(sizes.processors);
-        let above = u64::from(LIMIT) + 1;
+        let above = u64::from(MAX_NUMBER) + 1;
         let too_much = self.random.among(&[above, above + 1, 1 << 32]);
         let item = self.random.among(&[0, 1, 1, 1]);
         match self.random.below(11) {

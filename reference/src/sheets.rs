@@ -2,7 +2,7 @@
 //! the sheet; the number alone determines its kind, so that every kind comes
 //! in each hundred sheets.
 
-use crate::queue::LIMIT;
+use crate::queue::MAX_NUMBER;
 use crate::random::Random;
 use crate::schedule::Sizes;
 
@@ -205,7 +205,7 @@ fn begin_line(random: &mut Random, sizes: Sizes) -> Vec<u8> {
     if random.below(100) < 40 {
         return line(b'D', [processor, 0, 0, 0]);
     }
-    let limit = u64::from(LIMIT);
+    let limit = u64::from(MAX_NUMBER);
     let mut due = random.among(&[0, 1, 2, 2, 7, limit - 1, limit]);
     let mut item = random.between(1, limit);
     let mut height = random.between(1, sizes.levels);

@@ -78,7 +78,7 @@ impl Queue {
             }
             Stage::L8Retire => {
                 let now = self.clock;
-                self.own_node(p).usage = Use::Retired(now);
+                self.own_node(p).state = Use::Retired(now);
                 let entry = self.entry(self.own(p));
                 self.finish(p, Answer::HandedOut(entry))
             }
@@ -215,7 +215,7 @@ impl Queue {
 
     /// Takes a free lock; a held one is left alone and the answer is false.
     fn take_lock(&mut self, p: usize, node: u8, level: u8) -> bool {
-        let lock = &mut self.nodes[node as usize].locks[slot(level)];
+        let lock = &mut self.nodes[node as usize].level_locks[slot(level)];
         if *lock != FREE {
             return false;
         }
@@ -224,7 +224,7 @@ impl Queue {
     }
 
     fn free_lock(&mut self, node: u8, level: u8) {
-        self.nodes[node as usize].locks[slot(level)] = FREE;
+        self.nodes[node as usize].level_locks[slot(level)] = FREE;
     }
 
     fn own(&self, p: usize) -> u8 {

@@ -4,7 +4,7 @@
 use darthog_reference::answer::{Answer, Entry};
 use darthog_reference::any_record::{any_record, slots_past};
 use darthog_reference::calls::{Call, Outcome};
-use darthog_reference::queue::{Queue, Stage, LIMIT};
+use darthog_reference::queue::{Queue, Stage, MAX_NUMBER};
 use darthog_reference::random::Random;
 use std::collections::HashMap;
 use std::mem::{discriminant, Discriminant};
@@ -117,7 +117,7 @@ fn the_walk_reads_level_1_whatever_its_place_says() {
         let Stage::W1Read(mut place) = queue.processors[0].stage else {
             continue;
         };
-        if queue.clock == LIMIT {
+        if queue.clock == MAX_NUMBER {
             continue;
         }
         let mut first = queue.clone();

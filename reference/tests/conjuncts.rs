@@ -101,7 +101,7 @@ fn broken_by(state: &State, change: impl Fn(&mut State)) -> Vec<&'static str> {
 fn nodes_broken_one_conjunct_at_a_time() {
     let state = settled();
     let clock = state.queue.clock;
-    let Use::Retired(retired) = state.queue.nodes[1].usage else {
+    let Use::Retired(retired) = state.queue.nodes[1].state else {
         panic!("node 1 is retired");
     };
     assert_eq!(
@@ -153,7 +153,7 @@ fn nodes_broken_one_conjunct_at_a_time() {
 fn locks_broken_one_conjunct_at_a_time() {
     let state = settled();
     assert_eq!(
-        broken_by(&state, |s| s.queue.nodes[0].locks[1] = 1),
+        broken_by(&state, |s| s.queue.nodes[0].level_locks[1] = 1),
         ["LevelLockHeld"]
     );
     assert_eq!(
@@ -165,7 +165,7 @@ fn locks_broken_one_conjunct_at_a_time() {
     insert.begin_insert(0, 5, 1);
     insert.step_to(0, |stage| matches!(stage, Stage::G3Reread(..)));
     assert_eq!(
-        broken_by(&insert, |s| s.queue.nodes[0].locks[0] = 0),
+        broken_by(&insert, |s| s.queue.nodes[0].level_locks[0] = 0),
         ["HoldsPlace"]
     );
     insert.step_to(0, |stage| *stage == Stage::I4UnlockNode);
@@ -178,7 +178,7 @@ fn locks_broken_one_conjunct_at_a_time() {
     delete.call(Call::DeleteMin { processor: 0 });
     delete.step_to(0, |stage| matches!(stage, Stage::L4PointBack(_)));
     assert_eq!(
-        broken_by(&delete, |s| s.queue.nodes[2].locks[0] = 0),
+        broken_by(&delete, |s| s.queue.nodes[2].level_locks[0] = 0),
         ["HoldsOwn"]
     );
 }

@@ -33,14 +33,14 @@ fn change_something(random: &mut Random, state: &mut State) {
     let processor = &mut queue.processors[random.below(processors) as usize];
     match random.below(17) {
         0 => node.forward[i] = any_node,
-        1 => node.locks[i] = random.between(0, processors) as u8,
+        1 => node.level_locks[i] = random.between(0, processors) as u8,
         2 => node.node_lock = random.between(0, processors) as u8,
         3 => node.mark = !node.mark,
         4 => node.stamp = random.among(&[None, Some(time)]),
         5 => node.due = random.below(3) as u32,
         6 => node.ticket = time,
         7 => node.height = random.between(1, levels) as u8,
-        8 => node.usage = random.among(&[Use::Never, Use::InUse, Use::Retired(time)]),
+        8 => node.state = random.among(&[Use::Never, Use::InUse, Use::Retired(time)]),
         9 => processor.begin = time,
         10 => processor.own = random.among(&[any_node, other.own]),
         11 => processor.saved[i] = any_node,

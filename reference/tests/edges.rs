@@ -53,9 +53,9 @@ fn run_1_a_fresh_queue_is_as_described() {
     assert_eq!((queue.clock, queue.backlog()), (0, Ok(0)));
     for node in &queue.nodes {
         assert_eq!(node.forward, [4; 8]);
-        assert_eq!((node.locks, node.node_lock), ([0; 8], 0));
+        assert_eq!((node.level_locks, node.node_lock), ([0; 8], 0));
         assert_eq!(
-            (node.mark, node.stamp, node.usage),
+            (node.mark, node.stamp, node.state),
             (false, None, Use::Never)
         );
         assert_eq!(
@@ -108,13 +108,13 @@ fn run_3_the_node_is_given_out_again_after_its_retirement() {
     assert_eq!(queue.clock, 14);
     assert_eq!(steps(&mut queue, 0, 12), Answer::HandedOut(ENTRY));
     assert_eq!((queue.clock, queue.backlog()), (26, Ok(0)));
-    assert_eq!(queue.nodes[1].usage, Use::Retired(26));
+    assert_eq!(queue.nodes[1].state, Use::Retired(26));
     assert_eq!(queue.begin_delete_min(0), Ok(27));
     assert_eq!(steps(&mut queue, 0, 1), Answer::Empty);
     assert_eq!(queue.clock, 28);
     assert_eq!(queue.begin_insert(0, 8, 43, 1), Ok(29));
     assert_eq!(queue.processors[0].own, 1);
-    assert_eq!((queue.nodes[1].usage, queue.backlog()), (Use::InUse, Ok(0)));
+    assert_eq!((queue.nodes[1].state, queue.backlog()), (Use::InUse, Ok(0)));
 }
 
 #[test]
@@ -185,7 +185,7 @@ fn the_longest_retired_node_is_taken_and_the_lowest_on_a_tie() {
     let mut queue = fresh(2, 4, 1).unwrap();
     queue.clock = 50;
     for (number, time) in [(1, 30), (2, 20), (3, 20), (4, 40)] {
-        queue.nodes[number].usage = Use::Retired(time);
+        queue.nodes[number].state = Use::Retired(time);
     }
     let mut waiting = queue.clone();
     assert_eq!(queue.begin_insert(0, 0, 1, 1), Ok(51));
@@ -201,7 +201,7 @@ fn the_longest_retired_node_is_taken_and_the_lowest_on_a_tie() {
     assert_eq!(waiting.begin_insert(0, 0, 1, 1), Ok(52));
 
     // A never-used node comes first.
-    waiting.nodes[4].usage = Use::Never;
+    waiting.nodes[4].state = Use::Never;
     waiting.processors[1] = waiting.processors[2];
     waiting.begin_insert(1, 0, 1, 1).unwrap();
     assert_eq!(waiting.processors[1].own, 4);

@@ -125,7 +125,7 @@ fn the_numbers_stand_where_the_layout_has_them() {
     queue.nodes[3].due = 0x0001_0203;
     queue.nodes[3].mark = true;
     queue.nodes[3].stamp = Some(7);
-    queue.nodes[3].usage = Use::Retired(9);
+    queue.nodes[3].state = Use::Retired(9);
     queue.processors[1].begin = 5;
     queue.processors[1].own = 3;
     queue.processors[1].saved[7] = 6;

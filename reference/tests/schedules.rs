@@ -3,7 +3,7 @@
 //! single call, on the large sizes too. The two tests together make 5,000,000
 //! calls and more.
 
-use darthog_reference::queue::LIMIT;
+use darthog_reference::queue::MAX_NUMBER;
 use darthog_reference::random::Random;
 use darthog_reference::schedule::Sizes;
 use darthog_reference::tally::Tally;
@@ -87,12 +87,12 @@ fn long_runs_reach_the_end_of_the_clock() {
             levels: seed - 2,
         };
         let mut trial = Trial::new(fresh_of(sizes), seed, sizes);
-        while trial.machine.clock < LIMIT - 100 {
+        while trial.machine.clock < MAX_NUMBER - 100 {
             trial.play(100, 1).expect("the run agrees");
         }
         trial.play(400, 1).expect("the run agrees at the end");
-        assert_eq!(trial.machine.clock, LIMIT);
-        assert_eq!(trial.book.count, LIMIT);
+        assert_eq!(trial.machine.clock, MAX_NUMBER);
+        assert_eq!(trial.book.count, MAX_NUMBER);
         let tally = &trial.tally;
         eprintln!("{tally:?}");
         assert_eq!(tally.invariant, tally.calls);

@@ -1,4 +1,4 @@
-//! A run of a sheet by the proved function of crates/sheetentry, and by the
+//! A run of a sheet by the proved function of crates/host_sheet, and by the
 //! reference.
 
 use darthog_reference::sheet::run;

@@ -9,7 +9,7 @@ use Rattle.record.specs.declared.queues.Queue.{Queue}
 use Rattle.rules.specs.declared.answers.Answer.{Answer}
 use Rattle.rules.specs.declared.calls.Call.the-variants as call
 use Rattle.rules.specs.Calls.{calledValid}
-use Rattle.rules.specs.Runs.{steps}
+use Rattle.rules.specs.Runs.{stepBy}
 use Rattle.image.specs.Image.{imageOf, queueIn, passesOf, Sound}
 use Rattle.image_parts.specs.Given.{Stepped}
 use Rattle.image_parts.proofs.Sounds.{queue-after, call-is}
@@ -29,7 +29,7 @@ pub one-stepped :
     queueIn b ≡ steppedTo q l i → Stepped b (getD l i 0) c r → queueIn c ≡ steppedTo q l (i + 1)
 one-stepped q l i b c r s h g =
     let p = getD l i 0 in
-    queue-after b s (steps p) (calledValid (queueIn b) (call.Step p)) (call-is b s (call.Step p)) c r g
+    queue-after b s (stepBy p) (calledValid (queueIn b) (call.Step p)) (call-is b s (call.Step p)) c r g
     ∙ ap (λ (u : Queue). calledValid u (call.Step p) .queue) h
     ∙ sym (step-more q l i)
 

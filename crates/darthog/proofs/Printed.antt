@@ -8,15 +8,15 @@ use native.Mathlib.Omega.{arith}
 use lib.Dec.{ltb, leb, eqb}
 use lib.ListN.{length, drop, length-append}
 use Rattle.laws.proofs.Booleans.{cond-elim, cond-cases}
-use Rattle.checks.specs.Making.{made}
+use Rattle.record_check.specs.Making.{made}
 use Rattle.record.specs.Report.{Report}
-use Rattle.sheet.specs.declared.events.Ran.{Ran}
-use Rattle.sheet.specs.declared.events.Ran.the-variants as ran
-use Rattle.sheet.specs.Lines.{lineOf, partAt, lineInForm, lineCount}
-use Rattle.sheet.specs.Lines.{rightLetter, firstFailing, firstOutOfForm, firstMisplaced}
-use Rattle.sheet.specs.Program.{refusalText, printedOf, printed}
-use Rattle.sheet.specs.Sheets.{history, historyOf, ranOf, ranSheet, written, areaAfter}
-use Rattle.sheet.proofs.Reports.{refused-ran}
+use Rattle.sheet_format.specs.declared.events.SheetOutcome.{SheetOutcome}
+use Rattle.sheet_format.specs.declared.events.SheetOutcome.the-variants as ran
+use Rattle.sheet_format.specs.Lines.{lineOf, partAt, lineInForm, lineCount}
+use Rattle.sheet_format.specs.Lines.{rightLetter, firstFailing, firstOutOfForm, firstMisplaced}
+use Rattle.sheet_format.specs.Program.{refusalText, printedOf, textOf}
+use Rattle.sheet_format.specs.Sheets.{history, historyOf, ranOf, ranSheet, areaWritten, areaAfter}
+use Rattle.sheet_format.proofs.Reports.{refused-ran}
 
 -- a line that is told is a line of the sheet
 failing-within : (f : ℕ → Bool) (n : ℕ) → firstFailing f n ≤ n
@@ -43,7 +43,7 @@ module _ (s : List ℕ) (short : length s ≤ 65536) where
       cond-elim (λ (x : ℕ). x ≤ 2185) (eqb (lineCount s) 0) 1 k (omega arith) (omega (arith, h, lines-few))
 
   -- the line is low, or the length is the history's
-  abbrev Told : Ran → Type 0
+  abbrev Told : SheetOutcome → Type 0
   Told (ran.Refused n line) = line ≤ 2185
   Told (ran.Length n) = n ≡ length (historyOf s (lineOf (partAt s 1)))
 
@@ -61,21 +61,21 @@ module _ (s : List ℕ) (short : length s ≤ 65536) where
       (λ t. subst Told (refused-ran (m .refusal) 1 t) (omega arith))))
 
 -- a sheet that ran in an area of 64 KiB: the outcome, and the area after
-pub record Run (s area after : List ℕ) (r : Ran) : Type 0 where
+pub record Run (s area after : List ℕ) (r : SheetOutcome) : Type 0 where
   pub short : length s ≤ 65536
   pub size : length area ≡ 65536
   pub outcome : r ≡ ranSheet s (length area)
   pub written : after ≡ areaAfter s area
 
-module _ (s area after : List ℕ) (r : Ran) (run : Run s area after r) where
+module _ (s area after : List ℕ) (r : SheetOutcome) (run : Run s area after r) where
   abbrev history-is : List ℕ
   history-is = historyOf s (lineOf (partAt s 1))
 
-  prints : printedOf history-is r ≡ printed s
+  prints : printedOf history-is r ≡ textOf s
   prints = ap (printedOf history-is) (run .outcome ∙ ap (ranSheet s) (run .size))
 
-  after-run : after ≡ written history-is area r
-  after-run = run .written ∙ ap (written history-is area) (sym (run .outcome))
+  after-run : after ≡ areaWritten history-is area r
+  after-run = run .written ∙ ap (areaWritten history-is area) (sym (run .outcome))
 
   told : Told s (run .short) r
   told = subst (Told s (run .short)) (sym (run .outcome)) (ran-told s (run .short) (length area))
@@ -83,27 +83,27 @@ module _ (s area after : List ℕ) (r : Ran) (run : Run s area after r) where
   module _ (n line : ℕ) (e : r ≡ ran.Refused n line) where
     -- a refusal leaves the area as it was
     pub area-kept : after ≡ area
-    area-kept = after-run ∙ ap (written history-is area) e
+    area-kept = after-run ∙ ap (areaWritten history-is area) e
 
-    pub refusal-printed : refusalText n line ≡ printed s
+    pub refusal-printed : refusalText n line ≡ textOf s
     refusal-printed = sym (ap (printedOf history-is) e) ∙ prints
 
     pub line-low : line ≤ 2185
     line-low = subst (Told s (run .short)) e told
 
   module _ (n : ℕ) (e : r ≡ ran.Length n) where
-    history-printed : history-is ≡ printed s
+    history-printed : history-is ≡ textOf s
     history-printed = sym (ap (printedOf history-is) e) ∙ prints
 
-    pub history-length : n ≡ length (printed s)
+    pub history-length : n ≡ length (textOf s)
     history-length = subst (Told s (run .short)) e told ∙ ap length history-printed
 
-    pub history-written : after ≡ printed s ++ drop (length (printed s)) area
+    pub history-written : after ≡ textOf s ++ drop (length (textOf s)) area
     history-written =
         after-run
-        ∙ ap (written history-is area) e
+        ∙ ap (areaWritten history-is area) e
         ∙ ap (λ (x : List ℕ). x ++ drop n area) history-printed
-        ∙ ap (λ (k : ℕ). printed s ++ drop k area) history-length
+        ∙ ap (λ (k : ℕ). textOf s ++ drop k area) history-length
 
 -- what is printed lies within the area
 pub printed-within :

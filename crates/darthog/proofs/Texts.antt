@@ -10,11 +10,11 @@ use lib.ListN.{length, take, drop, getD, set, length-append, length-drop}
 use lib.Seq.{sets, sets-eq, take-all, drop-cons, drop-length}
 use borrow.Author.Tests.{eq-eqb, ne-eqb}
 use Rattle.laws.proofs.Booleans.{cond-elim}
-use Rattle.sheet.specs.Columns.{columns, trimmed, decimal}
-use Rattle.sheet.specs.Letters.{space}
-use Rattle.sheet.specs.Program.{refusalText}
-use Rattle.sheet.proofs.Padding.{length-columns}
-use Rattle.sheet.proofs.Stores.{sets-append}
+use Rattle.sheet_format.specs.Columns.{columns, trimmed, decimal}
+use Rattle.sheet_format.specs.Letters.{space}
+use Rattle.sheet_format.specs.Program.{refusalText}
+use Rattle.sheet_format.proofs.Padding.{length-columns}
+use Rattle.sheet_format.proofs.Stores.{sets-append}
 
 -- nothing is left at the end
 pub none-left : (s : List ℕ) (k : ℕ) → k ≡ length s → drop k s ≡ []

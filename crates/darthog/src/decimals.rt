@@ -3,9 +3,9 @@ ghost use mathlib.Core.Path.{_≡_};
 ghost use Prim.Native.Nat.{_+_, _≤_};
 ghost use lib.ListN.{length, drop};
 ghost use lib.Seq.{sets};
-ghost use Rattle.sheet.specs.Columns.{trimmed, decimal};
-use sheet::columns::columns_of;
-use sheet::letters::SPACE;
+ghost use Rattle.sheet_format.specs.Columns.{trimmed, decimal};
+use sheet_format::columns::columns_of;
+use sheet_format::letters::SPACE;
 
 // How many spaces there are before the first byte that is none.
 fn spaces_before(columns: &[u8]) -> usize

@@ -2,13 +2,13 @@
 ghost use mathlib.Core.Path.{_≡_};
 ghost use Prim.Native.Nat.{_≤_};
 ghost use lib.ListN.{length};
-ghost use Rattle.sheet.specs.Program.{refusalText, printed, programPrints};
-ghost use Rattle.sheet.specs.Sheets.{atFront};
+ghost use Rattle.sheet_format.specs.Program.{refusalText, textOf, programPrints};
+ghost use Rattle.sheet_format.specs.Sheets.{atFront};
 use crate::decimals::decimal_into;
-use sheet::Ran;
-use sheet::letters::LINE_FEED;
-use sheet::letters::SPACE;
-use sheets::run_sheet;
+use sheet_format::SheetOutcome;
+use sheet_format::letters::LINE_FEED;
+use sheet_format::letters::SPACE;
+use sheet_run::run_sheet;
 
 // What of a sheet is taken, and what is lent for its history.
 const LENT: usize = 65536;
@@ -30,13 +30,13 @@ fn print_refusal(area: &mut [u8], number: u32, line: u32) -> usize
 // What is printed for a sheet that is taken whole.
 fn print_sheet(sheet: &[u8], area: &mut [u8]) -> usize
     requires { ⌜ (length (now sheet) ≤ 65536) × (length (now area) ≡ 65536) ⌝ }
-    ensures { λ r. ⌜ r ≡ length (printed (now (sheet .entry))) ⌝ }
+    ensures { λ r. ⌜ r ≡ length (textOf (now (sheet .entry))) ⌝ }
     ensures { λ _.
-        ⌜ now (area .exit) ≡ atFront (printed (now (sheet .entry))) (now (area .entry)) ⌝ }
+        ⌜ now (area .exit) ≡ atFront (textOf (now (sheet .entry))) (now (area .entry)) ⌝ }
 {
     match run_sheet(sheet, area) {
-        Ran::Refused(number, line) => print_refusal(area, number as u32, line as u32),
-        Ran::Length(bytes) => bytes,
+        SheetOutcome::Refused(number, line) => print_refusal(area, number as u32, line as u32),
+        SheetOutcome::Length(bytes) => bytes,
     }
 }
 

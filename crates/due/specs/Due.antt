@@ -34,8 +34,8 @@ nearestMinute s =
     (cond (ltb 30 (s % 60)) (s / 60 + 1)
     (s / 60 + s / 60 % 2))
 
-abbrev pub minutesOf : ℕ → Minutes
-minutesOf s = cond (ltb maxSeconds s) (minutes.Refused 35) (minutes.Due (nearestMinute s))
+abbrev pub dueFromSeconds : ℕ → Minutes
+dueFromSeconds s = cond (ltb maxSeconds s) (minutes.Refused 35) (minutes.Due (nearestMinute s))
 
 -- what an answer says of the seconds
 abbrev pub Meant : ℕ → Minutes → Type 0

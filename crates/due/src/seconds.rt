@@ -1,7 +1,8 @@
 // A due minute from a count of seconds.
 ghost use mathlib.Core.Path.{_≡_};
 ghost use Prim.Native.Nat.{ℕ, _+_, _≤_, _<_};
-ghost use Rattle.due.specs.Due.{Nearest, nearestMinute, minutesOf, Meant, reportedMinutes};
+ghost use Rattle.due.specs.Due.{Nearest, nearestMinute, dueFromSeconds, Meant};
+ghost use Rattle.due.specs.Due.{reportedMinutes};
 
 // A count of seconds that becomes a due minute is at most this (02, W8): `maxSeconds` of
 // specs/Due.antt.
@@ -29,9 +30,9 @@ fn nearest_minute(seconds: u64) -> u64
 // The minute nearest to a count of seconds, half a minute to the even one; 35 above 59,999,969
 // seconds.
 pub fn due_from_seconds(seconds: u64) -> Minutes
-    ensures { λ r. ⌜ r ≡ minutesOf seconds ⌝ }
+    ensures { λ r. ⌜ r ≡ dueFromSeconds seconds ⌝ }
     ensures nearest { λ r. ⌜ Meant seconds r ⌝ }
-    ensures numbers { λ r. ⌜ reportedMinutes r ≡ reportedMinutes (minutesOf seconds) ⌝ }
+    ensures numbers { λ r. ⌜ reportedMinutes r ≡ reportedMinutes (dueFromSeconds seconds) ⌝ }
 {
     if SECONDS < seconds {
         return Minutes::Refused(35);

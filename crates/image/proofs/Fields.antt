@@ -18,7 +18,7 @@ use Rattle.image.specs.Numbers.{number32}
 use Rattle.image.specs.Pieces.{readNode, readProcessor}
 use Rattle.image.proofs.Parts.{getD-listed}
 use Rattle.image.specs.Puts.{piece}
-use Rattle.image.specs.Image.{startOf, callerPart, nodePart, callerIn, nodeIn, queueIn}
+use Rattle.image.specs.Image.{startOf, processorPart, nodePart, processorIn, nodeIn, queueIn}
 
 abbrev pub number : (ℕ → ℕ) → ℕ → ℕ
 number f j = f j + 256 * f (j + 1) + 65536 * f (j + 2) + 16777216 * f (j + 3)
@@ -30,8 +30,8 @@ eightFrom f j =
 abbrev pub nodeFrom : (ℕ → ℕ) → Node
 nodeFrom f = record {
   forward = eightFrom f 0;
-  locks = eightFrom f 8;
-  lock = f 16;
+  levelLocks = eightFrom f 8;
+  nodeLock = f 16;
   mark = eqb (f 17) 1;
   stamp = stampOf (timed (f 18) (number f 19));
   due = number f 23;
@@ -41,8 +41,8 @@ nodeFrom f = record {
   state = useOf (timed (f 36) (number f 37));
 }
 
-abbrev pub callerFrom : (ℕ → ℕ) → Processor
-callerFrom f =
+abbrev pub processorFrom : (ℕ → ℕ) → Processor
+processorFrom f =
     record {
       begin = number f 0;
       own = f 4;
@@ -68,9 +68,9 @@ read-node : (b : List ℕ) → readNode b .node ≡ nodeFrom (λ (j : ℕ). getD
 unfolding readNode
 read-node b = refl
 
-read-caller : (b : List ℕ) → readProcessor b .processor ≡ callerFrom (λ (j : ℕ). getD b j 0)
+read-processor : (b : List ℕ) → readProcessor b .processor ≡ processorFrom (λ (j : ℕ). getD b j 0)
 unfolding readProcessor
-read-caller b = refl
+read-processor b = refl
 
 module _ (b : List ℕ) where
   pub node-at : (x : ℕ) → getD b 1 0 ≤ 200 → x < getD b 1 0 + 2 → nodeAt (queueIn b) x
@@ -79,11 +79,11 @@ module _ (b : List ℕ) where
   node-at x n h =
       getD-listed (nodeIn b) nodeSlots x (freshNode 0) (omega arith) ∙ rw (lt-ltb _ _ h) refl
 
-  pub caller-at : (p : ℕ) → getD b 0 0 ≤ 16 → p < getD b 0 0 → processorAt (queueIn b) p
-      ≡ readProcessor (callerPart b p) .processor
+  pub processor-at : (p : ℕ) → getD b 0 0 ≤ 16 → p < getD b 0 0 → processorAt (queueIn b) p
+      ≡ readProcessor (processorPart b p) .processor
   unfolding queueIn
-  caller-at p n h =
-      getD-listed (callerIn b) maxProcessors p freshProcessor (omega arith) ∙ rw (lt-ltb _ _ h) refl
+  processor-at p n h =
+      getD-listed (processorIn b) maxProcessors p freshProcessor (omega arith) ∙ rw (lt-ltb _ _ h) refl
 
   -- base is where the nodes start
   pub node-is : (base : ℕ) → base ≡ startOf b → getD b 1 0 ≤ 200 → (x : ℕ) → x < getD b 1 0 + 2 →
@@ -92,10 +92,10 @@ module _ (b : List ℕ) where
       node-at x n h ∙ read-node (nodePart b x) ∙ ap nodeFrom (part-bytes b 41 (startOf b + 41 * x))
       ∙ ap (λ (o : ℕ). nodeFrom (piece b (o + 41 * x))) (sym start)
 
-  pub caller-is : (p : ℕ) → getD b 0 0 ≤ 16 → p < getD b 0 0 → processorAt (queueIn b) p
-      ≡ callerFrom (piece b (7 + 17 * p))
-  caller-is p n h =
-      caller-at p n h ∙ read-caller (callerPart b p) ∙ ap callerFrom (part-bytes b 17 (7 + 17 * p))
+  pub processor-is : (p : ℕ) → getD b 0 0 ≤ 16 → p < getD b 0 0 → processorAt (queueIn b) p
+      ≡ processorFrom (piece b (7 + 17 * p))
+  processor-is p n h =
+      processor-at p n h ∙ read-processor (processorPart b p) ∙ ap processorFrom (part-bytes b 17 (7 + 17 * p))
 
 -- one of eight bytes
 pub eight-at : (f : ℕ → ℕ) (j k : ℕ) → k < 8 → getD (eightFrom f j) k 0 ≡ f (j + k)

@@ -16,7 +16,7 @@ use Rattle.record.specs.Queues.{freshProcessor, nodeAt, processorAt}
 use Rattle.image.specs.Lists.{allBelow}
 use Rattle.image.specs.Numbers.{number32}
 use Rattle.image.specs.Pieces.{nodeImage, readNode, processorImage, readProcessor}
-use Rattle.image.specs.Image.{headerImage, nodesImage, callersImage}
+use Rattle.image.specs.Image.{headerImage, nodesImage, processorsImage}
 use Rattle.image.specs.OneToOne.{Sized, Trim, Bytes, WrittenIsRead, ReadIsWritten, SameImage}
 use Rattle.image.proofs.Bytes.{number-back, four-back, from-part}
 use Rattle.image.proofs.Lengths.{length-node, length-processor, headed, length-front}
@@ -24,42 +24,42 @@ use Rattle.image.proofs.Lengths.{length-image}
 use Rattle.image.proofs.Parts.{joined-part, joined-parts, joined-same, listed-same}
 use Rattle.image.proofs.Parts.{getD-listed, listed-whole, all-at, all-of}
 use Rattle.image.proofs.Sides.{node-back, processor-back, node-kept, processor-kept}
-use Rattle.image.specs.Image.{imageOf, lengthOf, startOf, callerPart, nodePart, callerIn}
+use Rattle.image.specs.Image.{imageOf, lengthOf, startOf, processorPart, nodePart, processorIn}
 use Rattle.image.specs.Image.{nodeIn, queueIn, hasRoom, fits, isImage}
-use Rattle.image.proofs.Fields.{node-at, caller-at}
+use Rattle.image.proofs.Fields.{node-at, processor-at}
 use Rattle.image.proofs.Sizes.{sized-in}
 
 -- the parts of an image
 module _ (q : Queue) where
-  pub caller-part : (p : ℕ) → p < q .processors → callerPart (imageOf q) p
+  pub processor-part : (p : ℕ) → p < q .processorCount → processorPart (imageOf q) p
       ≡ processorImage (processorAt q p)
-  caller-part p h =
+  processor-part p h =
       rw (sym (drop-drop (17 * p) 7 (imageOf q)))
       (joined-part (λ k. processorImage (processorAt q k)) 17
-      (λ k. length-processor (processorAt q k)) (q .processors) p
-      (nodesImage q (q .entries + 2)) h)
+      (λ k. length-processor (processorAt q k)) (q .processorCount) p
+      (nodesImage q (q .nodeCount + 2)) h)
 
-  node-part : (x : ℕ) → x < q .entries + 2 → nodePart (imageOf q) x ≡ nodeImage (nodeAt q x)
+  node-part : (x : ℕ) → x < q .nodeCount + 2 → nodePart (imageOf q) x ≡ nodeImage (nodeAt q x)
   node-part x h =
-      let cut : drop (7 + 17 * q .processors) (imageOf q) ≡ nodesImage q (q .entries + 2) ++ [] =
-      drop-at (headed q ++ callersImage q (q .processors)) (nodesImage q (q .entries + 2))
-      (7 + 17 * q .processors) (length-front q)
-      ∙ sym (append-nil (nodesImage q (q .entries + 2))) in
-      rw (sym (drop-drop (41 * x) (7 + 17 * q .processors) (imageOf q)), cut)
+      let cut : drop (7 + 17 * q .processorCount) (imageOf q) ≡ nodesImage q (q .nodeCount + 2) ++ [] =
+      drop-at (headed q ++ processorsImage q (q .processorCount)) (nodesImage q (q .nodeCount + 2))
+      (7 + 17 * q .processorCount) (length-front q)
+      ∙ sym (append-nil (nodesImage q (q .nodeCount + 2))) in
+      rw (sym (drop-drop (41 * x) (7 + 17 * q .processorCount) (imageOf q)), cut)
       (joined-part (λ k. nodeImage (nodeAt q k)) 41 (λ k. length-node (nodeAt q k))
-      (q .entries + 2) x [] h)
+      (q .nodeCount + 2) x [] h)
 
   module _ (s : Sized q) (t : Trim q) where
-    caller-read : (p : ℕ) → p < q .processors →
-        (readProcessor (callerPart (imageOf q) p) .processor ≡ processorAt q p) ×
-        (readProcessor (callerPart (imageOf q) p) .ok ≡ true)
-    caller-read p h =
-        let e = caller-part p h in
+    processor-read : (p : ℕ) → p < q .processorCount →
+        (readProcessor (processorPart (imageOf q) p) .processor ≡ processorAt q p) ×
+        (readProcessor (processorPart (imageOf q) p) .ok ≡ true)
+    processor-read p h =
+        let e = processor-part p h in
         let f = processor-back (processorAt q p)
         (s .saved-long p (omega (arith, t .processors-high))) in
         (rw (e, f) refl, rw (e, f) refl)
 
-    node-read : (x : ℕ) → x < q .entries + 2 →
+    node-read : (x : ℕ) → x < q .nodeCount + 2 →
         (readNode (nodePart (imageOf q) x) .node ≡ nodeAt q x) ×
         (readNode (nodePart (imageOf q) x) .ok ≡ true)
     node-read x h =
@@ -68,23 +68,23 @@ module _ (q : Queue) where
         let f = node-back (nodeAt q x) (s .forward-long x l) (s .locks-long x l) in
         (rw (e, f) refl, rw (e, f) refl)
 
-    caller-same : (p : ℕ) → p < maxProcessors → callerIn (imageOf q) p ≡ processorAt q p
-    caller-same p h = go (ltb p (q .processors)) refl
+    processor-same : (p : ℕ) → p < maxProcessors → processorIn (imageOf q) p ≡ processorAt q p
+    processor-same p h = go (ltb p (q .processorCount)) refl
       where
-        go : (u : Bool) → ltb p (q .processors) ≡ u →
-            cond u (readProcessor (callerPart (imageOf q) p) .processor) freshProcessor
+        go : (u : Bool) → ltb p (q .processorCount) ≡ u →
+            cond u (readProcessor (processorPart (imageOf q) p) .processor) freshProcessor
             ≡ processorAt q p
-        go true e = caller-read p (ltb-true _ _ e) .0
-        go false e = sym (t .callers p (ltb-false _ _ e) h)
+        go true e = processor-read p (ltb-true _ _ e) .0
+        go false e = sym (t .processors p (ltb-false _ _ e) h)
 
     node-same : (x : ℕ) → x < nodeSlots → nodeIn (imageOf q) x ≡ nodeAt q x
-    node-same x h = go (ltb x (q .entries + 2)) refl
+    node-same x h = go (ltb x (q .nodeCount + 2)) refl
       where
-        go : (u : Bool) → ltb x (q .entries + 2) ≡ u →
-            cond u (readNode (nodePart (imageOf q) x) .node) (freshNode (q .entries + 1))
+        go : (u : Bool) → ltb x (q .nodeCount + 2) ≡ u →
+            cond u (readNode (nodePart (imageOf q) x) .node) (freshNode (q .nodeCount + 1))
             ≡ nodeAt q x
         go true e = node-read x (ltb-true _ _ e) .0
-        go false e = let g : q .entries + 1 < x = omega (arith, ltb-false x (q .entries + 2) e) in
+        go false e = let g : q .nodeCount + 1 < x = omega (arith, ltb-false x (q .nodeCount + 2) e) in
             sym (t .nodes x g h)
 
     pub read-write : queueIn (imageOf q) ≡ q
@@ -92,8 +92,8 @@ module _ (q : Queue) where
     read-write =
         let n = listed-same (nodeIn (imageOf q)) (λ x. nodeAt q x) nodeSlots node-same
         ∙ listed-whole (q .nodes) nodeSlots (freshNode 0) (s .nodes-long) in
-        let c = listed-same (callerIn (imageOf q)) (λ p. processorAt q p) maxProcessors caller-same
-        ∙ listed-whole (q .callers) maxProcessors freshProcessor (s .callers-long) in
+        let c = listed-same (processorIn (imageOf q)) (λ p. processorAt q p) maxProcessors processor-same
+        ∙ listed-whole (q .processors) maxProcessors freshProcessor (s .processors-long) in
         rw (n, c, number-back (q .clock)) refl
 
     pub image-taken : isImage (imageOf q) ≡ true
@@ -101,12 +101,12 @@ module _ (q : Queue) where
     image-taken =
         and-both _ _ (and-both _ _
         (and-both _ _
-        (and-both _ _ (le-leb (q .processors) maxProcessors (t .processors-high))
-        (le-leb (q .entries + 2) nodeSlots (t .entries-high)))
+        (and-both _ _ (le-leb (q .processorCount) maxProcessors (t .processors-high))
+        (le-leb (q .nodeCount + 2) nodeSlots (t .entries-high)))
         (eq-eqb _ _ (length-image q)))
-        (all-of (λ p. readProcessor (callerPart (imageOf q) p) .ok) (q .processors)
-        (λ p h. caller-read p h .1)))
-        (all-of (λ x. readNode (nodePart (imageOf q) x) .ok) (q .entries + 2)
+        (all-of (λ p. readProcessor (processorPart (imageOf q) p) .ok) (q .processorCount)
+        (λ p h. processor-read p h .1)))
+        (all-of (λ x. readNode (nodePart (imageOf q) x) .ok) (q .nodeCount + 2)
         (λ x h. node-read x h .1))
 
 pub written-is-read : WrittenIsRead
@@ -120,13 +120,13 @@ pub record IsImage (b : List ℕ) : Type 0 where
   pub few : getD b 0 0 ≤ maxProcessors
   pub short : getD b 1 0 ≤ 200
   pub long : length b ≡ lengthOf b
-  pub called : allBelow (λ p. readProcessor (callerPart b p) .ok) (getD b 0 0) ≡ true
+  pub called : allBelow (λ p. readProcessor (processorPart b p) .ok) (getD b 0 0) ≡ true
   pub known : allBelow (λ x. readNode (nodePart b x) .ok) (getD b 1 0 + 2) ≡ true
 
 pub image-facts : (b : List ℕ) → isImage b ≡ true → IsImage b
 unfolding isImage
 image-facts b ok =
-    let called = allBelow (λ p. readProcessor (callerPart b p) .ok) (getD b 0 0) in
+    let called = allBelow (λ p. readProcessor (processorPart b p) .ok) (getD b 0 0) in
     let known = allBelow (λ x. readNode (nodePart b x) .ok) (getD b 1 0 + 2) in
     let front = and-left (fits b && called) known ok in
     let sized = and-left (fits b) called front in
@@ -158,13 +158,13 @@ part-long : (b : List ℕ) (w j : ℕ) → j + w ≤ length b → length (take w
 part-long b w j h = length-take-le w (drop j b) (rw (length-drop j b) (omega arith))
 
 module _ (b : List ℕ) (low : Bytes b) (is : IsImage b) where
-  caller-kept : (p : ℕ) → p < getD b 0 0 → processorImage (processorAt (queueIn b) p)
-      ≡ callerPart b p
-  caller-kept p h =
-      ap processorImage (caller-at b p (is .few) h)
-      ∙ processor-kept (callerPart b p) (part-low b low 17 (7 + 17 * p))
+  kept-processor : (p : ℕ) → p < getD b 0 0 → processorImage (processorAt (queueIn b) p)
+      ≡ processorPart b p
+  kept-processor p h =
+      ap processorImage (processor-at b p (is .few) h)
+      ∙ processor-kept (processorPart b p) (part-low b low 17 (7 + 17 * p))
       (part-long b 17 (7 + 17 * p) (omega (arith, is .long)))
-      (all-at (λ k. readProcessor (callerPart b k) .ok) (getD b 0 0) p (is .called) h)
+      (all-at (λ k. readProcessor (processorPart b k) .ok) (getD b 0 0) p (is .called) h)
 
   node-same-bytes : (x : ℕ) → x < getD b 1 0 + 2 → nodeImage (nodeAt (queueIn b) x) ≡ nodePart b x
   node-same-bytes x h =
@@ -181,8 +181,8 @@ module _ (b : List ℕ) (low : Bytes b) (is : IsImage b) where
   write-read : imageOf (queueIn b) ≡ b
   unfolding queueIn
   write-read =
-      let c = joined-same (λ p. processorImage (processorAt (queueIn b) p)) (callerPart b)
-      (getD b 0 0) caller-kept ∙ joined-parts b 17 7 (getD b 0 0) in
+      let c = joined-same (λ p. processorImage (processorAt (queueIn b) p)) (processorPart b)
+      (getD b 0 0) kept-processor ∙ joined-parts b 17 7 (getD b 0 0) in
       let n = joined-same (λ x. nodeImage (nodeAt (queueIn b) x)) (nodePart b) (getD b 1 0 + 2)
       node-same-bytes ∙ joined-parts b 41 (startOf b) (getD b 1 0 + 2) in
       joined-up header-same c n
@@ -203,8 +203,8 @@ trim-in b few short = record {
   entries-high = omega arith;
   nodes = λ x h l. getD-listed (nodeIn b) nodeSlots x (freshNode 0) l
       ∙ rw (le-ltb x (getD b 1 0 + 2) (omega arith)) refl;
-  callers =
-      λ p h l. getD-listed (callerIn b) maxProcessors p freshProcessor l
+  processors =
+      λ p h l. getD-listed (processorIn b) maxProcessors p freshProcessor l
       ∙ rw (le-ltb p (getD b 0 0) h) refl;
 }
 

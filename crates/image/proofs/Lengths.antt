@@ -12,7 +12,7 @@ use Rattle.image.specs.Image.{
   imageLength,
   headerImage,
   nodesImage,
-  callersImage,
+  processorsImage,
   imageOf,
 }
 use Rattle.image.proofs.Lists.{length-joined}
@@ -29,21 +29,21 @@ pub length-nodes : (q : Queue) (i : ℕ) → length (nodesImage q i) ≡ 41 * i
 length-nodes q i =
     length-joined (λ k. nodeImage (nodeAt q k)) 41 (λ k. length-node (nodeAt q k)) i
 
-pub length-callers : (q : Queue) (p : ℕ) → length (callersImage q p) ≡ 17 * p
-length-callers q p =
+pub length-processors : (q : Queue) (p : ℕ) → length (processorsImage q p) ≡ 17 * p
+length-processors q p =
     length-joined (λ k. processorImage (processorAt q k)) 17
     (λ k. length-processor (processorAt q k)) p
 
 abbrev pub headed : Queue → List ℕ
-headed q = headerImage (q .processors) (q .entries) (q .levels) (q .clock)
+headed q = headerImage (q .processorCount) (q .nodeCount) (q .levelCount) (q .clock)
 
 pub length-front :
-    (q : Queue) → length (headed q ++ callersImage q (q .processors)) ≡ 7 + 17 * q .processors
+    (q : Queue) → length (headed q ++ processorsImage q (q .processorCount)) ≡ 7 + 17 * q .processorCount
 length-front q =
-    length-append (headed q) (callersImage q (q .processors))
-    ∙ ap (λ (k : ℕ). 7 + k) (length-callers q (q .processors))
+    length-append (headed q) (processorsImage q (q .processorCount))
+    ∙ ap (λ (k : ℕ). 7 + k) (length-processors q (q .processorCount))
 
-pub length-image : (q : Queue) → length (imageOf q) ≡ imageLength (q .processors) (q .entries)
+pub length-image : (q : Queue) → length (imageOf q) ≡ imageLength (q .processorCount) (q .nodeCount)
 length-image q =
-    length-append (headed q ++ callersImage q (q .processors)) (nodesImage q (q .entries + 2))
-    ∙ rw (length-front q, length-nodes q (q .entries + 2)) refl
+    length-append (headed q ++ processorsImage q (q .processorCount)) (nodesImage q (q .nodeCount + 2))
+    ∙ rw (length-front q, length-nodes q (q .nodeCount + 2)) refl

@@ -8,7 +8,7 @@ use native.Mathlib.Omega.{arith}
 use native.Mathlib.Numerals.{add-one}
 use lib.ListN.{length, set, length-append}
 use Rattle.laws.proofs.Counting.{every-next}
-use Rattle.image.specs.Lists.{written, joined, listed, allBelow}
+use Rattle.image.specs.Lists.{storedAt, joined, listed, allBelow}
 use Rattle.image.proofs.Places.{next, written-one}
 
 module _ (f : ℕ → List ℕ) (w : ℕ) (each : (k : ℕ) → length (f k) ≡ w) where
@@ -21,9 +21,9 @@ module _ (f : ℕ → List ℕ) (w : ℕ) (each : (k : ℕ) → length (f k) ≡
   -- a loop that stores piece i where the pieces before it end, from place j on
   pub joined-next :
       (j i : ℕ) (a l m : List ℕ) →
-      m ≡ written l (j + w * i) (f i) →
-      l ≡ written a j (joined f i) →
-      m ≡ written a j (joined f (i + 1))
+      m ≡ storedAt l (j + w * i) (f i) →
+      l ≡ storedAt a j (joined f i) →
+      m ≡ storedAt a j (joined f (i + 1))
   unfolding joined
   joined-next j i a l m e h =
       rw add-one (next a j l m (w * i) (joined f i) (f i) e h (length-joined i))
@@ -36,8 +36,8 @@ module _ {A : Type 0} (f : ℕ → A) where
 
   -- a loop that stores element i
   pub listed-next :
-      (i : ℕ) (a l : List A) (v : A) → v ≡ f i → l ≡ written a 0 (listed f i) → set l i v
-      ≡ written a 0 (listed f (i + 1))
+      (i : ℕ) (a l : List A) (v : A) → v ≡ f i → l ≡ storedAt a 0 (listed f i) → set l i v
+      ≡ storedAt a 0 (listed f (i + 1))
   unfolding listed
   listed-next i a l v e h =
       let z : 0 + i ≡ i = omega arith in

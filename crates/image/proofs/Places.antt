@@ -5,7 +5,7 @@ use Prim.Native.Nat.{ℕ, suc, _+_}
 use native.Mathlib.Omega.{arith}
 use lib.ListN.{length, set, drop-of-length-le}
 use lib.Seq.{sets, sets-eq, length-sets}
-use Rattle.image.specs.Lists.{written}
+use Rattle.image.specs.Lists.{storedAt}
 
 module _ {A : Type 0} where
   -- ys stored right after xs
@@ -26,25 +26,25 @@ module _ {A : Type 0} where
   -- what stores ys at the place where xs end, after what stored xs
   pub next :
       (a : List A) (i : ℕ) (l m : List A) (k : ℕ) (xs ys : List A) →
-      m ≡ written l (i + k) ys →
-      l ≡ written a i xs →
+      m ≡ storedAt l (i + k) ys →
+      l ≡ storedAt a i xs →
       length xs ≡ k →
-      m ≡ written a i (xs ++ ys)
-  unfolding written
+      m ≡ storedAt a i (xs ++ ys)
+  unfolding storedAt
   next a i l m k xs ys e f h = e ∙ rw f refl ∙ sets-more a i k xs ys h
 
-  pub written-one : (l : List A) (i : ℕ) (v : A) → set l i v ≡ written l i (v ∷ [])
-  unfolding written
+  pub written-one : (l : List A) (i : ℕ) (v : A) → set l i v ≡ storedAt l i (v ∷ [])
+  unfolding storedAt
   written-one l i v = refl
 
-  pub written-none : (l : List A) (i : ℕ) → l ≡ written l i []
-  unfolding written
+  pub written-none : (l : List A) (i : ℕ) → l ≡ storedAt l i []
+  unfolding storedAt
   written-none l i = refl
 
-  pub length-written : (l : List A) (i : ℕ) (xs : List A) → length (written l i xs) ≡ length l
-  unfolding written
+  pub length-written : (l : List A) (i : ℕ) (xs : List A) → length (storedAt l i xs) ≡ length l
+  unfolding storedAt
   length-written l i xs = length-sets l i xs
 
-  pub written-whole : (l vs : List A) → length vs ≡ length l → written l 0 vs ≡ vs
-  unfolding written
+  pub written-whole : (l vs : List A) → length vs ≡ length l → storedAt l 0 vs ≡ vs
+  unfolding storedAt
   written-whole l vs h = sets-whole l vs h

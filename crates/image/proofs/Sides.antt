@@ -21,7 +21,7 @@ use Rattle.image.proofs.Enums.{stage-taken}
 
 -- what is read of what is written
 pub node-back :
-    (n : Node) → length (n .forward) ≡ 8 → length (n .locks) ≡ 8 → readNode (nodeImage n)
+    (n : Node) → length (n .forward) ≡ 8 → length (n .levelLocks) ≡ 8 → readNode (nodeImage n)
     ≡ record { ok = true; node = n }
 unfolding nodeImage readNode
 node-back n forward locks =
@@ -38,7 +38,7 @@ node-back n forward locks =
       use-taken (n .state),
       use-back (n .state),
       eight-back (n .forward) forward,
-      eight-back (n .locks) locks,
+      eight-back (n .levelLocks) locks,
     )
     refl
 

@@ -14,13 +14,13 @@ use Rattle.image.specs.Pieces.{readNode, readProcessor}
 use Rattle.image.proofs.Lists.{length-listed}
 use Rattle.image.proofs.Parts.{getD-listed}
 use Rattle.image.specs.OneToOne.{Sized}
-use Rattle.image.specs.Image.{callerPart, nodePart, callerIn, nodeIn, queueIn}
+use Rattle.image.specs.Image.{processorPart, nodePart, processorIn, nodeIn, queueIn}
 
 forward-read : (b : List ℕ) → length (readNode b .node .forward) ≡ 8
 unfolding readNode
 forward-read b = refl
 
-locks-read : (b : List ℕ) → length (readNode b .node .locks) ≡ 8
+locks-read : (b : List ℕ) → length (readNode b .node .levelLocks) ≡ 8
 unfolding readNode
 locks-read b = refl
 
@@ -32,18 +32,18 @@ pub sized-in : (b : List ℕ) → Sized (queueIn b)
 unfolding queueIn
 sized-in b = record {
   nodes-long = length-listed (nodeIn b) nodeSlots;
-  callers-long = length-listed (callerIn b) maxProcessors;
+  processors-long = length-listed (processorIn b) maxProcessors;
   forward-long = λ i h.
       ap (λ (n : Node). length (n .forward)) (getD-listed (nodeIn b) nodeSlots i (freshNode 0) h)
       ∙ cond-elim (λ (n : Node). length (n .forward) ≡ 8) (ltb i (getD b 1 0 + 2)) _ _
       (forward-read (nodePart b i)) refl;
   locks-long = λ i h.
-      ap (λ (n : Node). length (n .locks)) (getD-listed (nodeIn b) nodeSlots i (freshNode 0) h)
-      ∙ cond-elim (λ (n : Node). length (n .locks) ≡ 8) (ltb i (getD b 1 0 + 2)) _ _
+      ap (λ (n : Node). length (n .levelLocks)) (getD-listed (nodeIn b) nodeSlots i (freshNode 0) h)
+      ∙ cond-elim (λ (n : Node). length (n .levelLocks) ≡ 8) (ltb i (getD b 1 0 + 2)) _ _
       (locks-read (nodePart b i)) refl;
   saved-long = λ p h.
       ap (λ (c : Processor). length (c .saved))
-      (getD-listed (callerIn b) maxProcessors p freshProcessor h)
+      (getD-listed (processorIn b) maxProcessors p freshProcessor h)
       ∙ cond-elim (λ (c : Processor). length (c .saved) ≡ 8) (ltb p (getD b 0 0)) _ _
-      (saved-read (callerPart b p)) refl;
+      (saved-read (processorPart b p)) refl;
 }

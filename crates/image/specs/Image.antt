@@ -20,7 +20,7 @@ use Rattle.record.specs.declared.queues.Queue.{Queue}
 use Rattle.record.specs.Limits.{maxProcessors, nodeSlots}
 use Rattle.record.specs.Nodes.{freshNode}
 use Rattle.record.specs.Queues.{freshProcessor, nodeAt, processorAt}
-use Rattle.checks.specs.Check.{valid}
+use Rattle.record_check.specs.Check.{valid}
 use Rattle.image.specs.Lists.{joined, listed, allBelow}
 use Rattle.image.specs.Numbers.{bytesOf32, number32}
 use Rattle.image.specs.Pieces.{nodeImage, readNode, processorImage, readProcessor}
@@ -32,17 +32,17 @@ imageLength p n = 7 + 17 * p + 41 * (n + 2)
 abbrev pub headerImage : ℕ → ℕ → ℕ → ℕ → List ℕ
 headerImage p n l clock = p ∷ n ∷ l ∷ bytesOf32 clock
 
-abbrev pub callersImage : Queue → ℕ → List ℕ
-callersImage q k = joined (λ p. processorImage (processorAt q p)) k
+abbrev pub processorsImage : Queue → ℕ → List ℕ
+processorsImage q k = joined (λ p. processorImage (processorAt q p)) k
 
 abbrev pub nodesImage : Queue → ℕ → List ℕ
 nodesImage q k = joined (λ i. nodeImage (nodeAt q i)) k
 
 abbrev pub imageOf : Queue → List ℕ
 imageOf q =
-    headerImage (q .processors) (q .entries) (q .levels) (q .clock)
-    ++ callersImage q (q .processors)
-    ++ nodesImage q (q .entries + 2)
+    headerImage (q .processorCount) (q .nodeCount) (q .levelCount) (q .clock)
+    ++ processorsImage q (q .processorCount)
+    ++ nodesImage q (q .nodeCount + 2)
 
 -- how long the bytes are, and where the nodes start, by the sizes that stand in them
 abbrev pub lengthOf : List ℕ → ℕ
@@ -52,16 +52,16 @@ abbrev pub startOf : List ℕ → ℕ
 startOf b = 7 + 17 * getD b 0 0
 
 -- the bytes of processor p and of node x
-abbrev pub callerPart : List ℕ → ℕ → List ℕ
-callerPart b p = take 17 (drop (7 + 17 * p) b)
+abbrev pub processorPart : List ℕ → ℕ → List ℕ
+processorPart b p = take 17 (drop (7 + 17 * p) b)
 
 abbrev pub nodePart : List ℕ → ℕ → List ℕ
 nodePart b x = take 41 (drop (startOf b + 41 * x) b)
 
 -- processor p and node x, as they are made where the bytes have none
-abbrev pub callerIn : List ℕ → ℕ → Processor
-callerIn b p =
-    cond (ltb p (getD b 0 0)) (readProcessor (callerPart b p) .processor) freshProcessor
+abbrev pub processorIn : List ℕ → ℕ → Processor
+processorIn b p =
+    cond (ltb p (getD b 0 0)) (readProcessor (processorPart b p) .processor) freshProcessor
 
 abbrev pub nodeIn : List ℕ → ℕ → Node
 nodeIn b x =
@@ -70,12 +70,12 @@ nodeIn b x =
 -- the record that the bytes are read as
 unfoldable pub queueIn : List ℕ → Queue
 queueIn b = record {
-  processors = getD b 0 0;
-  entries = getD b 1 0;
-  levels = getD b 2 0;
+  processorCount = getD b 0 0;
+  nodeCount = getD b 1 0;
+  levelCount = getD b 2 0;
   clock = number32 b 3;
   nodes = listed (nodeIn b) nodeSlots;
-  callers = listed (callerIn b) maxProcessors;
+  processors = listed (processorIn b) maxProcessors;
 }
 
 -- a record has room for so many processors and nodes, and the bytes are as many as these ask for
@@ -89,7 +89,7 @@ fits b = hasRoom b && eqb (length b) (lengthOf b)
 unfoldable pub isImage : List ℕ → Bool
 isImage b =
     fits b
-    && allBelow (λ p. readProcessor (callerPart b p) .ok) (getD b 0 0)
+    && allBelow (λ p. readProcessor (processorPart b p) .ok) (getD b 0 0)
     && allBelow (λ x. readNode (nodePart b x) .ok) (getD b 1 0 + 2)
 
 -- and this record passes check 21

@@ -7,8 +7,8 @@ use lib.Seq.{sets}
 use Rattle.laws.specs.Every.{everyBelow}
 
 -- a list with these elements stored from place i on, and every other element as it was
-unfoldable pub written : {A : Type 0} → List A → ℕ → List A → List A
-written l i xs = sets l i xs
+unfoldable pub storedAt : {A : Type 0} → List A → ℕ → List A → List A
+storedAt l i xs = sets l i xs
 
 -- f 0, f 1, .. f (n - 1), one after the other
 unfoldable pub joined : (ℕ → List ℕ) → ℕ → List ℕ

@@ -14,18 +14,19 @@ use Rattle.image.specs.Image.{imageOf, queueIn, isImage}
 -- the record's arrays have their lengths, as every record of the code has
 pub record Sized (q : Queue) : Type 0 where
   pub nodes-long : length (q .nodes) ≡ nodeSlots
-  pub callers-long : length (q .callers) ≡ maxProcessors
+  pub processors-long : length (q .processors) ≡ maxProcessors
   pub forward-long : (i : ℕ) → i < nodeSlots → length (nodeAt q i .forward) ≡ 8
-  pub locks-long : (i : ℕ) → i < nodeSlots → length (nodeAt q i .locks) ≡ 8
+  pub locks-long : (i : ℕ) → i < nodeSlots → length (nodeAt q i .levelLocks) ≡ 8
   pub saved-long : (p : ℕ) → p < maxProcessors → length (processorAt q p .saved) ≡ 8
 
 -- the slots past P and N + 1 are as made
 pub record Trim (q : Queue) : Type 0 where
-  pub processors-high : q .processors ≤ maxProcessors
-  pub entries-high : q .entries + 2 ≤ nodeSlots
+  pub processors-high : q .processorCount ≤ maxProcessors
+  pub entries-high : q .nodeCount + 2 ≤ nodeSlots
   pub nodes :
-      (x : ℕ) → q .entries + 1 < x → x < nodeSlots → nodeAt q x ≡ freshNode (q .entries + 1)
-  pub callers : (p : ℕ) → q .processors ≤ p → p < maxProcessors → processorAt q p ≡ freshProcessor
+      (x : ℕ) → q .nodeCount + 1 < x → x < nodeSlots → nodeAt q x ≡ freshNode (q .nodeCount + 1)
+  pub processors : (p : ℕ) → q .processorCount ≤ p → p < maxProcessors
+      → processorAt q p ≡ freshProcessor
 
 -- every element is a byte
 abbrev pub Bytes : List ℕ → Type 0

@@ -47,7 +47,8 @@ codeAt b i = code (getD b i 0) (getD b (i + 1) 0) (getD b (i + 2) 0) (getD b (i 
 
 abbrev pub linksImage : Node → List ℕ
 linksImage n =
-    eight (n .forward) 0 ++ eight (n .locks) 0 ++ (n .lock ∷ []) ++ (markByte (n .mark) ∷ [])
+    eight (n .forward) 0 ++ eight (n .levelLocks) 0 ++ (n .nodeLock ∷ [])
+    ++ (markByte (n .mark) ∷ [])
 
 abbrev pub entryImage : Node → List ℕ
 entryImage n =
@@ -68,8 +69,8 @@ readNode b = record {
   ok = leb (getD b 17 0) 1 && (stampTaken (timedAt b 18) && useTaken (timedAt b 36));
   node = record {
     forward = eight b 0;
-    locks = eight b 8;
-    lock = getD b 16 0;
+    levelLocks = eight b 8;
+    nodeLock = getD b 16 0;
     mark = eqb (getD b 17 0) 1;
     stamp = stampOf (timedAt b 18);
     due = number32 b 23;

@@ -110,13 +110,14 @@ removalOf tag a b =
     (cond (leb tag 19) (rem.Seek (seekOf (tag - 16) a b))
     (cond (eqb tag 20) (rem.HoldOwn a)
     (cond (eqb tag 21) (rem.Unlink a)
-    (cond (eqb tag 22) (rem.Back a)
+    (cond (eqb tag 22) (rem.LeadBack a)
     (cond (eqb tag 23) (rem.FreeOwn a)
     (cond (eqb tag 24) (rem.FreeLevel a)
     (cond (eqb tag 25) rem.FreeNode rem.Retire))))))))
 
 abbrev pub deleteOf : ℕ → Place → Delete
-deleteOf tag a = cond (eqb tag 11) (del.Next a) (cond (eqb tag 12) (del.Stamped a) (del.Mark a))
+deleteOf tag a =
+    cond (eqb tag 11) (del.ReadNext a) (cond (eqb tag 12) (del.TestStamp a) (del.SetMark a))
 
 abbrev pub placeOf : Code → Place
 placeOf x = record { node = x .node; level = x .level }

@@ -18,19 +18,20 @@ use Rattle.image.specs.Pieces.{processorImage}
 use Rattle.rules.specs.declared.answers.Answer.{Answer}
 use Rattle.rules.specs.declared.answers.Answer.the-variants as ans
 use Rattle.rules.specs.declared.calls.Call.the-variants as call
-use Rattle.rules.specs.Calls.{insertDecision, deleteDecision, nodeRefusal, refusalOf, calledValid}
+use Rattle.rules.specs.Calls.{insertDecision, deleteDecision, taken, nodeRefusal, refusalOf}
+use Rattle.rules.specs.Calls.{calledValid}
 use Rattle.rules.specs.Choice.{chosen}
 use Rattle.rules.specs.Effects.{accepted}
 use Rattle.rules.proofs.ValidFacts.{valid-facts}
 use Rattle.rules.proofs.ValidDecisions.{chosen-high}
-use Rattle.checks.specs.Making.{outside}
+use Rattle.record_check.specs.Making.{outside}
 use Rattle.laws.proofs.Booleans.{or-right}
 use Rattle.rules.proofs.Allowed.{passed, first-none}
 use Rattle.rules.proofs.Inner.{call-accepted}
 use Rattle.image.specs.Puts.{puts, putsIn, four}
 use Rattle.image.specs.Image.{queueIn, Sound}
 use Rattle.image_parts.specs.Given.{refusalIn, Called}
-use Rattle.image.proofs.Fields.{caller-is}
+use Rattle.image.proofs.Fields.{processor-is}
 use Rattle.image.proofs.Sizes.{sized-in}
 use Rattle.image_parts.proofs.Pieces.{moves}
 use Rattle.image_parts.proofs.Given.{gives}
@@ -46,17 +47,17 @@ based b s =
     record {
       start = refl;
       long = s .long;
-      processors-high = v .processors .high;
+      processors-high = v .processorCount .high;
       entries-high =
-          v .entries .high;
-      levels-high = v .levels .high;
+          v .nodeCount .high;
+      levels-high = v .levelCount .high;
     }
 
 -- an idle processor's stage
 at-idle : (b : List ℕ) (p : ℕ) → Sound b → p < getD b 0 0 → getD b (7 + 17 * p + 5) 0 ≡ 0 →
     processorAt (queueIn b) p .stage ≡ stage.Idle
 at-idle b p s low h =
-    ap (λ (c : Processor). c .stage) (caller-is b p (based b s .processors-high) low)
+    ap (λ (c : Processor). c .stage) (processor-is b p (based b s .processors-high) low)
     ∙ ap (λ (t : ℕ). stageOf
     (code t (getD b (7 + 17 * p + 6) 0) (getD b (7 + 17 * p + 7) 0)
     (getD b (7 + 17 * p + 8) 0))) h
@@ -119,7 +120,7 @@ module _ (b : List ℕ) (p due item height : ℕ) (s : Sound b)
       let idle = begin-idle b s k e refl in
       let there : (chosen q ≡ 0 → ⊥) = λ z. some (is ∙ z) in
       let none : refusalOf q k ≡ 0 =
-      first-none (refusalIn b k) (nodeRefusal k (chosen q)) e ∙ rw (ne-eqb (chosen q) 0 there) refl in
+      first-none (refusalIn b k) (nodeRefusal k (taken q k)) e ∙ rw (ne-eqb (chosen q) 0 there) refl in
       let x≤ : x ≤ getD b 1 0 = rw is (chosen-high q) in
       let x< : x < 202 = omega (arith, B .entries-high) in
       let S = sized-in b in

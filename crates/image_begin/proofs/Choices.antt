@@ -22,15 +22,15 @@ use Rattle.image.specs.Tags.{Timed, timed, useTimed, useOf, useTaken, stampTake
 use Rattle.image.specs.Pieces.{readNode, timedAt}
 use Rattle.image.specs.Image.{queueIn, isImage, nodePart, startOf, Sound}
 use Rattle.image.specs.Puts.{piece}
-use Rattle.image.proofs.Fields.{number, part-bytes, node-is, caller-is, number-at}
+use Rattle.image.proofs.Fields.{number, part-bytes, node-is, processor-is, number-at}
 use Rattle.image.proofs.Inverse.{image-taken, image-facts, trim-in}
 use Rattle.image.proofs.Parts.{all-at}
 use Rattle.image.proofs.Sizes.{sized-in}
 use Rattle.rules.specs.Choice.{isNever, retirement, neverUsed, longestRetired, stateOf}
-use Rattle.rules.specs.Choice.{allBeganAfter, chosen}
+use Rattle.rules.specs.Choice.{beganAfter, allBeganAfter, chosen}
+use Rattle.rules.proofs.ValidDecisions.{longest-retired-high}
 use Rattle.rules.proofs.ValidFacts.{valid-facts}
-use Rattle.choosing.specs.Choosing.{beganAfter}
-use Rattle.choosing.proofs.Choosing.{longest-high, chosen-never, chosen-none, chosen-retired}
+use Rattle.rules.proofs.Chosen.{chosen-never, chosen-none, chosen-retired}
 use Rattle.image_parts.proofs.Refusals.{idle-is}
 use Rattle.image_begin.specs.Stores.{Based, late, endOf}
 
@@ -80,7 +80,7 @@ module _ (state : ℕ → Use) (i best least : ℕ) (s : Seen state i best least
     (used : isNever (state (suc i)) ≡ false) (t : ℕ) (f : t ≡ endOf (wordOf (state (suc i)))) where
   least-high : least ≤ late
   least-high =
-      let low : best ≤ suc i = omega (arith, longest-high state i) in
+      let low : best ≤ suc i = omega (arith, longest-retired-high state i) in
       rw (s .since)
       (cond-cases (λ x. x ≤ late) (eqb best 0) _ _ (λ e. omega arith)
       (λ e. omega (arith, small best low)))
@@ -250,17 +250,17 @@ module _ (b : List ℕ) (p : ℕ) (many : getD b 0 0 ≤ 16) (low : p < getD b 0
       ≡ beganAfter t (processorAt (queueIn b) p .stage) (processorAt (queueIn b) p .begin)
   after-busy t h =
       sym (rw (idle-is b p many low, ne-eqb (getD b (7 + 17 * p + 5) 0) 0 h)
-      (ap (λ (c : Processor). ltb t (c .begin)) (caller-is b p many low)
+      (ap (λ (c : Processor). ltb t (c .begin)) (processor-is b p many low)
       ∙ rw (number-at b (7 + 17 * p) 0) refl))
 
 -- after the last node
 module _ (b : List ℕ) (i best least : ℕ) (all : i ≡ getD b 1 0)
     (s : Seen (stateOf (queueIn b)) i best least) where
-  none-never : 0 ≡ neverUsed (stateOf (queueIn b)) (queueIn b .entries)
+  none-never : 0 ≡ neverUsed (stateOf (queueIn b)) (queueIn b .nodeCount)
   unfolding queueIn
   none-never = sym (s .none) ∙ ap (neverUsed (stateOf (queueIn b))) all
 
-  longest-all : best ≡ longestRetired (stateOf (queueIn b)) (queueIn b .entries)
+  longest-all : best ≡ longestRetired (stateOf (queueIn b)) (queueIn b .nodeCount)
   unfolding queueIn
   longest-all = s .longest ∙ ap (longestRetired (stateOf (queueIn b))) all
 

@@ -1,20 +1,18 @@
 -- Stores in a node's levels, and the bytes of a node that an Insert takes. Assumes nothing.
 use mathlib.Core.Path.{_≡_, refl, sym, _∙_, ap}
 use mathlib.Core.List.{List, [], _∷_, _++_, append-assoc}
-use Prim.Native.Nat.{ℕ, zero, suc, _+_, _≤_, _<_}
+use Prim.Native.Nat.{ℕ, zero, suc, _+_, _≤_}
 use native.Mathlib.Omega.{arith}
 use native.Mathlib.Numerals.{add-one}
-use lib.ListN.{length, set, drop}
-use lib.Seq.{set-append-left}
+use lib.ListN.{length, set}
 use Rattle.record.specs.declared.nodes.Node.{Node}
 use Rattle.laws.specs.Every.{setBelow}
 use Rattle.laws.proofs.Counting.{length-below}
 use Rattle.record.specs.Nodes.{filled}
-use Rattle.image.specs.Numbers.{eight}
 use Rattle.image.specs.Pieces.{nodeImage}
 use Rattle.image.specs.Puts.{puts, putsIn, four}
-use Rattle.image.proofs.Puts.{Below, set-after, puts-append}
-use Rattle.image_parts.proofs.Pieces.{eight-set}
+use Rattle.image.proofs.Puts.{Below, puts-append}
+use Rattle.image_parts.proofs.Pieces.{leveled, put-forward, put-lock}
 use Rattle.image_begin.specs.Stores.{levels, unmarked, used, fixed, fills}
 
 pub levels-next : (b : List ℕ) (o j k v : ℕ) → set (puts b o (levels j k v)) (o + (j + k)) v
@@ -28,64 +26,27 @@ levels-below w j (suc l) v es h k =
     rw (append-assoc (levels j l v) ((j + l, v) ∷ []) es)
     (levels-below w j l v ((j + l, v) ∷ es) (omega arith) (omega arith, k))
 
--- a node with other levels
-abbrev leveled : Node → List ℕ → List ℕ → Node
-leveled n f g =
-    record {
-      forward = f;
-      locks = g;
-      lock = n .lock;
-      mark = n .mark;
-      stamp = n .stamp;
-      due =
-          n .due;
-      ticket = n .ticket;
-      item = n .item;
-      height = n .height;
-      state = n .state;
-    }
-
-put-forward : (n : Node) (k v : ℕ) (es : List (ℕ × ℕ)) → k < 8 → length (n .forward) ≡ 8 →
-    putsIn (nodeImage n) ((0 + k, v) ∷ es)
-    ≡ putsIn (nodeImage (leveled n (set (n .forward) k v) (n .locks))) es
-unfolding nodeImage
-put-forward n k v es low long =
-    let z : 0 + k ≡ k = omega arith in
-    ap (λ (i : ℕ). putsIn (set (nodeImage n) i v) es) z
-    ∙ ap (λ (r : List ℕ). putsIn r es)
-    (set-append-left (eight (n .forward) 0) (drop 8 (nodeImage n)) k v low
-    ∙ ap (λ (r : List ℕ). r ++ drop 8 (nodeImage n)) (eight-set (n .forward) k v long))
-
-put-lock : (n : Node) (k v : ℕ) (es : List (ℕ × ℕ)) → k < 8 → length (n .locks) ≡ 8 →
-    putsIn (nodeImage n) ((8 + k, v) ∷ es)
-    ≡ putsIn (nodeImage (leveled n (n .forward) (set (n .locks) k v))) es
-unfolding nodeImage
-put-lock n k v es low long =
-    ap (λ (r : List ℕ). putsIn r es)
-    (set-after (eight (n .forward) 0) (drop 8 (nodeImage n)) (8 + k) k v refl
-    ∙ ap (λ (r : List ℕ). eight (n .forward) 0 ++ r)
-    (set-append-left (eight (n .locks) 0) (drop 16 (nodeImage n)) k v low
-    ∙ ap (λ (r : List ℕ). r ++ drop 16 (nodeImage n)) (eight-set (n .locks) k v long)))
-
 put-forwards : (n : Node) (l v : ℕ) (es : List (ℕ × ℕ)) → l ≤ 8 → length (n .forward) ≡ 8 →
     putsIn (nodeImage n) (levels 0 l v ++ es)
-    ≡ putsIn (nodeImage (leveled n (setBelow (n .forward) l v) (n .locks))) es
+    ≡ putsIn (nodeImage (leveled n (setBelow (n .forward) l v) (n .levelLocks))) es
 put-forwards n zero v es low long = refl
 put-forwards n (suc l) v es low long =
+    let m = leveled n (setBelow (n .forward) l v) (n .levelLocks) in
+    let z : 0 + l ≡ l = omega arith in
     ap (putsIn (nodeImage n)) (append-assoc (levels 0 l v) ((0 + l, v) ∷ []) es)
     ∙ put-forwards n l v ((0 + l, v) ∷ es) (omega arith) long
-    ∙ put-forward (leveled n (setBelow (n .forward) l v) (n .locks)) l v es (omega arith)
-    (length-below (n .forward) l v ∙ long)
+    ∙ ap (λ (i : ℕ). putsIn (set (nodeImage m) i v) es) z
+    ∙ put-forward m l v es (omega arith) (length-below (n .forward) l v ∙ long)
 
-put-locks : (n : Node) (l v : ℕ) (es : List (ℕ × ℕ)) → l ≤ 8 → length (n .locks) ≡ 8 →
+put-locks : (n : Node) (l v : ℕ) (es : List (ℕ × ℕ)) → l ≤ 8 → length (n .levelLocks) ≡ 8 →
     putsIn (nodeImage n) (levels 8 l v ++ es)
-    ≡ putsIn (nodeImage (leveled n (n .forward) (setBelow (n .locks) l v))) es
+    ≡ putsIn (nodeImage (leveled n (n .forward) (setBelow (n .levelLocks) l v))) es
 put-locks n zero v es low long = refl
 put-locks n (suc l) v es low long =
     ap (putsIn (nodeImage n)) (append-assoc (levels 8 l v) ((8 + l, v) ∷ []) es)
     ∙ put-locks n l v ((8 + l, v) ∷ es) (omega arith) long
-    ∙ put-lock (leveled n (n .forward) (setBelow (n .locks) l v)) l v es (omega arith)
-    (length-below (n .locks) l v ∙ long)
+    ∙ put-lock (leveled n (n .forward) (setBelow (n .levelLocks) l v)) l v es (omega arith)
+    (length-below (n .levelLocks) l v ∙ long)
 
 put-fixed : (n : Node) (f g : List ℕ) (h t due item height : ℕ) →
     putsIn (nodeImage (leveled n f g)) (fixed h t due item height)
@@ -94,14 +55,14 @@ unfolding nodeImage
 put-fixed n f g h t due item height = refl
 
 pub put-filled : (n : Node) (l tail h t due item height : ℕ) → l ≤ 8 → length (n .forward) ≡ 8 →
-    length (n .locks) ≡ 8 →
+    length (n .levelLocks) ≡ 8 →
     putsIn (nodeImage n) (fills l tail h t due item height)
     ≡ nodeImage (filled n l tail h t due item height)
 put-filled n l tail h t due item height low long locks =
     put-forwards n l tail (levels 8 l 0 ++ fixed h t due item height) low long
-    ∙ put-locks (leveled n (setBelow (n .forward) l tail) (n .locks)) l 0
+    ∙ put-locks (leveled n (setBelow (n .forward) l tail) (n .levelLocks)) l 0
     (fixed h t due item height) low locks
-    ∙ put-fixed n (setBelow (n .forward) l tail) (setBelow (n .locks) l 0) h t due item height
+    ∙ put-fixed n (setBelow (n .forward) l tail) (setBelow (n .levelLocks) l 0) h t due item height
 
 pub fixed-below : (h t due item height : ℕ) → Below 41 (fixed h t due item height)
 fixed-below h t due item height = (

@@ -6,6 +6,9 @@ ghost use Rattle.rules.specs.declared.calls.Call.the-variants as call;
 use crate::choice::choose;
 use crate::stores::begin;
 use crate::stores::fill;
+use image::layout::HEADER;
+use image::layout::NODE_BYTES;
+use image::layout::PROCESSOR_BYTES;
 use image::numbers::number_from;
 use image::numbers::tick;
 use image_parts::refused::refusal_at;
@@ -13,7 +16,7 @@ use rules::Answer;
 use rules::Call;
 
 // The begin of a Delete_Min.
-pub fn begin_delete_at(image: &mut [u8], processor: u32) -> Answer
+pub fn begin_delete_min_at(image: &mut [u8], processor: u32) -> Answer
     requires { ⌜ Sound (now image) ⌝ }
     ensures { λ r.
         ⌜ Called (now (image .entry)) (call.DeleteMin processor) (now (image .exit)) r ⌝ }
@@ -24,7 +27,14 @@ pub fn begin_delete_at(image: &mut [u8], processor: u32) -> Answer
     }
     let t = number_from(image, 3) + 1;
     tick(image);
-    begin(image, 7 + 17 * (processor as usize), t, 0, 11, 1);
+    begin(
+        image,
+        HEADER + PROCESSOR_BYTES * (processor as usize),
+        t,
+        0,
+        11,
+        1,
+    );
     Answer::Began(t)
 }
 
@@ -39,7 +49,7 @@ pub fn begin_insert_at(image: &mut [u8], processor: u32, due: u32, item: u32, he
     if 0 < refusal {
         return Answer::Refused(refusal);
     }
-    let base = 7 + 17 * (image[0] as usize);
+    let base = HEADER + PROCESSOR_BYTES * (image[0] as usize);
     let x = choose(image, base);
     if x == 0 {
         return Answer::Refused(37);
@@ -51,7 +61,7 @@ pub fn begin_insert_at(image: &mut [u8], processor: u32, due: u32, item: u32, he
     tick(image);
     fill(
         image,
-        base + 41 * (x as usize),
+        base + NODE_BYTES * (x as usize),
         l as usize,
         tail,
         h,
@@ -60,6 +70,13 @@ pub fn begin_insert_at(image: &mut [u8], processor: u32, due: u32, item: u32, he
         item,
         height as u8,
     );
-    begin(image, 7 + 17 * (processor as usize), t, x, 1, l);
+    begin(
+        image,
+        HEADER + PROCESSOR_BYTES * (processor as usize),
+        t,
+        x,
+        1,
+        l,
+    );
     Answer::Began(t)
 }

@@ -3,16 +3,18 @@ ghost use mathlib.Core.Path.{_≡_};
 ghost use Prim.Native.Nat.{ℕ, _+_, _*_, _≤_, _<_};
 ghost use lib.ListN.{length, getD};
 ghost use Rattle.record.specs.Queues.{processorAt};
-ghost use Rattle.rules.specs.Choice.{allBeganAfter, chosen};
-ghost use Rattle.choosing.specs.Choosing.{beganAfter};
+ghost use Rattle.rules.specs.Choice.{beganAfter, allBeganAfter, chosen};
 ghost use Rattle.image.specs.Image.{queueIn, Sound};
 ghost use Rattle.image_begin.specs.Stores.{Based, endOf};
-use checks::limits::NUMBER;
+use image::layout::HEADER;
+use image::layout::NODE_BYTES;
+use image::layout::PROCESSOR_BYTES;
 use image::numbers::number_from;
 use record::levels::both;
+use record::limits::MAX_NUMBER;
 
 // More than the use of every retired node, read as one number.
-const LATE: u32 = 256 * (NUMBER + 1);
+const LATE: u32 = 256 * (MAX_NUMBER + 1);
 
 // A use in the order of the retirements: a node in use comes last.
 fn end_of(used: u32) -> u32
@@ -28,7 +30,7 @@ fn began_after(b: &[u8], p: usize, t: u32) -> bool
         ⌜ r ≡ beganAfter t (processorAt (queueIn (now (b .entry))) p .stage)
         (processorAt (queueIn (now (b .entry))) p .begin) ⌝ }
 {
-    let at = 7 + 17 * p;
+    let at = HEADER + PROCESSOR_BYTES * p;
     if b[at + 5] == 0 {
         return true;
     }
@@ -62,7 +64,7 @@ pub fn choose(b: &[u8], base: usize) -> u8
     let mut i: u8 = 0;
     while i < end {
         i = i + 1;
-        let used = number_from(b, base + 41 * (i as usize) + 36);
+        let used = number_from(b, base + NODE_BYTES * (i as usize) + 36);
         if used == 0 {
             return i;
         }

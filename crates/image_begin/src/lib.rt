@@ -3,5 +3,5 @@ pub mod begins;
 pub mod choice;
 pub mod stores;
 
-pub use begins::begin_delete_at;
+pub use begins::begin_delete_min_at;
 pub use begins::begin_insert_at;

@@ -2,7 +2,7 @@
 // again.
 ghost use Rattle.image.specs.Image.{Sound};
 ghost use Rattle.image_parts.specs.Given.{Called};
-use image_begin::begin_delete_at;
+use image_begin::begin_delete_min_at;
 use image_begin::begin_insert_at;
 use image_step::step_at;
 use rules::Answer;
@@ -16,7 +16,7 @@ pub fn call_at(image: &mut [u8], c: Call) -> Answer
         Call::Insert(p, due, item, height) => {
             return begin_insert_at(image, p, due, item, height);
         }
-        Call::DeleteMin(p) => return begin_delete_at(image, p),
+        Call::DeleteMin(p) => return begin_delete_min_at(image, p),
         Call::Step(p) => return step_at(image, p),
     }
 }

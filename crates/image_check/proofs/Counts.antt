@@ -9,8 +9,8 @@ use lib.ListN.{getD}
 use borrow.Author.Tests.{eqb-true, ne-eqb}
 use Rattle.laws.specs.HowMany.{howMany}
 use Rattle.laws.proofs.HowMany.{many-more}
-use Rattle.checks.specs.Backlog.{holdsPending, pendingAt}
-use Rattle.checks.proofs.Sizes.{valid-sizes}
+use Rattle.record_check.specs.Backlog.{holdsPending, pendingAt}
+use Rattle.record_check.proofs.Sizes.{valid-sizes}
 use Rattle.record.specs.declared.nodes.Stamp.the-variants as stamp
 use Rattle.record.specs.declared.nodes.Use.the-variants as use′
 use Rattle.record.specs.Nodes.{isInUse, isStamped}

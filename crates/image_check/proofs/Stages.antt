@@ -8,8 +8,8 @@ use native.Mathlib.Omega.{arith}
 use lib.Dec.{eqb, leb}
 use borrow.Author.Tests.{eq-eqb, ne-eqb, le-leb, lt-leb, leb-true, eqb-true, eqb-false, not-true}
 use Rattle.laws.proofs.Counting.{and-left, and-right, every-at}
-use Rattle.checks.specs.declared.check.Sizes.{Sizes}
-use Rattle.checks.specs.Check.{within, carriedValid}
+use Rattle.record_check.specs.declared.check.Sizes.{Sizes}
+use Rattle.record_check.specs.Check.{within, carriedValid}
 use Rattle.record.specs.Stages.{Row, place, rowOf, carriedOf, carried}
 use Rattle.image.specs.Tags.{code, codeOf, codeSame, stageOf, stageTaken}
 use Rattle.image_check.specs.Bounds.{rowAt, between, inBounds}
@@ -94,7 +94,7 @@ lower a n = go (within a n) refl
     go false e = and-false (leb a (n + 1))
 
 -- a row with these columns, for the numbers a, i, x
-module _ (s : Sizes) (t a i x own : ℕ) (tall : 1 ≤ s .levels) where
+module _ (s : Sizes) (t a i x own : ℕ) (tall : 1 ≤ s .levelCount) where
   abbrev line : Bool → Bool → Bool → Bool → Row
   line owns placed marks releases = record {
     tag = t;
@@ -114,24 +114,24 @@ module _ (s : Sizes) (t a i x own : ℕ) (tall : 1 ≤ s .levels) where
   taken r = codeSame (codeOf r) (code t a i x) && carriedValid s (carriedOf r) own
 
   abbrev A : Bool
-  A = leb a (s .entries + 1)
+  A = leb a (s .nodeCount + 1)
 
   abbrev W : Bool
-  W = within i (s .levels)
+  W = within i (s .levelCount)
 
   abbrev X : Bool
-  X = leb x (s .entries + 1)
+  X = leb x (s .nodeCount + 1)
 
   abbrev owned : Bool → Bool
-  owned o = between (cond o 1 0) own (cond o (s .entries) (s .entries + 1))
+  owned o = between (cond o 1 0) own (cond o (s .nodeCount) (s .nodeCount + 1))
 
-  own-tests : (o : Bool) → cond o (within own (s .entries)) (leb own (s .entries + 1)) ≡ owned o
+  own-tests : (o : Bool) → cond o (within own (s .nodeCount)) (leb own (s .nodeCount + 1)) ≡ owned o
   own-tests true = refl
   own-tests false = rw (le-leb 0 own (omega arith)) refl
 
   line-tests :
       (o p m e : Bool) → (m ≡ true → p ≡ true) → taken (line o p m e)
-      ≡ inBounds (line o p m e) a i x own (s .entries) (s .levels)
+      ≡ inBounds (line o p m e) a i x own (s .nodeCount) (s .levelCount)
   -- by the columns placed, marks and releases
   line-tests o true false false h =
       rw (same t, same a, same i, zero-low x, le-leb 0 a (omega arith), own-tests o)
@@ -142,13 +142,13 @@ module _ (s : Sizes) (t a i x own : ℕ) (tall : 1 ≤ s .levels) where
       (all-ways (λ x O A W u. O && (A && W) && x && true) (λ x O A W u. W && x && A && O) refl
       X (owned o) A W true)
   line-tests o true true false h =
-      rw (same t, same a, same i, zero-low x, own-tests o, sym (lower a (s .entries)))
+      rw (same t, same a, same i, zero-low x, own-tests o, sym (lower a (s .nodeCount)))
       (all-ways (λ z O A W B. z && (O && (A && W) && A && (A && B)))
-      (λ z O A W B. W && z && (A && B) && O) refl (leb x 0) (owned o) A W (within a (s .entries)))
+      (λ z O A W B. W && z && (A && B) && O) refl (leb x 0) (owned o) A W (within a (s .nodeCount)))
   line-tests o true true true h =
-      rw (same t, same a, same i, same x, own-tests o, sym (lower a (s .entries)))
+      rw (same t, same a, same i, same x, own-tests o, sym (lower a (s .nodeCount)))
       (all-ways (λ x O A W B. O && (A && W) && x && (A && B))
-      (λ x O A W B. W && x && (A && B) && O) refl X (owned o) A W (within a (s .entries)))
+      (λ x O A W B. W && x && (A && B) && O) refl X (owned o) A W (within a (s .nodeCount)))
   line-tests o false false false h =
       rw (
         same t,
@@ -157,8 +157,8 @@ module _ (s : Sizes) (t a i x own : ℕ) (tall : 1 ≤ s .levels) where
         zero-low x,
         le-leb 0 a (omega arith),
         le-leb 0 i (omega arith),
-        le-leb 0 (s .entries + 1) (omega arith),
-        le-leb 1 (s .levels) tall,
+        le-leb 0 (s .nodeCount + 1) (omega arith),
+        le-leb 1 (s .levelCount) tall,
         own-tests o,
       )
       (all-ways (λ a i x O u. a && (i && x) && (O && true && true && true))
@@ -171,8 +171,8 @@ module _ (s : Sizes) (t a i x own : ℕ) (tall : 1 ≤ s .levels) where
         zero-low i,
         le-leb 0 a (omega arith),
         le-leb 0 i (omega arith),
-        le-leb 0 (s .entries + 1) (omega arith),
-        le-leb 1 (s .levels) tall,
+        le-leb 0 (s .nodeCount + 1) (omega arith),
+        le-leb 1 (s .levelCount) tall,
         own-tests o,
       )
       (all-ways (λ a i x O u. a && (i && true) && (O && true && x && true))
@@ -262,9 +262,9 @@ module _ (t : ℕ) (low : t < 27) where
       (every-at (λ t. eqb t 13 || not (rowAt t .marks)) 27 t refl low))
 
   pub stage-tests :
-      (s : Sizes) (a i x own : ℕ) → 1 ≤ s .levels →
+      (s : Sizes) (a i x own : ℕ) → 1 ≤ s .levelCount →
       (stageTaken (code t a i x) && carriedValid s (carried (stageOf (code t a i x))) own)
-      ≡ inBounds (rowAt t) a i x own (s .entries) (s .levels)
+      ≡ inBounds (rowAt t) a i x own (s .nodeCount) (s .levelCount)
   stage-tests s a i x own tall =
       ap (taken s t a i x own tall) (rows a i x t low)
       ∙ line-tests s t a i x own tall (rowAt t .owns) (rowAt t .placed) (rowAt t .marks)

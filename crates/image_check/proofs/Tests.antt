@@ -9,8 +9,8 @@ use lib.ListN.{length, getD}
 use borrow.Author.Tests.{eq-eqb, ne-eqb, le-leb, lt-leb}
 use Rattle.laws.specs.Every.{everyBelow, allAtMost}
 use Rattle.laws.proofs.Counting.{and-left, and-right, and-both}
-use Rattle.checks.specs.Check.{within, stampValid, useValid, sizesOf, sizesValid, nodeValid}
-use Rattle.checks.specs.Check.{carriedValid, processorValid, valid}
+use Rattle.record_check.specs.Check.{within, stampValid, useValid, sizesOf, sizesValid, nodeValid}
+use Rattle.record_check.specs.Check.{carriedValid, processorValid, valid}
 use Rattle.image.specs.Tags.{timed, stampOf, stampTaken, useOf, useTaken, code}
 use Rattle.image.specs.Tags.{stageOf, stageTaken}
 use Rattle.record.specs.declared.nodes.Node.{Node}
@@ -22,13 +22,13 @@ use Rattle.image.specs.Numbers.{number32}
 use Rattle.image.specs.Pieces.{readNode, readProcessor}
 use Rattle.image.specs.OneToOne.{Bytes}
 use Rattle.image.specs.Puts.{piece}
-use Rattle.image.specs.Image.{startOf, lengthOf, callerPart, nodePart, queueIn, hasRoom, isImage}
+use Rattle.image.specs.Image.{startOf, lengthOf, processorPart, nodePart, queueIn, hasRoom, isImage}
 use Rattle.image.specs.Image.{passesOf, Sound}
-use Rattle.image.proofs.Fields.{number, eightFrom, nodeFrom, callerFrom, part-bytes, node-is}
-use Rattle.image.proofs.Fields.{caller-is, eight-at, number-at}
+use Rattle.image.proofs.Fields.{number, eightFrom, nodeFrom, processorFrom, part-bytes, node-is}
+use Rattle.image.proofs.Fields.{processor-is, eight-at, number-at}
 use Rattle.image.proofs.Inverse.{image-facts, read-is-written}
 use Rattle.image_check.specs.Bounds.{rowAt, inBounds}
-use Rattle.image_check.specs.Tests.{sizes, linksTest, entryTest, nodeOk, callerOk}
+use Rattle.image_check.specs.Tests.{sizes, linksTest, entryTest, nodeOk, processorOk}
 use Rattle.image_check.proofs.Stages.{stage-tests}
 
 levels-same : (f : ℕ → ℕ) (j l top : ℕ) → l ≤ 8 → allAtMost (eightFrom f j) l top
@@ -42,16 +42,16 @@ nodeTaken f =
     leb (f 17) 1 &&
     (stampTaken (timed (f 18) (number f 19)) && useTaken (timed (f 36) (number f 37)))
 
-abbrev callerTaken : (ℕ → ℕ) → Bool
-callerTaken f = stageTaken (code (f 5) (f 6) (f 7) (f 8))
+abbrev processorTaken : (ℕ → ℕ) → Bool
+processorTaken f = stageTaken (code (f 5) (f 6) (f 7) (f 8))
 
 node-ok : (b : List ℕ) → readNode b .ok ≡ nodeTaken (λ (j : ℕ). getD b j 0)
 unfolding readNode
 node-ok b = refl
 
-caller-ok : (b : List ℕ) → readProcessor b .ok ≡ callerTaken (λ (j : ℕ). getD b j 0)
+processor-ok : (b : List ℕ) → readProcessor b .ok ≡ processorTaken (λ (j : ℕ). getD b j 0)
 unfolding readProcessor
-caller-ok b = refl
+processor-ok b = refl
 
 spread : (m s u l e sv uv : Bool) → (l && (e && (m && ((s && sv) && (u && uv)))))
     ≡ ((m && (s && u)) && (((l && e) && sv) && uv))
@@ -136,8 +136,8 @@ tag-past t a i x h =
 -- processor p
 module _ (b : List ℕ) (p : ℕ) (low : p < getD b 0 0) (many : getD b 0 0 ≤ 16)
     (tall : 1 ≤ getD b 2 0) (few : getD b 2 0 ≤ 8) where
-  caller-taken : readProcessor (callerPart b p) .ok ≡ callerTaken (piece b (7 + 17 * p))
-  caller-taken = caller-ok (callerPart b p) ∙ ap callerTaken (part-bytes b 17 (7 + 17 * p))
+  processor-taken : readProcessor (processorPart b p) .ok ≡ processorTaken (piece b (7 + 17 * p))
+  processor-taken = processor-ok (processorPart b p) ∙ ap processorTaken (part-bytes b 17 (7 + 17 * p))
 
   abbrev saved : Bool
   saved = everyBelow (λ (k : ℕ). leb (piece b (7 + 17 * p) (9 + k)) (getD b 1 0 + 1)) (getD b 2 0)
@@ -152,56 +152,56 @@ module _ (b : List ℕ) (p : ℕ) (low : p < getD b 0 0) (many : getD b 0 0 ≤ 
       stageTaken (code (f 5) (f 6) (f 7) (f 8))
       && carriedValid (sizesOf (queueIn b)) (carried (stageOf (code (f 5) (f 6) (f 7) (f 8)))) (f 4)
 
-  caller-parts : (early && late (piece b (7 + 17 * p))) ≡ callerOk b p
-  unfolding queueIn callerOk
-  caller-parts =
+  processor-parts : (early && late (piece b (7 + 17 * p))) ≡ processorOk b p
+  unfolding queueIn processorOk
+  processor-parts =
       let o = 7 + 17 * p in
       let f = piece b o in
       let s = sizesOf (queueIn b) in
       rw (number-at b o 0, sym (levels-same f 9 (getD b 2 0) (getD b 1 0 + 1) few))
       (swap (leb (number f 0) (number32 b 3) && allAtMost (eightFrom f 9) (getD b 2 0)
-      (getD b 1 0 + 1)) (callerTaken f) _
-      ∙ ap (λ (t : Bool). t && processorValid s (callerFrom f)) (sym caller-taken)
-      ∙ ap (λ (c : Processor). readProcessor (callerPart b p) .ok && processorValid s c)
-      (sym (caller-is b p many low)))
+      (getD b 1 0 + 1)) (processorTaken f) _
+      ∙ ap (λ (t : Bool). t && processorValid s (processorFrom f)) (sym processor-taken)
+      ∙ ap (λ (c : Processor). readProcessor (processorPart b p) .ok && processorValid s c)
+      (sym (processor-is b p many low)))
 
-  caller-early : early ≡ false → false ≡ callerOk b p
-  caller-early h =
-      sym (ap (λ (t : Bool). t && late (piece b (7 + 17 * p))) h) ∙ caller-parts
+  processor-early : early ≡ false → false ≡ processorOk b p
+  processor-early h =
+      sym (ap (λ (t : Bool). t && late (piece b (7 + 17 * p))) h) ∙ processor-parts
 
   -- a begin time past the clock, and saved nodes past the tail
-  pub caller-begun :
-      {v w : ℕ} → v ≡ number32 b 3 → w ≡ number32 b (7 + 17 * p + 0) → v < w → false ≡ callerOk b p
-  caller-begun e f h =
-      caller-early (ap (λ (t : Bool). t && saved)
+  pub processor-begun :
+      {v w : ℕ} → v ≡ number32 b 3 → w ≡ number32 b (7 + 17 * p + 0) → v < w → false ≡ processorOk b p
+  processor-begun e f h =
+      processor-early (ap (λ (t : Bool). t && saved)
       (lt-leb (number32 b (7 + 17 * p + 0)) (number32 b 3) (rw (sym e, sym f) h)))
 
-  pub caller-saved : {t : Bool} → t ≡ saved → t ≡ false → false ≡ callerOk b p
-  caller-saved e h =
-      caller-early (ap (λ (t : Bool). leb (number32 b (7 + 17 * p + 0)) (number32 b 3) && t)
+  pub processor-saved : {t : Bool} → t ≡ saved → t ≡ false → false ≡ processorOk b p
+  processor-saved e h =
+      processor-early (ap (λ (t : Bool). leb (number32 b (7 + 17 * p + 0)) (number32 b 3) && t)
       (sym e ∙ h) ∙ and-false (leb (number32 b (7 + 17 * p + 0)) (number32 b 3)))
 
-  pub caller-past : 26 < getD b (7 + 17 * p + 5) 0 → false ≡ callerOk b p
-  unfolding callerOk
-  caller-past h =
+  pub processor-past : 26 < getD b (7 + 17 * p + 5) 0 → false ≡ processorOk b p
+  unfolding processorOk
+  processor-past h =
       let f = piece b (7 + 17 * p) in
       sym (ap (λ (t : Bool). t && processorValid (sizesOf (queueIn b)) (processorAt (queueIn b) p))
-      (caller-taken ∙ tag-past (f 5) (f 6) (f 7) (f 8) h))
+      (processor-taken ∙ tag-past (f 5) (f 6) (f 7) (f 8) h))
 
-  pub caller-tests :
+  pub processor-tests :
       {v w : ℕ} {t : Bool} → v ≡ number32 b 3 → w ≡ number32 b (7 + 17 * p + 0) → w ≤ v →
       t ≡ saved → t ≡ true → getD b (7 + 17 * p + 5) 0 < 27 →
       inBounds (rowAt (getD b (7 + 17 * p + 5) 0)) (getD b (7 + 17 * p + 6) 0)
       (getD b (7 + 17 * p + 7) 0) (getD b (7 + 17 * p + 8) 0) (getD b (7 + 17 * p + 4) 0)
       (getD b 1 0) (getD b 2 0)
-      ≡ callerOk b p
+      ≡ processorOk b p
   unfolding queueIn
-  caller-tests e f h g k low =
+  processor-tests e f h g k low =
       let f′ = piece b (7 + 17 * p) in
       let begun = le-leb (number32 b (7 + 17 * p + 0)) (number32 b 3) (rw (sym e, sym f) h) in
       sym (stage-tests (f′ 5) low (sizesOf (queueIn b)) (f′ 6) (f′ 7) (f′ 8) (f′ 4) tall)
       ∙ sym (ap (λ (t : Bool). t && late f′) (and-both _ saved begun (sym g ∙ k)))
-      ∙ caller-parts
+      ∙ processor-parts
 
 -- all bytes
 every-both : (f g : ℕ → Bool) (n : ℕ) → everyBelow (λ k. f k && g k) n
@@ -231,12 +231,12 @@ module _ (b : List ℕ) where
       every-both (λ x. readNode (nodePart b x) .ok)
       (λ x. nodeValid (sizesOf (queueIn b)) x (nodeAt (queueIn b) x)) (getD b 1 0 + 2)
 
-  callers-every : everyBelow (callerOk b) (getD b 0 0)
-      ≡ (allBelow (λ p. readProcessor (callerPart b p) .ok) (getD b 0 0) && everyBelow
+  processors-every : everyBelow (processorOk b) (getD b 0 0)
+      ≡ (allBelow (λ p. readProcessor (processorPart b p) .ok) (getD b 0 0) && everyBelow
       (λ p. processorValid (sizesOf (queueIn b)) (processorAt (queueIn b) p)) (getD b 0 0))
-  unfolding callerOk allBelow
-  callers-every =
-      every-both (λ p. readProcessor (callerPart b p) .ok)
+  unfolding processorOk allBelow
+  processors-every =
+      every-both (λ p. readProcessor (processorPart b p) .ok)
       (λ p. processorValid (sizesOf (queueIn b)) (processorAt (queueIn b) p)) (getD b 0 0)
 
   pub misfit : (length b ≡ lengthOf b → ⊥) → false ≡ passesOf b
@@ -251,7 +251,7 @@ module _ (b : List ℕ) where
   pub all-tests : true ≡ sizesValid (sizes (getD b 0 0) (getD b 1 0) (getD b 2 0) (number32 b 3)) →
       length b ≡ lengthOf b →
       getD b 0 0 ≤ 16 → getD b 1 0 ≤ 200 →
-      (everyBelow (callerOk b) (getD b 0 0) && everyBelow (nodeOk b) (getD b 1 0 + 2)) ≡ passesOf b
+      (everyBelow (processorOk b) (getD b 0 0) && everyBelow (nodeOk b) (getD b 1 0 + 2)) ≡ passesOf b
   unfolding passesOf isImage queueIn
   all-tests h long few short =
       rw (
@@ -261,9 +261,9 @@ module _ (b : List ℕ) where
         le-leb
             (getD b 1 0 + 2) 202 (omega arith),
         nodes-every,
-        callers-every,
+        processors-every,
       ) (mix
-      (allBelow (λ p. readProcessor (callerPart b p) .ok) (getD b 0 0))
+      (allBelow (λ p. readProcessor (processorPart b p) .ok) (getD b 0 0))
       (everyBelow (λ p. processorValid (sizesOf (queueIn b)) (processorAt (queueIn b) p))
       (getD b 0 0))
       (allBelow (λ x. readNode (nodePart b x) .ok) (getD b 1 0 + 2))

@@ -5,7 +5,7 @@ use Prim.Native.Nat.{ℕ, _<_}
 use native.Mathlib.Omega.{arith}
 use lib.Dec.{eqb, leb}
 use borrow.Author.Tests.{eqb-true, eqb-false, le-leb, lt-leb}
-use Rattle.checks.specs.Check.{stampValid, useValid}
+use Rattle.record_check.specs.Check.{stampValid, useValid}
 use Rattle.image.specs.Tags.{timed, timedSame, stampOf, stampTimed, stampTaken, useOf, useTimed}
 use Rattle.image.specs.Tags.{useTaken}
 use Rattle.record.specs.declared.nodes.Stamp.the-variants as stamp

@@ -6,13 +6,13 @@ use Prim.Native.Nat.{ℕ, _+_}
 use lib.Dec.{leb}
 use lib.ListN.{getD}
 use Rattle.laws.specs.Every.{everyBelow}
-use Rattle.checks.specs.declared.check.Sizes.{Sizes}
-use Rattle.checks.specs.Check.{within, sizesOf, nodeValid, processorValid}
+use Rattle.record_check.specs.declared.check.Sizes.{Sizes}
+use Rattle.record_check.specs.Check.{within, sizesOf, nodeValid, processorValid}
 use Rattle.image.specs.Numbers.{number32}
 use Rattle.image.specs.Puts.{piece}
 use Rattle.image.specs.Pieces.{readNode, readProcessor}
 use Rattle.record.specs.Queues.{nodeAt, processorAt}
-use Rattle.image.specs.Image.{callerPart, nodePart, queueIn}
+use Rattle.image.specs.Image.{processorPart, nodePart, queueIn}
 
 -- the links of the node at o, and its node lock
 abbrev pub linksTest : List ℕ → ℕ → ℕ → ℕ → ℕ → Bool
@@ -30,12 +30,12 @@ entryTest b o l clock =
     && within (getD b (o + 35) 0) l
 
 abbrev pub sizes : ℕ → ℕ → ℕ → ℕ → Sizes
-sizes p n l clock = record { processors = p; entries = n; levels = l; clock = clock }
+sizes p n l clock = record { processorCount = p; nodeCount = n; levelCount = l; clock = clock }
 
 unfoldable pub nodeOk : List ℕ → ℕ → Bool
 nodeOk b x = readNode (nodePart b x) .ok && nodeValid (sizesOf (queueIn b)) x (nodeAt (queueIn b) x)
 
-unfoldable pub callerOk : List ℕ → ℕ → Bool
-callerOk b p =
-    readProcessor (callerPart b p) .ok
+unfoldable pub processorOk : List ℕ → ℕ → Bool
+processorOk b p =
+    readProcessor (processorPart b p) .ok
     && processorValid (sizesOf (queueIn b)) (processorAt (queueIn b) p)

@@ -4,9 +4,12 @@ ghost use mathlib.Core.Bool.{cond};
 ghost use Prim.Native.Nat.{ℕ, _≤_};
 ghost use lib.ListN.{getD};
 ghost use Rattle.laws.specs.HowMany.{howMany};
-ghost use Rattle.checks.specs.Backlog.{pendingAt};
+ghost use Rattle.record_check.specs.Backlog.{pendingAt};
 ghost use Rattle.image.specs.Image.{queueIn, Sound};
 ghost use Rattle.image_check.specs.Pending.{pendingBytes};
+use image::layout::HEADER;
+use image::layout::NODE_BYTES;
+use image::layout::PROCESSOR_BYTES;
 use record::levels::both;
 
 // 1 for a node that is counted, and 0 for any other.
@@ -26,13 +29,13 @@ pub fn pending(image: &[u8]) -> u8
     ensures { λ r.
         ⌜ r ≡ howMany (pendingAt (queueIn (now (image .entry)))) (getD (now (image .entry)) 1 0) ⌝ }
 {
-    let base = 7 + 17 * (image[0] as usize);
+    let base = HEADER + PROCESSOR_BYTES * (image[0] as usize);
     let end = image[1] as usize;
     let mut count: u8 = 0;
     let mut i: usize = 0;
     while i < end {
         i = i + 1;
-        let o = base + 41 * i;
+        let o = base + NODE_BYTES * i;
         count = count + counted(image[o + 36], image[o + 18], image[o + 17]);
     }
     count

@@ -5,7 +5,7 @@ ghost use Prim.Native.Nat.{ℕ, _+_, _≤_};
 ghost use lib.Dec.{leb};
 ghost use lib.ListN.{length};
 ghost use Rattle.laws.specs.Every.{everyBelow};
-ghost use Rattle.checks.specs.Check.{within, stampValid, useValid};
+ghost use Rattle.record_check.specs.Check.{within, stampValid, useValid};
 ghost use Rattle.image.specs.Tags.{timed, stampOf, stampTaken, useOf, useTaken};
 ghost use Rattle.image.specs.Puts.{piece};
 use record::levels::both;

@@ -1,7 +1,7 @@
-pub mod callers;
 pub mod counting;
 pub mod levels;
 pub mod nodes;
+pub mod processors;
 pub mod tags;
 pub mod whole;
 

@@ -10,8 +10,12 @@ use crate::levels::is_within;
 use crate::levels::levels_low;
 use crate::levels::stamp_passes;
 use crate::levels::use_passes;
+use image::layout::HEADER;
+use image::layout::NODE_BYTES;
+use image::layout::PROCESSOR_BYTES;
 use image::numbers::number_from;
 use record::levels::both;
+use record::limits::MAX_NUMBER;
 
 // The links of the node at o, and its node lock.
 fn links_pass(b: &[u8], o: usize, p: u8, n: u8, l: usize) -> bool
@@ -28,8 +32,8 @@ fn entry_passes(b: &[u8], o: usize, l: usize, clock: u32) -> bool
     ensures { λ r. ⌜ r ≡ entryTest (now (b .entry)) o l clock ⌝ }
 {
     let low = both(
-        number_from(b, o + 23) <= 999999,
-        number_from(b, o + 31) <= 999999,
+        number_from(b, o + 23) <= MAX_NUMBER,
+        number_from(b, o + 31) <= MAX_NUMBER,
     );
     let old = both(low, number_from(b, o + 27) <= clock);
     both(old, is_within(b[o + 35] as usize, l))
@@ -46,7 +50,7 @@ pub(crate) fn node_passes(b: &[u8], x: usize) -> bool
     let n = b[1];
     let l = b[2] as usize;
     let clock = number_from(b, 3);
-    let o = 7 + 17 * (p as usize) + 41 * x;
+    let o = HEADER + PROCESSOR_BYTES * (p as usize) + NODE_BYTES * x;
     if !links_pass(b, o, p, n, l) {
         return false;
     }

@@ -25,17 +25,18 @@ use Rattle.image.specs.Numbers.{number32}
 use Rattle.image.specs.Pieces.{processorImage}
 use Rattle.rules.specs.declared.answers.Answer.{Answer}
 use Rattle.rules.specs.declared.answers.Answer.the-variants as ans
+use Rattle.rules.specs.declared.answers.Deed.the-variants as deed
 use Rattle.rules.specs.declared.decisions.Effect.the-variants as eff
-use Rattle.rules.specs.Calls.{nextOf, sightOf}
+use Rattle.rules.specs.Calls.{nextOf, stepViewOf}
 use Rattle.rules.specs.Decide.{moved, waits, answers, removing}
 use Rattle.image.specs.Puts.{puts, four, piece, clears, rests}
 use Rattle.image.specs.Image.{queueIn}
 use Rattle.image_parts.specs.Given.{Stepped}
-use Rattle.image.proofs.Fields.{number, nodeFrom, node-is, caller-is, eight-at, number-at}
+use Rattle.image.proofs.Fields.{number, nodeFrom, node-is, processor-is, eight-at, number-at}
 use Rattle.image_parts.specs.Ready.{Placed, Owned, Walked}
 use Rattle.image_parts.proofs.Pieces.{moves, put-forward, put-lock, put-holder, put-mark}
 use Rattle.image_parts.proofs.Pieces.{put-retired, put-idle}
-use Rattle.rules.specs.declared.decisions.Carry.the-variants as carry
+use Rattle.rules.specs.declared.decisions.ProcessorChange.the-variants as change
 use Rattle.image.proofs.Sizes.{sized-in}
 use Rattle.image_parts.proofs.Readings.{mine, arm, clock-is, levels-is, clears-below, own-is}
 use Rattle.image_parts.proofs.Readings.{mine-is, own-low, entryIn, entry-is}
@@ -46,12 +47,12 @@ deliver r = removing jobs.Deliver r
 
 -- what the stages of a removal read besides
 module _ (b : List ℕ) (base p tag : ℕ) (r : Placed b base p tag) where
-  latch-is : lockAt (nodeAt (queueIn b) (processorAt (queueIn b) p .own)) (mine b p 7)
+  own-lock-is : lockAt (nodeAt (queueIn b) (processorAt (queueIn b) p .own)) (mine b p 7)
       ≡ getD b (base + 41 * mine b p 4 + (8 + (mine b p 7 - 1))) 0
-  latch-is =
+  own-lock-is =
       let k = mine b p 7 - 1 in
       ap (λ (x : ℕ). lockAt (nodeAt (queueIn b) x) (mine b p 7)) (own-is b base p tag r)
-      ∙ ap (λ (n : Node). getD (n .locks) k 0)
+      ∙ ap (λ (n : Node). getD (n .levelLocks) k 0)
       (node-is b base (r .start) (r .entries-high) (mine b p 4)
       (omega (arith, r .own-high, r .entries-high)))
       ∙ eight-at (piece b (base + 41 * mine b p 4)) 8 k (omega (arith, r .level-low, r .level-high))
@@ -72,7 +73,7 @@ module _ (b : List ℕ) (base p tag : ℕ) (r : Placed b base p tag) where
       ≡ mine b p (9 + (mine b p 7 - 1 - 1))
   down-is =
       ap (λ (c : Processor). getD (c .saved) (mine b p 7 - 1 - 1) 0)
-      (caller-is b p (r .processors-high) (r .low))
+      (processor-is b p (r .processors-high) (r .low))
       ∙ eight-at (piece b (7 + 17 * p)) 9 (mine b p 7 - 1 - 1)
       (omega (arith, r .level-low, r .level-high))
 
@@ -84,18 +85,18 @@ module _ (b : List ℕ) (base p tag : ℕ) (r : Owned b base p tag) where
       ∙ ap (λ (n : Node). n .height)
       (node-is b base (r .start) (r .entries-high) (mine b p 4) (own-low b base p tag r))
 
-  holder-is : nodeAt (queueIn b) (processorAt (queueIn b) p .own) .lock
+  holder-is : nodeAt (queueIn b) (processorAt (queueIn b) p .own) .nodeLock
       ≡ getD b (base + 41 * mine b p 4 + 16) 0
   holder-is =
-      ap (λ (x : ℕ). nodeAt (queueIn b) x .lock) (mine-is b base p tag r)
-      ∙ ap (λ (n : Node). n .lock)
+      ap (λ (x : ℕ). nodeAt (queueIn b) x .nodeLock) (mine-is b base p tag r)
+      ∙ ap (λ (n : Node). n .nodeLock)
       (node-is b base (r .start) (r .entries-high) (mine b p 4) (own-low b base p tag r))
 
   top-is : savedAt (processorAt (queueIn b) p) (getD b (base + 41 * mine b p 4 + 35) 0)
       ≡ mine b p (9 + (getD b (base + 41 * mine b p 4 + 35) 0 - 1))
   top-is =
       let k = getD b (base + 41 * mine b p 4 + 35) 0 - 1 in
-      ap (λ (c : Processor). getD (c .saved) k 0) (caller-is b p (r .processors-high) (r .low))
+      ap (λ (c : Processor). getD (c .saved) k 0) (processor-is b p (r .processors-high) (r .low))
       ∙ eight-at (piece b (7 + 17 * p)) 9 k (omega (arith, r .height-low, r .height-high))
 
 stamped-cases : (t u g : ℕ) → stampedBefore (stampOf (timed t u)) g ≡ cond (eqb t 1) (ltb u g) false
@@ -119,7 +120,7 @@ module _ (b : List ℕ) (base p tag : ℕ) (r : Walked b base p tag) where
       ap (λ (n : Node). stampedBefore (n .stamp) (processorAt (queueIn b) p .begin))
       (node-is b base (r .start) (r .entries-high) (mine b p 6) (omega (arith, r .node-low)))
       ∙ ap (λ (c : Processor). stampedBefore (nodeFrom (piece b (base + 41 * mine b p 6)) .stamp)
-      (c .begin)) (caller-is b p (r .processors-high) (r .low))
+      (c .begin)) (processor-is b p (r .processors-high) (r .low))
       ∙ stamped-cases (getD b (base + 41 * mine b p 6 + 18) 0)
       (number (piece b (base + 41 * mine b p 6)) 19) (number (piece b (7 + 17 * p)) 0)
       ∙ rw (number-at b (base + 41 * mine b p 6) 19, number-at b (7 + 17 * p) 0) refl
@@ -129,7 +130,7 @@ module _ (b : List ℕ) (base p tag : ℕ) (r : Walked b base p tag) where
       ap (λ (n : Node). n .mark)
       (node-is b base (r .start) (r .entries-high) (mine b p 6) (omega (arith, r .node-low)))
 
-entries-is : (b : List ℕ) → queueIn b .entries ≡ getD b 1 0
+entries-is : (b : List ℕ) → queueIn b .nodeCount ≡ getD b 1 0
 unfolding queueIn
 entries-is b = refl
 
@@ -145,9 +146,9 @@ module _ (b : List ℕ) (base p : ℕ) (r : Walked b base p 11) (after : List �
       let q = queueIn b in
       let c = processorAt q p in
       let a = place (mine b p 6) (mine b p 7) in
-      let s = sightOf q c (place (mine b p 6) 1) in
+      let s = stepViewOf q c (place (mine b p 6) 1) in
       arm b base p 11 (r .sound) (r .start) (r .entries-high) (r .processors-high) (r .low)
-      (r .few) (r .early) (r .tagged) (stage.Delete (del.Next a)) refl refl
+      (r .few) (r .early) (r .tagged) (stage.Delete (del.ReadNext a)) refl refl
       (answers eff.Keep ans.Empty) (rw (after-is b base p 11 r, entries-is b, eq-eqb _ _ h) refl)
       ([]) (clears (getD b 2 0) ++ rests) (omega arith) tt
       (clears-below (getD b 2 0) rests (r .levels-high) (
@@ -164,7 +165,7 @@ module _ (b : List ℕ) (base p : ℕ) (r : Walked b base p 11) (after : List �
         ),
       ))
       (refl) (rw (levels-is b)
-      (put-idle (moves c (stage.Delete (del.Next a)) (c .saved)) (getD b 2 0)
+      (put-idle (moves c (stage.Delete (del.ReadNext a)) (c .saved)) (getD b 2 0)
       (sized-in b .saved-long p (r .few)))) after e answer f
 
   pub walks-on :
@@ -178,11 +179,11 @@ module _ (b : List ℕ) (base p : ℕ) (r : Walked b base p 11) (after : List �
       let q = queueIn b in
       let c = processorAt q p in
       let a = place (mine b p 6) (mine b p 7) in
-      let s = sightOf q c (place (mine b p 6) 1) in
+      let s = stepViewOf q c (place (mine b p 6) 1) in
       arm b base p 11 (r .sound) (r .start) (r .entries-high) (r .processors-high) (r .low)
-      (r .few) (r .early) (r .tagged) (stage.Delete (del.Next a)) refl refl
+      (r .few) (r .early) (r .tagged) (stage.Delete (del.ReadNext a)) refl refl
       (moved s eff.Keep
-      (stage.Delete (del.Stamped (place (getD b (base + 41 * mine b p 6 + 0) 0) 1))))
+      (stage.Delete (del.TestStamp (place (getD b (base + 41 * mine b p 6 + 0) 0) 1))))
       (rw (after-is b base p 11 r, entries-is b, ne-eqb _ _ h) refl)
       ([]) ((5, 12) ∷ (6, getD b (base + 41 * mine b p 6 + 0) 0) ∷ (7, 1) ∷ []) (omega arith) tt
       (omega arith, (omega arith, (omega arith, tt)))
@@ -200,10 +201,10 @@ module _ (b : List ℕ) (base p : ℕ) (r : Walked b base p 12) (after : List �
       let q = queueIn b in
       let c = processorAt q p in
       let a = place (mine b p 6) (mine b p 7) in
-      let s = sightOf q c (place (mine b p 6) 1) in
+      let s = stepViewOf q c (place (mine b p 6) 1) in
       arm b base p 12 (r .sound) (r .start) (r .entries-high) (r .processors-high) (r .low)
-      (r .few) (r .early) (r .tagged) (stage.Delete (del.Stamped a)) refl refl
-      (moved s eff.Keep (stage.Delete (del.Next a)))
+      (r .few) (r .early) (r .tagged) (stage.Delete (del.TestStamp a)) refl refl
+      (moved s eff.Keep (stage.Delete (del.ReadNext a)))
       (rw (stamped-is b base p 12 r, ne-eqb _ _ h) refl)
       ([]) ((5, 11) ∷ []) (omega arith) tt (omega arith, tt)
       (refl) (refl) after e answer f
@@ -219,10 +220,10 @@ module _ (b : List ℕ) (base p : ℕ) (r : Walked b base p 12) (after : List �
       let q = queueIn b in
       let c = processorAt q p in
       let a = place (mine b p 6) (mine b p 7) in
-      let s = sightOf q c (place (mine b p 6) 1) in
+      let s = stepViewOf q c (place (mine b p 6) 1) in
       arm b base p 12 (r .sound) (r .start) (r .entries-high) (r .processors-high) (r .low)
-      (r .few) (r .early) (r .tagged) (stage.Delete (del.Stamped a)) refl refl
-      (moved s eff.Keep (stage.Delete (del.Next a)))
+      (r .few) (r .early) (r .tagged) (stage.Delete (del.TestStamp a)) refl refl
+      (moved s eff.Keep (stage.Delete (del.ReadNext a)))
       (rw (stamped-is b base p 12 r, eq-eqb _ _ h, le-ltb _ _ l) refl)
       ([]) ((5, 11) ∷ []) (omega arith) tt (omega arith, tt)
       (refl) (refl) after e answer f
@@ -238,10 +239,10 @@ module _ (b : List ℕ) (base p : ℕ) (r : Walked b base p 12) (after : List �
       let q = queueIn b in
       let c = processorAt q p in
       let a = place (mine b p 6) (mine b p 7) in
-      let s = sightOf q c (place (mine b p 6) 1) in
+      let s = stepViewOf q c (place (mine b p 6) 1) in
       arm b base p 12 (r .sound) (r .start) (r .entries-high) (r .processors-high) (r .low)
-      (r .few) (r .early) (r .tagged) (stage.Delete (del.Stamped a)) refl refl
-      (moved s eff.Keep (stage.Delete (del.Mark a)))
+      (r .few) (r .early) (r .tagged) (stage.Delete (del.TestStamp a)) refl refl
+      (moved s eff.Keep (stage.Delete (del.SetMark a)))
       (rw (stamped-is b base p 12 r, eq-eqb _ _ h, lt-ltb _ _ l) refl)
       ([]) ((5, 13) ∷ []) (omega arith) tt (omega arith, tt)
       (refl) (refl) after e answer f
@@ -258,10 +259,10 @@ module _ (b : List ℕ) (base p : ℕ) (r : Walked b base p 13) (after : List �
       let q = queueIn b in
       let c = processorAt q p in
       let a = place (mine b p 6) (mine b p 7) in
-      let s = sightOf q c (place (mine b p 6) 1) in
+      let s = stepViewOf q c (place (mine b p 6) 1) in
       arm b base p 13 (r .sound) (r .start) (r .entries-high) (r .processors-high) (r .low)
-      (r .few) (r .early) (r .tagged) (stage.Delete (del.Mark a)) refl refl
-      (moved s eff.Keep (stage.Delete (del.Next a)))
+      (r .few) (r .early) (r .tagged) (stage.Delete (del.SetMark a)) refl refl
+      (moved s eff.Keep (stage.Delete (del.ReadNext a)))
       (rw (marked-is b base p 13 r, eq-eqb _ _ h) refl)
       ([]) ((5, 11) ∷ []) (omega arith) tt (omega arith, tt)
       (refl) (refl) after e answer f
@@ -271,24 +272,24 @@ module _ (b : List ℕ) (base p : ℕ) (r : Walked b base p 13) (after : List �
       after ≡ puts
       (puts (puts b 0 (four 3 (number32 b 3 + 1))) (base + 41 * mine b p 6) ((17, 1) ∷ []))
       (7 + 17 * p) ((4, mine b p 6) ∷ (5, 14) ∷ (6, 0) ∷ (7, getD b 2 0) ∷ []) →
-      answer ≡ ans.Marked (entryIn b (base + 41 * mine b p 6)) →
+      answer ≡ ans.Did deed.Marked (entryIn b (base + 41 * mine b p 6)) →
       Stepped b p after answer
   unfolding processorImage
   marks h e f =
       let q = queueIn b in
       let c = processorAt q p in
       let a = place (mine b p 6) (mine b p 7) in
-      let s = sightOf q c (place (mine b p 6) 1) in
+      let s = stepViewOf q c (place (mine b p 6) 1) in
       arm b base p 13 (r .sound) (r .start) (r .entries-high) (r .processors-high) (r .low)
-      (r .few) (r .early) (r .tagged) (stage.Delete (del.Mark a)) refl refl
+      (r .few) (r .early) (r .tagged) (stage.Delete (del.SetMark a)) refl refl
       (record {
         effect = eff.Mark (mine b p 6);
         stage =
             deliver (rem.Search (place 0 (getD b 2 0)));
         own = mine b p 6;
-        carry =
-            carry.Keep;
-        answer = ans.Marked (entryIn b (base + 41 * mine b p 6));
+        change =
+            change.Keep;
+        answer = ans.Did deed.Marked (entryIn b (base + 41 * mine b p 6));
       })
       (rw (
         marked-is b base p 13 r,
@@ -317,7 +318,7 @@ module _ (b : List ℕ) (base p : ℕ) (r : Owned b base p 15) (after : List ℕ
   holds-node h e f =
       let q = queueIn b in
       let c = processorAt q p in
-      let s = sightOf q c (place 0 1) in
+      let s = stepViewOf q c (place 0 1) in
       arm b base p 15 (r .sound) (r .start) (r .entries-high) (r .processors-high) (r .low)
       (r .few) (r .early) (r .tagged) (deliver (rem.HoldNode)) refl refl
       (moved s (eff.HoldNode (mine b p 4))
@@ -348,7 +349,7 @@ module _ (b : List ℕ) (base p : ℕ) (r : Owned b base p 15) (after : List ℕ
   node-waits h e f =
       let q = queueIn b in
       let c = processorAt q p in
-      let s = sightOf q c (place 0 1) in
+      let s = stepViewOf q c (place 0 1) in
       arm b base p 15 (r .sound) (r .start) (r .entries-high) (r .processors-high) (r .low)
       (r .few) (r .early) (r .tagged) (deliver (rem.HoldNode)) refl refl
       (waits s (deliver (rem.HoldNode))) (rw (holder-is b base p 15 r, ne-eqb _ _ h) refl)
@@ -370,15 +371,15 @@ module _ (b : List ℕ) (base p : ℕ) (r : Placed b base p 20) (after : List �
       let c = processorAt q p in
       let a = place (mine b p 6) (mine b p 7) in
       let k = mine b p 7 - 1 in
-      let s = sightOf q c a in
+      let s = stepViewOf q c a in
       let k< : k < 8 = omega (arith, r .level-high, r .level-low) in
       arm b base p 20 (r .sound) (r .start) (r .entries-high) (r .processors-high) (r .low)
       (r .few) (r .early) (r .tagged) (deliver (rem.HoldOwn a)) refl refl
       (moved s (eff.HoldLevel (place (mine b p 4) (mine b p 7))) (deliver (rem.Unlink a)))
-      (rw (latch-is b base p 20 r, eq-eqb _ 0 h, own-is b base p 20 r) refl)
+      (rw (own-lock-is b base p 20 r, eq-eqb _ 0 h, own-is b base p 20 r) refl)
       ((8 + k, p + 1) ∷ []) ((5, 21) ∷ []) (omega (arith, r .own-high, r .entries-high))
       (omega arith, tt) (omega arith, tt)
-      (put-lock (nodeAt q (mine b p 4)) (mine b p 7) (p + 1) k<
+      (put-lock (nodeAt q (mine b p 4)) (mine b p 7 - 1) (p + 1) [] k<
       (sized-in b .locks-long (mine b p 4) (omega (arith, r .own-high, r .entries-high))))
       (refl) after e answer f
 
@@ -393,11 +394,11 @@ module _ (b : List ℕ) (base p : ℕ) (r : Placed b base p 20) (after : List �
       let c = processorAt q p in
       let a = place (mine b p 6) (mine b p 7) in
       let k = mine b p 7 - 1 in
-      let s = sightOf q c a in
+      let s = stepViewOf q c a in
       let k< : k < 8 = omega (arith, r .level-high, r .level-low) in
       arm b base p 20 (r .sound) (r .start) (r .entries-high) (r .processors-high) (r .low)
       (r .few) (r .early) (r .tagged) (deliver (rem.HoldOwn a)) refl refl
-      (waits s (deliver (rem.HoldOwn a))) (rw (latch-is b base p 20 r, ne-eqb _ 0 h) refl)
+      (waits s (deliver (rem.HoldOwn a))) (rw (own-lock-is b base p 20 r, ne-eqb _ 0 h) refl)
       ([]) ([]) (omega arith) tt tt
       (refl) (refl) after e answer f
 
@@ -416,16 +417,16 @@ module _ (b : List ℕ) (base p : ℕ) (r : Placed b base p 21) (after : List �
       let c = processorAt q p in
       let a = place (mine b p 6) (mine b p 7) in
       let k = mine b p 7 - 1 in
-      let s = sightOf q c a in
+      let s = stepViewOf q c a in
       let k< : k < 8 = omega (arith, r .level-high, r .level-low) in
       arm b base p 21 (r .sound) (r .start) (r .entries-high) (r .processors-high) (r .low)
       (r .few) (r .early) (r .tagged) (deliver (rem.Unlink a)) refl refl
-      (moved s (eff.Lead a (getD b (base + 41 * mine b p 4 + (mine b p 7 - 1)) 0))
-      (deliver (rem.Back a))) (rw (onward-is b base p 21 r) refl)
+      (moved s (eff.SetForward a (getD b (base + 41 * mine b p 4 + (mine b p 7 - 1)) 0))
+      (deliver (rem.LeadBack a))) (rw (onward-is b base p 21 r) refl)
       ((k, getD b (base + 41 * mine b p 4 + (mine b p 7 - 1)) 0) ∷ []) ((5, 22) ∷ [])
       (omega (arith, r .node-low)) (omega arith, tt) (omega arith, tt)
-      (put-forward (nodeAt q (mine b p 6)) (mine b p 7)
-      (getD b (base + 41 * mine b p 4 + (mine b p 7 - 1)) 0) k<
+      (put-forward (nodeAt q (mine b p 6)) (mine b p 7 - 1)
+      (getD b (base + 41 * mine b p 4 + (mine b p 7 - 1)) 0) [] k<
       (sized-in b .forward-long (mine b p 6) (omega (arith, r .node-low)))) (refl) after e
       answer f
 
@@ -443,15 +444,15 @@ module _ (b : List ℕ) (base p : ℕ) (r : Placed b base p 22) (after : List �
       let c = processorAt q p in
       let a = place (mine b p 6) (mine b p 7) in
       let k = mine b p 7 - 1 in
-      let s = sightOf q c a in
+      let s = stepViewOf q c a in
       let k< : k < 8 = omega (arith, r .level-high, r .level-low) in
       arm b base p 22 (r .sound) (r .start) (r .entries-high) (r .processors-high) (r .low)
-      (r .few) (r .early) (r .tagged) (deliver (rem.Back a)) refl refl
-      (moved s (eff.Lead (place (mine b p 4) (mine b p 7)) (mine b p 6))
+      (r .few) (r .early) (r .tagged) (deliver (rem.LeadBack a)) refl refl
+      (moved s (eff.SetForward (place (mine b p 4) (mine b p 7)) (mine b p 6))
       (deliver (rem.FreeOwn a))) (rw (own-is b base p 22 r) refl)
       ((k, mine b p 6) ∷ []) ((5, 23) ∷ []) (omega (arith, r .own-high, r .entries-high))
       (omega arith, tt) (omega arith, tt)
-      (put-forward (nodeAt q (mine b p 4)) (mine b p 7) (mine b p 6) k<
+      (put-forward (nodeAt q (mine b p 4)) (mine b p 7 - 1) (mine b p 6) [] k<
       (sized-in b .forward-long (mine b p 4) (omega (arith, r .own-high, r .entries-high))))
       (refl) after e answer f
 
@@ -469,7 +470,7 @@ module _ (b : List ℕ) (base p : ℕ) (r : Placed b base p 23) (after : List �
       let c = processorAt q p in
       let a = place (mine b p 6) (mine b p 7) in
       let k = mine b p 7 - 1 in
-      let s = sightOf q c a in
+      let s = stepViewOf q c a in
       let k< : k < 8 = omega (arith, r .level-high, r .level-low) in
       arm b base p 23 (r .sound) (r .start) (r .entries-high) (r .processors-high) (r .low)
       (r .few) (r .early) (r .tagged) (deliver (rem.FreeOwn a)) refl refl
@@ -477,7 +478,7 @@ module _ (b : List ℕ) (base p : ℕ) (r : Placed b base p 23) (after : List �
       (rw (own-is b base p 23 r) refl)
       ((8 + k, 0) ∷ []) ((5, 24) ∷ []) (omega (arith, r .own-high, r .entries-high))
       (omega arith, tt) (omega arith, tt)
-      (put-lock (nodeAt q (mine b p 4)) (mine b p 7) 0 k<
+      (put-lock (nodeAt q (mine b p 4)) (mine b p 7 - 1) 0 [] k<
       (sized-in b .locks-long (mine b p 4) (omega (arith, r .own-high, r .entries-high))))
       (refl) after e answer f
 
@@ -496,14 +497,14 @@ module _ (b : List ℕ) (base p : ℕ) (r : Placed b base p 24) (after : List �
       let c = processorAt q p in
       let a = place (mine b p 6) (mine b p 7) in
       let k = mine b p 7 - 1 in
-      let s = sightOf q c a in
+      let s = stepViewOf q c a in
       let k< : k < 8 = omega (arith, r .level-high, r .level-low) in
       arm b base p 24 (r .sound) (r .start) (r .entries-high) (r .processors-high) (r .low)
       (r .few) (r .early) (r .tagged) (deliver (rem.FreeLevel a)) refl refl
       (moved s (eff.FreeLevel a) (deliver (rem.FreeNode))) (rw (le-leb _ _ h) refl)
       ((8 + k, 0) ∷ []) ((5, 25) ∷ (6, 0) ∷ (7, 0) ∷ []) (omega (arith, r .node-low))
       (omega arith, tt) (omega arith, (omega arith, (omega arith, tt)))
-      (put-lock (nodeAt q (mine b p 6)) (mine b p 7) 0 k<
+      (put-lock (nodeAt q (mine b p 6)) (mine b p 7 - 1) 0 [] k<
       (sized-in b .locks-long (mine b p 6) (omega (arith, r .node-low)))) (refl) after e answer
       f
 
@@ -521,7 +522,7 @@ module _ (b : List ℕ) (base p : ℕ) (r : Placed b base p 24) (after : List �
       let c = processorAt q p in
       let a = place (mine b p 6) (mine b p 7) in
       let k = mine b p 7 - 1 in
-      let s = sightOf q c a in
+      let s = stepViewOf q c a in
       let k< : k < 8 = omega (arith, r .level-high, r .level-low) in
       arm b base p 24 (r .sound) (r .start) (r .entries-high) (r .processors-high) (r .low)
       (r .few) (r .early) (r .tagged) (deliver (rem.FreeLevel a)) refl refl
@@ -533,7 +534,7 @@ module _ (b : List ℕ) (base p : ℕ) (r : Placed b base p 24) (after : List �
       ((8 + k, 0) ∷ []) ((5, 16) ∷ (6, mine b p (9 + (k - 1))) ∷ (7, k) ∷ [])
       (omega (arith, r .node-low)) (omega arith, tt)
       (omega arith, (omega arith, (omega arith, tt)))
-      (put-lock (nodeAt q (mine b p 6)) (mine b p 7) 0 k<
+      (put-lock (nodeAt q (mine b p 6)) (mine b p 7 - 1) 0 [] k<
       (sized-in b .locks-long (mine b p 6) (omega (arith, r .node-low)))) (refl) after e answer
       f
 
@@ -549,7 +550,7 @@ module _ (b : List ℕ) (base p : ℕ) (r : Owned b base p 25) (after : List ℕ
   frees-node e f =
       let q = queueIn b in
       let c = processorAt q p in
-      let s = sightOf q c (place 0 1) in
+      let s = stepViewOf q c (place 0 1) in
       arm b base p 25 (r .sound) (r .start) (r .entries-high) (r .processors-high) (r .low)
       (r .few) (r .early) (r .tagged) (deliver (rem.FreeNode)) refl refl
       (moved s (eff.FreeNode (mine b p 4)) (deliver (rem.Retire)))
@@ -563,15 +564,15 @@ module _ (b : List ℕ) (base p : ℕ) (r : Owned b base p 26) (after : List ℕ
       after ≡ puts
       (puts (puts b 0 (four 3 (number32 b 3 + 1))) (base + 41 * mine b p 4)
       ((36, 2) ∷ four 37 (number32 b 3 + 1))) (7 + 17 * p) (clears (getD b 2 0) ++ rests) →
-      answer ≡ ans.HandedOut (entryIn b (base + 41 * mine b p 4)) →
+      answer ≡ ans.Did deed.HandedOut (entryIn b (base + 41 * mine b p 4)) →
       Stepped b p after answer
   retires e f =
       let q = queueIn b in
       let c = processorAt q p in
-      let s = sightOf q c (place 0 1) in
+      let s = stepViewOf q c (place 0 1) in
       arm b base p 26 (r .sound) (r .start) (r .entries-high) (r .processors-high) (r .low)
       (r .few) (r .early) (r .tagged) (deliver (rem.Retire)) refl refl
-      (answers (eff.Retire (mine b p 4)) (ans.HandedOut (entryIn b (base + 41 * mine b p 4))))
+      (answers (eff.Retire (mine b p 4)) (ans.Did deed.HandedOut (entryIn b (base + 41 * mine b p 4))))
       (rw (
         mine-is b base p 26 r,
         entry-is b base (r .start) (r .entries-high) (mine b p 4)

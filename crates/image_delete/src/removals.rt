@@ -2,11 +2,15 @@
 ghost use mathlib.Core.Path.{_≡_};
 ghost use Rattle.image_parts.specs.Given.{Stepped};
 ghost use Rattle.image_parts.specs.Ready.{Placed, Owned};
+use image::layout::HEADER;
+use image::layout::NODE_BYTES;
+use image::layout::PROCESSOR_BYTES;
 use image::numbers::clear;
 use image::numbers::number_from;
 use image::numbers::put_number;
 use image::numbers::tick;
 use rules::Answer;
+use rules::Deed;
 use rules::Entry;
 
 // L1.
@@ -14,9 +18,9 @@ pub fn hold_node(image: &mut [u8], base: usize, p: usize) -> Answer
     requires { ⌜ Owned (now image) base p 15 ⌝ }
     ensures { λ r. ⌜ Stepped (now (image .entry)) p (now (image .exit)) r ⌝ }
 {
-    let at = 7 + 17 * p;
+    let at = HEADER + PROCESSOR_BYTES * p;
     let own = image[at + 4];
-    let here = base + 41 * (own as usize);
+    let here = base + NODE_BYTES * (own as usize);
     let h = (p as u8) + 1;
     let height = image[here + 35];
     let top = image[at + (9 + ((height as usize) - 1))];
@@ -37,15 +41,15 @@ pub fn hold_own(image: &mut [u8], base: usize, p: usize) -> Answer
     requires { ⌜ Placed (now image) base p 20 ⌝ }
     ensures { λ r. ⌜ Stepped (now (image .entry)) p (now (image .exit)) r ⌝ }
 {
-    let at = 7 + 17 * p;
+    let at = HEADER + PROCESSOR_BYTES * p;
     let own = image[at + 4];
     let i = image[at + 7];
     let k = (i as usize) - 1;
     let h = (p as u8) + 1;
-    let latch = image[base + 41 * (own as usize) + (8 + k)];
+    let own_lock = image[base + NODE_BYTES * (own as usize) + (8 + k)];
     tick(image);
-    if latch == 0 {
-        image[base + 41 * (own as usize) + (8 + k)] = h;
+    if own_lock == 0 {
+        image[base + NODE_BYTES * (own as usize) + (8 + k)] = h;
         image[at + 5] = 21;
         return Answer::Moved;
     }
@@ -57,14 +61,14 @@ pub fn unlink(image: &mut [u8], base: usize, p: usize) -> Answer
     requires { ⌜ Placed (now image) base p 21 ⌝ }
     ensures { λ r. ⌜ Stepped (now (image .entry)) p (now (image .exit)) r ⌝ }
 {
-    let at = 7 + 17 * p;
+    let at = HEADER + PROCESSOR_BYTES * p;
     let own = image[at + 4];
     let a = image[at + 6];
     let i = image[at + 7];
     let k = (i as usize) - 1;
-    let y = image[base + 41 * (own as usize) + k];
+    let y = image[base + NODE_BYTES * (own as usize) + k];
     tick(image);
-    image[base + 41 * (a as usize) + k] = y;
+    image[base + NODE_BYTES * (a as usize) + k] = y;
     image[at + 5] = 22;
     Answer::Moved
 }
@@ -74,13 +78,13 @@ pub fn back(image: &mut [u8], base: usize, p: usize) -> Answer
     requires { ⌜ Placed (now image) base p 22 ⌝ }
     ensures { λ r. ⌜ Stepped (now (image .entry)) p (now (image .exit)) r ⌝ }
 {
-    let at = 7 + 17 * p;
+    let at = HEADER + PROCESSOR_BYTES * p;
     let own = image[at + 4];
     let a = image[at + 6];
     let i = image[at + 7];
     let k = (i as usize) - 1;
     tick(image);
-    image[base + 41 * (own as usize) + k] = a;
+    image[base + NODE_BYTES * (own as usize) + k] = a;
     image[at + 5] = 23;
     Answer::Moved
 }
@@ -90,12 +94,12 @@ pub fn free_own(image: &mut [u8], base: usize, p: usize) -> Answer
     requires { ⌜ Placed (now image) base p 23 ⌝ }
     ensures { λ r. ⌜ Stepped (now (image .entry)) p (now (image .exit)) r ⌝ }
 {
-    let at = 7 + 17 * p;
+    let at = HEADER + PROCESSOR_BYTES * p;
     let own = image[at + 4];
     let i = image[at + 7];
     let k = (i as usize) - 1;
     tick(image);
-    image[base + 41 * (own as usize) + (8 + k)] = 0;
+    image[base + NODE_BYTES * (own as usize) + (8 + k)] = 0;
     image[at + 5] = 24;
     Answer::Moved
 }
@@ -105,13 +109,13 @@ pub fn free_level(image: &mut [u8], base: usize, p: usize) -> Answer
     requires { ⌜ Placed (now image) base p 24 ⌝ }
     ensures { λ r. ⌜ Stepped (now (image .entry)) p (now (image .exit)) r ⌝ }
 {
-    let at = 7 + 17 * p;
+    let at = HEADER + PROCESSOR_BYTES * p;
     let a = image[at + 6];
     let i = image[at + 7];
     let k = (i as usize) - 1;
     if i <= 1 {
         tick(image);
-        image[base + 41 * (a as usize) + (8 + k)] = 0;
+        image[base + NODE_BYTES * (a as usize) + (8 + k)] = 0;
         image[at + 5] = 25;
         image[at + 6] = 0;
         image[at + 7] = 0;
@@ -119,7 +123,7 @@ pub fn free_level(image: &mut [u8], base: usize, p: usize) -> Answer
     }
     let down = image[at + (9 + (k - 1))];
     tick(image);
-    image[base + 41 * (a as usize) + (8 + k)] = 0;
+    image[base + NODE_BYTES * (a as usize) + (8 + k)] = 0;
     image[at + 5] = 16;
     image[at + 6] = down;
     image[at + 7] = i - 1;
@@ -131,10 +135,10 @@ pub fn free_node(image: &mut [u8], base: usize, p: usize) -> Answer
     requires { ⌜ Owned (now image) base p 25 ⌝ }
     ensures { λ r. ⌜ Stepped (now (image .entry)) p (now (image .exit)) r ⌝ }
 {
-    let at = 7 + 17 * p;
+    let at = HEADER + PROCESSOR_BYTES * p;
     let own = image[at + 4];
     tick(image);
-    image[base + 41 * (own as usize) + 16] = 0;
+    image[base + NODE_BYTES * (own as usize) + 16] = 0;
     image[at + 5] = 26;
     Answer::Moved
 }
@@ -144,10 +148,10 @@ pub fn retire(image: &mut [u8], base: usize, p: usize) -> Answer
     requires { ⌜ Owned (now image) base p 26 ⌝ }
     ensures { λ r. ⌜ Stepped (now (image .entry)) p (now (image .exit)) r ⌝ }
 {
-    let at = 7 + 17 * p;
+    let at = HEADER + PROCESSOR_BYTES * p;
     let own = image[at + 4];
     let l = image[2] as usize;
-    let here = base + 41 * (own as usize);
+    let here = base + NODE_BYTES * (own as usize);
     let due = number_from(image, here + 23);
     let ticket = number_from(image, here + 27);
     let item = number_from(image, here + 31);
@@ -156,9 +160,12 @@ pub fn retire(image: &mut [u8], base: usize, p: usize) -> Answer
     image[here + 36] = 2;
     put_number(image, here, 37, t);
     clear(image, at, l);
-    Answer::HandedOut(Entry {
-        due: due,
-        item: item,
-        ticket: ticket,
-    })
+    Answer::Did(
+        Deed::HandedOut,
+        Entry {
+            due: due,
+            item: item,
+            ticket: ticket,
+        },
+    )
 }

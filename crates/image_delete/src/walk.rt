@@ -2,10 +2,14 @@
 ghost use mathlib.Core.Path.{_≡_};
 ghost use Rattle.image_parts.specs.Given.{Stepped};
 ghost use Rattle.image_parts.specs.Ready.{Walked};
+use image::layout::HEADER;
+use image::layout::NODE_BYTES;
+use image::layout::PROCESSOR_BYTES;
 use image::numbers::clear;
 use image::numbers::number_from;
 use image::numbers::tick;
 use rules::Answer;
+use rules::Deed;
 use rules::Entry;
 
 // W1.
@@ -13,11 +17,11 @@ pub fn next(image: &mut [u8], base: usize, p: usize) -> Answer
     requires { ⌜ Walked (now image) base p 11 ⌝ }
     ensures { λ r. ⌜ Stepped (now (image .entry)) p (now (image .exit)) r ⌝ }
 {
-    let at = 7 + 17 * p;
+    let at = HEADER + PROCESSOR_BYTES * p;
     let a = image[at + 6];
     let n = image[1];
     let l = image[2] as usize;
-    let x = image[base + 41 * (a as usize) + 0];
+    let x = image[base + NODE_BYTES * (a as usize) + 0];
     tick(image);
     if x == n + 1 {
         clear(image, at, l);
@@ -34,9 +38,9 @@ pub fn stamped(image: &mut [u8], base: usize, p: usize) -> Answer
     requires { ⌜ Walked (now image) base p 12 ⌝ }
     ensures { λ r. ⌜ Stepped (now (image .entry)) p (now (image .exit)) r ⌝ }
 {
-    let at = 7 + 17 * p;
+    let at = HEADER + PROCESSOR_BYTES * p;
     let a = image[at + 6];
-    let here = base + 41 * (a as usize);
+    let here = base + NODE_BYTES * (a as usize);
     let begin = number_from(image, at + 0);
     let t = image[here + 18];
     let u = number_from(image, here + 19);
@@ -58,10 +62,10 @@ pub fn mark(image: &mut [u8], base: usize, p: usize) -> Answer
     requires { ⌜ Walked (now image) base p 13 ⌝ }
     ensures { λ r. ⌜ Stepped (now (image .entry)) p (now (image .exit)) r ⌝ }
 {
-    let at = 7 + 17 * p;
+    let at = HEADER + PROCESSOR_BYTES * p;
     let a = image[at + 6];
     let l = image[2];
-    let here = base + 41 * (a as usize);
+    let here = base + NODE_BYTES * (a as usize);
     let m = image[here + 17];
     if m == 1 {
         tick(image);
@@ -77,9 +81,12 @@ pub fn mark(image: &mut [u8], base: usize, p: usize) -> Answer
     image[at + 5] = 14;
     image[at + 6] = 0;
     image[at + 7] = l;
-    Answer::Marked(Entry {
-        due: due,
-        item: item,
-        ticket: ticket,
-    })
+    Answer::Did(
+        Deed::Marked,
+        Entry {
+            due: due,
+            item: item,
+            ticket: ticket,
+        },
+    )
 }

@@ -14,9 +14,10 @@ use Rattle.image.specs.Numbers.{number32}
 use Rattle.image.specs.Pieces.{processorImage}
 use Rattle.rules.specs.declared.answers.Answer.{Answer}
 use Rattle.rules.specs.declared.answers.Answer.the-variants as ans
+use Rattle.rules.specs.declared.answers.Deed.the-variants as deed
 use Rattle.rules.specs.declared.answers.Entry.{Entry}
 use Rattle.rules.specs.declared.decisions.Effect.the-variants as eff
-use Rattle.rules.specs.Calls.{entryOf, sightOf}
+use Rattle.rules.specs.Calls.{entryOf, stepViewOf}
 use Rattle.rules.specs.Decide.{moved, answers}
 use Rattle.image.specs.Puts.{puts, four, clears, rests}
 use Rattle.image.specs.Image.{queueIn}
@@ -42,15 +43,15 @@ module _ (b : List ℕ) (base p : ℕ) (r : Placed b base p 6) (after : List ℕ
       let c = processorAt q p in
       let a = place (mine b p 6) (mine b p 7) in
       let k = mine b p 7 - 1 in
-      let s = sightOf q c a in
+      let s = stepViewOf q c a in
       let k< : k < 8 = omega (arith, r .level-high, r .level-low) in
       arm b base p 6 (r .sound) (r .start) (r .entries-high) (r .processors-high) (r .low) (r .few)
       (r .early) (r .tagged) (stage.Insert (ins.Copy a)) refl refl
-      (moved s (eff.Lead (place (mine b p 4) (mine b p 7)) (onward b base p))
+      (moved s (eff.SetForward (place (mine b p 4) (mine b p 7)) (onward b base p))
       (stage.Insert (ins.Link a))) (rw (next-is b base p 6 r, own-is b base p 6 r) refl)
       ((k, onward b base p) ∷ []) ((5, 7) ∷ []) (omega (arith, r .own-high, r .entries-high))
       (omega arith, tt) (omega arith, tt)
-      (put-forward (nodeAt q (mine b p 4)) (mine b p 7) (onward b base p) k<
+      (put-forward (nodeAt q (mine b p 4)) (mine b p 7 - 1) (onward b base p) [] k<
       (sized-in b .forward-long (mine b p 4) (omega (arith, r .own-high, r .entries-high))))
       refl after e answer f
 
@@ -68,15 +69,15 @@ module _ (b : List ℕ) (base p : ℕ) (r : Placed b base p 7) (after : List ℕ
       let c = processorAt q p in
       let a = place (mine b p 6) (mine b p 7) in
       let k = mine b p 7 - 1 in
-      let s = sightOf q c a in
+      let s = stepViewOf q c a in
       let k< : k < 8 = omega (arith, r .level-high, r .level-low) in
       arm b base p 7 (r .sound) (r .start) (r .entries-high) (r .processors-high) (r .low) (r .few)
       (r .early) (r .tagged) (stage.Insert (ins.Link a)) refl refl
-      (moved s (eff.Lead a (mine b p 4)) (stage.Insert (ins.FreeLevel a)))
+      (moved s (eff.SetForward a (mine b p 4)) (stage.Insert (ins.FreeLevel a)))
       (rw (own-is b base p 7 r) refl)
       ((k, mine b p 4) ∷ []) ((5, 8) ∷ []) (omega (arith, r .node-low)) (omega arith, tt)
       (omega arith, tt)
-      (put-forward (nodeAt q (mine b p 6)) (mine b p 7) (mine b p 4) k<
+      (put-forward (nodeAt q (mine b p 6)) (mine b p 7 - 1) (mine b p 4) [] k<
       (sized-in b .forward-long (mine b p 6) (omega (arith, r .node-low)))) refl after e answer
       f
 
@@ -96,7 +97,7 @@ module _ (b : List ℕ) (base p : ℕ) (r : Placed b base p 8) (after : List ℕ
       let c = processorAt q p in
       let a = place (mine b p 6) (mine b p 7) in
       let k = mine b p 7 - 1 in
-      let s = sightOf q c a in
+      let s = stepViewOf q c a in
       let k< : k < 8 = omega (arith, r .level-high, r .level-low) in
       arm b base p 8 (r .sound) (r .start) (r .entries-high) (r .processors-high) (r .low) (r .few)
       (r .early) (r .tagged) (stage.Insert (ins.FreeLevel a)) refl refl
@@ -112,7 +113,7 @@ module _ (b : List ℕ) (base p : ℕ) (r : Placed b base p 8) (after : List ℕ
       ((8 + k, 0) ∷ []) ((5, 2) ∷ (6, mine b p (9 + mine b p 7)) ∷ (7, mine b p 7 + 1) ∷ [])
       (omega (arith, r .node-low)) (omega arith, tt)
       (omega arith, (omega arith, (omega arith, tt)))
-      (put-lock (nodeAt q (mine b p 6)) (mine b p 7) 0 k<
+      (put-lock (nodeAt q (mine b p 6)) (mine b p 7 - 1) 0 [] k<
       (sized-in b .locks-long (mine b p 6) (omega (arith, r .node-low)))) refl after e answer f
 
   pub frees-last :
@@ -128,7 +129,7 @@ module _ (b : List ℕ) (base p : ℕ) (r : Placed b base p 8) (after : List ℕ
       let c = processorAt q p in
       let a = place (mine b p 6) (mine b p 7) in
       let k = mine b p 7 - 1 in
-      let s = sightOf q c a in
+      let s = stepViewOf q c a in
       let k< : k < 8 = omega (arith, r .level-high, r .level-low) in
       arm b base p 8 (r .sound) (r .start) (r .entries-high) (r .processors-high) (r .low) (r .few)
       (r .early) (r .tagged) (stage.Insert (ins.FreeLevel a)) refl refl
@@ -136,7 +137,7 @@ module _ (b : List ℕ) (base p : ℕ) (r : Placed b base p 8) (after : List ℕ
       (rw (height-is b base p 8 r, le-ltb _ _ h) refl)
       ((8 + k, 0) ∷ []) ((5, 9) ∷ (6, 0) ∷ (7, 0) ∷ []) (omega (arith, r .node-low))
       (omega arith, tt) (omega arith, (omega arith, (omega arith, tt)))
-      (put-lock (nodeAt q (mine b p 6)) (mine b p 7) 0 k<
+      (put-lock (nodeAt q (mine b p 6)) (mine b p 7 - 1) 0 [] k<
       (sized-in b .locks-long (mine b p 6) (omega (arith, r .node-low)))) refl after e answer f
 
 -- I4 and I5
@@ -151,7 +152,7 @@ module _ (b : List ℕ) (base p : ℕ) (r : Owned b base p 9) (after : List ℕ)
   frees-node e f =
       let q = queueIn b in
       let c = processorAt q p in
-      let s = sightOf q c (place 0 1) in
+      let s = stepViewOf q c (place 0 1) in
       arm b base p 9 (r .sound) (r .start) (r .entries-high) (r .processors-high) (r .low) (r .few)
       (r .early) (r .tagged) (stage.Insert ins.FreeNode) refl refl
       (moved s (eff.FreeNode (mine b p 4)) (stage.Insert ins.Stamp))
@@ -164,7 +165,7 @@ module _ (b : List ℕ) (base p : ℕ) (r : Owned b base p 10) (after : List ℕ
       after ≡ puts
       (puts (puts b 0 (four 3 (number32 b 3 + 1))) (base + 41 * mine b p 4)
       ((18, 1) ∷ four 19 (number32 b 3 + 1))) (7 + 17 * p) (clears (getD b 2 0) ++ rests) →
-      answer ≡ ans.Inserted (entryIn b (base + 41 * mine b p 4)) →
+      answer ≡ ans.Did deed.Inserted (entryIn b (base + 41 * mine b p 4)) →
       Stepped b p after answer
   stamps e f =
       let q = queueIn b in
@@ -173,10 +174,10 @@ module _ (b : List ℕ) (base p : ℕ) (r : Owned b base p 10) (after : List ℕ
       let E = entryIn b (base + 41 * mine b p 4) in
       arm b base p 10 (r .sound) (r .start) (r .entries-high) (r .processors-high) (r .low)
       (r .few) (r .early) (r .tagged) g refl refl
-      (answers (eff.Stamp (mine b p 4)) (ans.Inserted E))
-      (ap (λ (x : ℕ). answers (eff.Stamp x) (ans.Inserted (entryOf (nodeAt q x))))
+      (answers (eff.Stamp (mine b p 4)) (ans.Did deed.Inserted E))
+      (ap (λ (x : ℕ). answers (eff.Stamp x) (ans.Did deed.Inserted (entryOf (nodeAt q x))))
       (mine-is b base p 10 r)
-      ∙ ap (λ (x : Entry). answers (eff.Stamp (mine b p 4)) (ans.Inserted x))
+      ∙ ap (λ (x : Entry). answers (eff.Stamp (mine b p 4)) (ans.Did deed.Inserted x))
       (entry-is b base (r .start) (r .entries-high) (mine b p 4) (own-low b base p 10 r)))
       ((18, 1) ∷ four 19 (number32 b 3 + 1)) (clears (getD b 2 0) ++ rests) (own-low b base p 10 r)
       (omega arith, (omega arith, (omega arith, (omega arith, (omega arith, tt)))))

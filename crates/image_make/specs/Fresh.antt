@@ -11,8 +11,8 @@ abbrev pub repeated : ℕ → ℕ → List ℕ
 repeated v n = joined (λ (k : ℕ). v ∷ []) n
 
 -- n processors, and n nodes that lead to the tail
-abbrev pub freshCallers : ℕ → List ℕ
-freshCallers n = joined (λ (k : ℕ). processorImage freshProcessor) n
+abbrev pub freshProcessors : ℕ → List ℕ
+freshProcessors n = joined (λ (k : ℕ). processorImage freshProcessor) n
 
 abbrev pub freshNodes : ℕ → ℕ → List ℕ
 freshNodes tail n = joined (λ (k : ℕ). nodeImage (freshNode tail)) n

@@ -5,14 +5,17 @@ ghost use lib.ListN.{length};
 ghost use Rattle.record.specs.Nodes.{freshNode};
 ghost use Rattle.record.specs.Queues.{freshQueue};
 ghost use Rattle.image.specs.Image.{imageLength, headerImage, imageOf, queueIn, Sound};
-ghost use Rattle.image.specs.Lists.{written};
+ghost use Rattle.image.specs.Lists.{storedAt};
 ghost use Rattle.image.specs.Pieces.{nodeImage};
-ghost use Rattle.image_make.specs.Fresh.{repeated, freshCallers, freshNodes};
+ghost use Rattle.image_make.specs.Fresh.{repeated, freshProcessors, freshNodes};
+use image::layout::HEADER;
+use image::layout::NODE_BYTES;
+use image::layout::PROCESSOR_BYTES;
 
 // The byte v, n times from o on.
 fn repeat(b: &mut [u8], o: usize, n: usize, v: u8)
     requires { ⌜ (o + n ≤ length (now b)) × (length (now b) ≤ 8561) ⌝ }
-    ensures { λ _. ⌜ now (b .exit) ≡ written (now (b .entry)) o (repeated v n) ⌝ }
+    ensures { λ _. ⌜ now (b .exit) ≡ storedAt (now (b .entry)) o (repeated v n) ⌝ }
 {
     let mut k: usize = 0;
     while k < n {
@@ -24,7 +27,7 @@ fn repeat(b: &mut [u8], o: usize, n: usize, v: u8)
 // The sizes, and the clock at 0.
 fn put_header(b: &mut [u8], p: u8, n: u8, l: u8)
     requires { ⌜ (7 ≤ length (now b)) × (length (now b) ≤ 8561) ⌝ }
-    ensures { λ _. ⌜ now (b .exit) ≡ written (now (b .entry)) 0 (headerImage p n l 0) ⌝ }
+    ensures { λ _. ⌜ now (b .exit) ≡ storedAt (now (b .entry)) 0 (headerImage p n l 0) ⌝ }
 {
     b[0] = p;
     b[1] = n;
@@ -33,13 +36,13 @@ fn put_header(b: &mut [u8], p: u8, n: u8, l: u8)
 }
 
 // The first n processors, idle.
-fn put_callers(b: &mut [u8], n: usize)
+fn put_processors(b: &mut [u8], n: usize)
     requires { ⌜ (7 + 17 * n ≤ length (now b)) × (length (now b) ≤ 8561) ⌝ }
-    ensures { λ _. ⌜ now (b .exit) ≡ written (now (b .entry)) 7 (freshCallers n) ⌝ }
+    ensures { λ _. ⌜ now (b .exit) ≡ storedAt (now (b .entry)) 7 (freshProcessors n) ⌝ }
 {
     let mut p: usize = 0;
     while p < n {
-        repeat(b, 7 + 17 * p, 17, 0);
+        repeat(b, HEADER + PROCESSOR_BYTES * p, PROCESSOR_BYTES, 0);
         p = p + 1;
     }
 }
@@ -47,7 +50,7 @@ fn put_callers(b: &mut [u8], n: usize)
 // A node that was never used: it leads to the tail at each level.
 fn put_node(b: &mut [u8], o: usize, tail: u8)
     requires { ⌜ (o + 41 ≤ length (now b)) × (length (now b) ≤ 8561) ⌝ }
-    ensures { λ _. ⌜ now (b .exit) ≡ written (now (b .entry)) o (nodeImage (freshNode tail)) ⌝ }
+    ensures { λ _. ⌜ now (b .exit) ≡ storedAt (now (b .entry)) o (nodeImage (freshNode tail)) ⌝ }
 {
     repeat(b, o, 8, tail);
     repeat(b, o + 8, 27, 0);
@@ -58,11 +61,11 @@ fn put_node(b: &mut [u8], o: usize, tail: u8)
 // So many nodes from base on.
 fn put_nodes(b: &mut [u8], base: usize, n: usize, tail: u8)
     requires { ⌜ (base + 41 * n ≤ length (now b)) × (length (now b) ≤ 8561) ⌝ }
-    ensures { λ _. ⌜ now (b .exit) ≡ written (now (b .entry)) base (freshNodes tail n) ⌝ }
+    ensures { λ _. ⌜ now (b .exit) ≡ storedAt (now (b .entry)) base (freshNodes tail n) ⌝ }
 {
     let mut x: usize = 0;
     while x < n {
-        put_node(b, base + 41 * x, tail);
+        put_node(b, base + NODE_BYTES * x, tail);
         x = x + 1;
     }
 }
@@ -76,7 +79,7 @@ pub fn make_at(image: &mut [u8], p: u8, n: u8, l: u8)
         ⌜ Sound (now (image .exit)) × (queueIn (now (image .exit)) ≡ freshQueue p n l) ⌝ }
 {
     put_header(image, p, n, l);
-    put_callers(image, p as usize);
-    let base = 7 + 17 * (p as usize);
+    put_processors(image, p as usize);
+    let base = HEADER + PROCESSOR_BYTES * (p as usize);
     put_nodes(image, base, (n as usize) + 2, n + 1);
 }

@@ -15,23 +15,23 @@ use Rattle.image.specs.Puts.{puts, putsIn, four}
 use Rattle.image.specs.Image.{imageOf, queueIn, Sound}
 use Rattle.image.proofs.Sizes.{sized-in}
 use Rattle.image.proofs.Puts.{Below}
-use Rattle.image.proofs.Whole.{withNode, withClock, put-node, put-caller, put-clock}
+use Rattle.image.proofs.Whole.{withNode, withClock, put-node, put-processor, put-clock}
 use Rattle.image_parts.specs.Given.{Gives}
 
 -- an accepted call: the stores of the clock, of one node and of the processor
-module _ (b : List ℕ) (base p : ℕ) (s : Sound b) (start : base ≡ 7 + 17 * queueIn b .processors)
-    (low : p < queueIn b .processors) (d : Decision) (o : Outcome)
+module _ (b : List ℕ) (base p : ℕ) (s : Sound b) (start : base ≡ 7 + 17 * queueIn b .processorCount)
+    (low : p < queueIn b .processorCount) (d : Decision) (o : Outcome)
     (is : o ≡ accepted (queueIn b) p d) where
   pub gives :
-      (es fs : List (ℕ × ℕ)) → nodeOf (d .effect) < queueIn b .entries + 2 → Below 41 es →
+      (es fs : List (ℕ × ℕ)) → nodeOf (d .effect) < queueIn b .nodeCount + 2 → Below 41 es →
       Below 17 fs →
       putsIn (nodeImage (nodeAt (queueIn b) (nodeOf (d .effect)))) es
       ≡ nodeImage
-      (changed (queueIn b .levels) (queueIn b .entries + 1) (p + 1) (queueIn b .clock + 1)
+      (changed (queueIn b .levelCount) (queueIn b .nodeCount + 1) (p + 1) (queueIn b .clock + 1)
       (d .effect) (nodeAt (queueIn b) (nodeOf (d .effect)))) →
       putsIn (processorImage (processorAt (queueIn b) p)) fs
       ≡ processorImage
-      (processorAfter (queueIn b .levels) (queueIn b .clock + 1) (processorAt (queueIn b) p) d)
+      (processorAfter (queueIn b .levelCount) (queueIn b .clock + 1) (processorAt (queueIn b) p) d)
       →
       (after : List ℕ) →
       after ≡ puts
@@ -39,12 +39,12 @@ module _ (b : List ℕ) (base p : ℕ) (s : Sound b) (start : base ≡ 7 + 17 * 
       (7 + 17 * p) fs →
       (r : Answer) → r ≡ d .answer →
       Gives o after r
-  gives es fs x< es< fs< node caller after e r f =
+  gives es fs x< es< fs< node processor after e r f =
       let q = queueIn b in
       let t = q .clock + 1 in
       let x = nodeOf (d .effect) in
-      let m = changed (q .levels) (q .entries + 1) (p + 1) t (d .effect) (nodeAt q x) in
-      let c = processorAfter (q .levels) t (processorAt q p) d in
+      let m = changed (q .levelCount) (q .nodeCount + 1) (p + 1) t (d .effect) (nodeAt q x) in
+      let c = processorAfter (q .levelCount) t (processorAt q p) d in
       let S = sized-in b in
       let v = valid-facts q (s .passes) .sizes in
       let e1 : puts b 0 (four 3 t) ≡ imageOf (withClock q t) =
@@ -53,12 +53,12 @@ module _ (b : List ℕ) (base p : ℕ) (s : Sound b) (start : base ≡ 7 + 17 * 
       ≡ imageOf (withNode (withClock q t) x m) =
       ap (λ (l : List ℕ). puts l (base + 41 * x) es) e1
       ∙ put-node (withClock q t) es base x m start x<
-      (omega (arith, S .nodes-long, v .entries .high)) es< node in
+      (omega (arith, S .nodes-long, v .nodeCount .high)) es< node in
       let e3 : puts (puts (puts b 0 (four 3 t)) (base + 41 * x) es) (7 + 17 * p) fs
       ≡ imageOf (applied q p d) =
       ap (λ (l : List ℕ). puts l (7 + 17 * p) fs) e2
-      ∙ put-caller (withNode (withClock q t) x m) fs p c low
-      (omega (arith, S .callers-long, v .processors .high)) fs< caller in
+      ∙ put-processor (withNode (withClock q t) x m) fs p c low
+      (omega (arith, S .processors-long, v .processorCount .high)) fs< processor in
       record {
         bytes = e ∙ e3 ∙ ap (λ (u : Outcome). imageOf (u .queue)) (sym is);
         answer = f ∙ ap (λ (u : Outcome). u .answer) (sym is);

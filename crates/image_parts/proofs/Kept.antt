@@ -20,7 +20,7 @@ use Rattle.record.specs.declared.stages.Stage.the-variants as stage
 use Rattle.record.specs.Queues.{processorAt}
 use Rattle.rules.specs.declared.answers.Outcome.{Outcome}
 use Rattle.rules.specs.declared.decisions.Decision.{Decision}
-use Rattle.rules.specs.declared.decisions.Sight.{Sight}
+use Rattle.rules.specs.declared.decisions.StepView.{StepView}
 use Rattle.rules.specs.declared.decisions.Searched.{Searched}
 use Rattle.rules.specs.declared.decisions.Searched.the-variants as srch
 use Rattle.rules.specs.declared.decisions.Sought.{Sought}
@@ -44,17 +44,17 @@ pub record Kept (q : Queue) (o : Outcome) : Type 0 where
 abbrev Answers : Decision → Type 0
 Answers d = isRefused (d .answer) ≡ false
 
-insert-searched : (s : Sight) (a : Place) (x : Searched) → Answers (insertSearched s a x)
+insert-searched : (s : StepView) (a : Place) (x : Searched) → Answers (insertSearched s a x)
 insert-searched s a (srch.Ahead b) = refl
 insert-searched s a (srch.Down b) = refl
-insert-searched s a (srch.Left b) = refl
+insert-searched s a (srch.Done b) = refl
 
-insert-sought : (s : Sight) (x : Sought) → Answers (insertSought s x)
+insert-sought : (s : StepView) (x : Sought) → Answers (insertSought s x)
 insert-sought s (sght.Goes e k) = refl
 insert-sought s (sght.Waits k) = refl
 insert-sought s (sght.Done a) = refl
 
-insert-answers : (s : Sight) (i : Insert) → Answers (insertStep s i)
+insert-answers : (s : StepView) (i : Insert) → Answers (insertStep s i)
 insert-answers s (ins.Search a) = insert-searched s a (searchStep s a)
 insert-answers s (ins.Seek k) = insert-sought s (seekStep s k)
 insert-answers s (ins.Copy a) = refl
@@ -64,34 +64,34 @@ insert-answers s ins.FreeNode = refl
 insert-answers s ins.Stamp = refl
 
 removal-searched :
-    (j : Job) (s : Sight) (a : Place) (x : Searched) → Answers (removalSearched j s a x)
+    (j : Job) (s : StepView) (a : Place) (x : Searched) → Answers (removalSearched j s a x)
 removal-searched j s a (srch.Ahead b) = refl
 removal-searched j s a (srch.Down b) = refl
-removal-searched j s a (srch.Left b) = refl
+removal-searched j s a (srch.Done b) = refl
 
-removal-sought : (j : Job) (s : Sight) (x : Sought) → Answers (removalSought j s x)
+removal-sought : (j : Job) (s : StepView) (x : Sought) → Answers (removalSought j s x)
 removal-sought j s (sght.Goes e k) = refl
 removal-sought j s (sght.Waits k) = refl
 removal-sought j s (sght.Done a) = refl
 
-removal-answers : (j : Job) (s : Sight) (r : Removal) → Answers (removalStep j s r)
+removal-answers : (j : Job) (s : StepView) (r : Removal) → Answers (removalStep j s r)
 removal-answers j s (rem.Search a) = removal-searched j s a (searchStep s a)
-removal-answers j s rem.HoldNode = cond-elim Answers (eqb (s .holder) 0) _ _ refl refl
+removal-answers j s rem.HoldNode = cond-elim Answers (eqb (s .ownNodeLock) 0) _ _ refl refl
 removal-answers j s (rem.Seek k) = removal-sought j s (seekStep s k)
-removal-answers j s (rem.HoldOwn a) = cond-elim Answers (eqb (s .latch) 0) _ _ refl refl
+removal-answers j s (rem.HoldOwn a) = cond-elim Answers (eqb (s .ownLock) 0) _ _ refl refl
 removal-answers j s (rem.Unlink a) = refl
-removal-answers j s (rem.Back a) = refl
+removal-answers j s (rem.LeadBack a) = refl
 removal-answers j s (rem.FreeOwn a) = refl
 removal-answers j s (rem.FreeLevel a) = cond-elim Answers (leb (a .level) 1) _ _ refl refl
 removal-answers j s rem.FreeNode = refl
 removal-answers jobs.Deliver s rem.Retire = refl
 
-delete-answers : (s : Sight) (d : Delete) → Answers (deleteStep s d)
-delete-answers s (del.Next a) = cond-elim Answers (s .tail) _ _ refl refl
-delete-answers s (del.Stamped a) = cond-elim Answers (s .stamped) _ _ refl refl
-delete-answers s (del.Mark a) = cond-elim Answers (s .marked) _ _ refl refl
+delete-answers : (s : StepView) (d : Delete) → Answers (deleteStep s d)
+delete-answers s (del.ReadNext a) = cond-elim Answers (s .nextIsTail) _ _ refl refl
+delete-answers s (del.TestStamp a) = cond-elim Answers (s .stamped) _ _ refl refl
+delete-answers s (del.SetMark a) = cond-elim Answers (s .marked) _ _ refl refl
 
-decision-answers : (s : Sight) (g : Stage) → Answers (decide s g)
+decision-answers : (s : StepView) (g : Stage) → Answers (decide s g)
 decision-answers s stage.Idle = refl
 decision-answers s (stage.Insert i) = insert-answers s i
 decision-answers s (stage.Delete d) = delete-answers s d

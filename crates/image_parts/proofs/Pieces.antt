@@ -1,7 +1,7 @@
 -- Stores in one node's and in one processor's bytes. Assumes nothing.
 use mathlib.Core.Path.{_≡_, refl, sym, _∙_, ap}
 use mathlib.Core.List.{List, [], _∷_, _++_, append-assoc}
-use Prim.Native.Nat.{ℕ, zero, suc, _+_, _-_, _<_}
+use Prim.Native.Nat.{ℕ, zero, suc, _+_, _<_}
 use lib.ListN.{length, set, drop, length-set}
 use lib.Seq.{set-append-left}
 use Rattle.record.specs.declared.nodes.Node.{Node}
@@ -10,7 +10,7 @@ use Rattle.record.specs.declared.stages.Stage.{Stage}
 use Rattle.record.specs.declared.stages.Stage.the-variants as stage
 use Rattle.laws.specs.Every.{setBelow}
 use Rattle.laws.proofs.Counting.{length-below}
-use Rattle.record.specs.Nodes.{withForward, withLock, withHolder, withStamp, withMark, retiredAt}
+use Rattle.record.specs.Nodes.{withNodeLock, withStamp, withMark, retiredAt}
 use Rattle.image.specs.Tags.{stageCode}
 use Rattle.image.specs.Numbers.{bytesOf32, eight}
 use Rattle.image.specs.Pieces.{nodeImage, processorImage, codeBytes}
@@ -18,19 +18,45 @@ use Rattle.image.proofs.Bytes.{eight-back}
 use Rattle.image.specs.Puts.{putsIn, four, clears, rests}
 use Rattle.image.proofs.Puts.{set-after}
 
-pub eight-set : (l : List ℕ) (k v : ℕ) → length l ≡ 8 → set (eight l 0) k v ≡ eight (set l k v) 0
+eight-set : (l : List ℕ) (k v : ℕ) → length l ≡ 8 → set (eight l 0) k v ≡ eight (set l k v) 0
 eight-set l k v h =
     ap (λ (r : List ℕ). set r k v) (eight-back l h)
     ∙ sym (eight-back (set l k v) (length-set l k v ∙ h))
 
--- a forward number and a level lock, of the level i
-module _ (n : Node) (i v : ℕ) (low : i - 1 < 8) where
-  pub put-forward : length (n .forward) ≡ 8 → putsIn (nodeImage n) ((i - 1, v) ∷ [])
-      ≡ nodeImage (withForward n i v)
+-- a node with other levels
+abbrev pub leveled : Node → List ℕ → List ℕ → Node
+leveled n forward locks = record {
+  forward = forward;
+  levelLocks = locks;
+  nodeLock = n .nodeLock;
+  mark = n .mark;
+  stamp = n .stamp;
+  due = n .due;
+  ticket = n .ticket;
+  item = n .item;
+  height = n .height;
+  state = n .state;
+}
+
+-- a forward number and a level lock, of the level k + 1, and then what else is stored
+module _ (n : Node) (k v : ℕ) (es : List (ℕ × ℕ)) (low : k < 8) where
+  pub put-forward : length (n .forward) ≡ 8 → putsIn (nodeImage n) ((k, v) ∷ es)
+      ≡ putsIn (nodeImage (leveled n (set (n .forward) k v) (n .levelLocks))) es
   unfolding nodeImage
   put-forward long =
-      set-append-left (eight (n .forward) 0) (drop 8 (nodeImage n)) (i - 1) v low
-      ∙ ap (λ (r : List ℕ). r ++ drop 8 (nodeImage n)) (eight-set (n .forward) (i - 1) v long)
+      ap (λ (r : List ℕ). putsIn r es)
+      (set-append-left (eight (n .forward) 0) (drop 8 (nodeImage n)) k v low
+      ∙ ap (λ (r : List ℕ). r ++ drop 8 (nodeImage n)) (eight-set (n .forward) k v long))
+
+  pub put-lock : length (n .levelLocks) ≡ 8 → putsIn (nodeImage n) ((8 + k, v) ∷ es)
+      ≡ putsIn (nodeImage (leveled n (n .forward) (set (n .levelLocks) k v))) es
+  unfolding nodeImage
+  put-lock long =
+      ap (λ (r : List ℕ). putsIn r es)
+      (set-after (eight (n .forward) 0) (drop 8 (nodeImage n)) (8 + k) k v refl
+      ∙ ap (λ (r : List ℕ). eight (n .forward) 0 ++ r)
+      (set-append-left (eight (n .levelLocks) 0) (drop 16 (nodeImage n)) k v low
+      ∙ ap (λ (r : List ℕ). r ++ drop 16 (nodeImage n)) (eight-set (n .levelLocks) k v long)))
 
 -- a processor with another stage and other saved nodes
 abbrev pub moves : Processor → Stage → List ℕ → Processor
@@ -54,19 +80,9 @@ pub put-stage :
     putsIn (processorImage c) es ≡ processorImage (moves c g (c .saved))
 put-stage c f g es e h = ap (λ (x : Stage). putsIn (processorImage (moves c x (c .saved))) es) e ∙ h
 
--- a level lock
-pub put-lock : (n : Node) (i v : ℕ) → i - 1 < 8 → length (n .locks) ≡ 8 →
-    putsIn (nodeImage n) ((8 + (i - 1), v) ∷ []) ≡ nodeImage (withLock n i v)
-unfolding nodeImage
-put-lock n i v low long =
-    set-after (eight (n .forward) 0) (drop 8 (nodeImage n)) (8 + (i - 1)) (i - 1) v refl
-    ∙ ap (λ (r : List ℕ). eight (n .forward) 0 ++ r)
-    (set-append-left (eight (n .locks) 0) (drop 16 (nodeImage n)) (i - 1) v low
-    ∙ ap (λ (r : List ℕ). r ++ drop 16 (nodeImage n)) (eight-set (n .locks) (i - 1) v long))
-
 -- the node lock, and a stamp
 pub put-holder : (n : Node) (v : ℕ) → putsIn (nodeImage n) ((16, v) ∷ [])
-    ≡ nodeImage (withHolder n v)
+    ≡ nodeImage (withNodeLock n v)
 unfolding nodeImage
 put-holder n v = refl
 

@@ -21,8 +21,8 @@ use Rattle.image_parts.proofs.Kept.{sized-after}
 use Rattle.image_parts.proofs.Sounds.{trim-after}
 
 module _ (P N L : ℕ) where
-  pub caller-fresh : (p : ℕ) → processorAt (freshQueue P N L) p ≡ freshProcessor
-  caller-fresh p =
+  pub processor-fresh : (p : ℕ) → processorAt (freshQueue P N L) p ≡ freshProcessor
+  processor-fresh p =
       replicate-either (λ c. c ≡ freshProcessor) maxProcessors p freshProcessor freshProcessor
       refl refl
 
@@ -34,7 +34,7 @@ module _ (P N L : ℕ) where
     processors-high = few;
     entries-high = omega arith;
     nodes = λ x h l. node-fresh x l;
-    callers = λ p h l. caller-fresh p;
+    processors = λ p h l. processor-fresh p;
   }
 
 pub all-sized : (q : Queue) → Sized q → (cs : List Turn) → Sized (afterAll q cs)

@@ -22,7 +22,7 @@ use Rattle.rules.specs.declared.answers.Answer.{Answer}
 use Rattle.rules.specs.declared.answers.Entry.{Entry}
 use Rattle.rules.specs.declared.decisions.Decision.{Decision}
 use Rattle.rules.specs.declared.calls.Call.the-variants as call
-use Rattle.rules.specs.Calls.{calledValid, entryOf, readingPlace, keyFor, nextOf, sightOf}
+use Rattle.rules.specs.Calls.{calledValid, entryOf, readingPlace, keyFor, nextOf, stepViewOf}
 use Rattle.rules.specs.Calls.{stepDecision}
 use Rattle.rules.specs.Effects.{nodeOf, changed, processorAfter, accepted}
 use Rattle.rules.specs.Decide.{decide}
@@ -30,21 +30,21 @@ use Rattle.image.specs.Puts.{puts, putsIn, four, piece, clears}
 use Rattle.image.specs.Image.{startOf, queueIn, Sound}
 use Rattle.image_parts.specs.Given.{Stepped}
 use Rattle.image.proofs.Puts.{Below}
-use Rattle.image.proofs.Fields.{node-is, caller-is, eight-at, number-at}
+use Rattle.image.proofs.Fields.{node-is, processor-is, eight-at, number-at}
 use Rattle.image_parts.specs.Ready.{keyIn, Placed, Owned}
 use Rattle.image_parts.proofs.Pieces.{moves}
 use Rattle.rules.proofs.Inner.{step-accepted}
 use Rattle.image_parts.proofs.Given.{gives}
 
-head-is : (b : List ℕ) (base : ℕ) → base ≡ startOf b → base ≡ 7 + 17 * queueIn b .processors
+head-is : (b : List ℕ) (base : ℕ) → base ≡ startOf b → base ≡ 7 + 17 * queueIn b .processorCount
 unfolding queueIn
 head-is b base h = h
 
-tail-is : (b : List ℕ) (x : ℕ) → x < getD b 1 0 + 2 → x < queueIn b .entries + 2
+tail-is : (b : List ℕ) (x : ℕ) → x < getD b 1 0 + 2 → x < queueIn b .nodeCount + 2
 unfolding queueIn
 tail-is b x h = h
 
-low-is : (b : List ℕ) (p : ℕ) → p < getD b 0 0 → p < queueIn b .processors
+low-is : (b : List ℕ) (p : ℕ) → p < getD b 0 0 → p < queueIn b .processorCount
 unfolding queueIn
 low-is b p h = h
 
@@ -60,7 +60,7 @@ abbrev pub onward : List ℕ → ℕ → ℕ → ℕ
 onward b base p = getD b (base + 41 * mine b p 6 + (mine b p 7 - 1)) 0
 
 module _ (b : List ℕ) (base : ℕ) (start : base ≡ startOf b) (short : getD b 1 0 ≤ 200) where
-  pub key-is : (x : ℕ) → x ≤ getD b 1 0 + 1 → keyOf (queueIn b .entries) x (nodeAt (queueIn b) x)
+  pub key-is : (x : ℕ) → x ≤ getD b 1 0 + 1 → keyOf (queueIn b .nodeCount) x (nodeAt (queueIn b) x)
       ≡ keyIn b base x
   unfolding queueIn
   key-is x h =
@@ -89,22 +89,22 @@ module _ (b : List ℕ) (base p tag : ℕ) (r : Placed b base p tag) where
   pub stage-is : processorAt (queueIn b) p .stage
       ≡ stageOf (code tag (mine b p 6) (mine b p 7) (mine b p 8))
   stage-is =
-      ap (λ (c : Processor). c .stage) (caller-is b p (r .processors-high) (r .low))
+      ap (λ (c : Processor). c .stage) (processor-is b p (r .processors-high) (r .low))
       ∙ ap (λ (t : ℕ). stageOf (code t (mine b p 6) (mine b p 7) (mine b p 8))) (r .tagged)
 
   pub own-is : processorAt (queueIn b) p .own ≡ mine b p 4
-  own-is = ap (λ (c : Processor). c .own) (caller-is b p (r .processors-high) (r .low))
+  own-is = ap (λ (c : Processor). c .own) (processor-is b p (r .processors-high) (r .low))
 
   pub next-is : nextOf (queueIn b) (place (mine b p 6) (mine b p 7)) ≡ onward b base p
   next-is =
       next-at b base (r .start) (r .entries-high) p (r .node-low) (r .level-low) (r .level-high)
 
   pub before-is :
-      sightOf (queueIn b) (processorAt (queueIn b) p) (place (mine b p 6) (mine b p 7)) .before
+      stepViewOf (queueIn b) (processorAt (queueIn b) p) (place (mine b p 6) (mine b p 7)) .nextBeforeKey
       ≡ keyBefore (keyIn b base (onward b base p)) (keyIn b base (mine b p 4))
   before-is =
       let q = queueIn b in
-      let k : ℕ → Key = λ y. keyOf (q .entries) y (nodeAt q y) in
+      let k : ℕ → Key = λ y. keyOf (q .nodeCount) y (nodeAt q y) in
       ap (keyBefore (k (nextOf q (place (mine b p 6) (mine b p 7)))))
       (own-key (processorAt q p .stage) (k (processorAt q p .own)))
       ∙ ap (λ (y : ℕ). keyBefore (k y) (k (processorAt q p .own))) next-is
@@ -121,11 +121,11 @@ module _ (b : List ℕ) (base p tag : ℕ) (s : Sound b) (start : base ≡ start
     (early : number32 b 3 < 999999) (tagged : mine b p 5 ≡ tag) (g : Stage)
     (is : stageOf (code tag (mine b p 6) (mine b p 7) (mine b p 8)) ≡ g) (busy : isIdle g ≡ false)
     (d : Decision)
-    (decides : decide (sightOf (queueIn b) (processorAt (queueIn b) p) (readingPlace g)) g
+    (decides : decide (stepViewOf (queueIn b) (processorAt (queueIn b) p) (readingPlace g)) g
     ≡ d) where
   at-stage : processorAt (queueIn b) p .stage ≡ g
   at-stage =
-      ap (λ (c : Processor). c .stage) (caller-is b p many low)
+      ap (λ (c : Processor). c .stage) (processor-is b p many low)
       ∙ ap (λ (t : ℕ). stageOf (code t (mine b p 6) (mine b p 7) (mine b p 8))) tagged
       ∙ is
 
@@ -133,12 +133,12 @@ module _ (b : List ℕ) (base p tag : ℕ) (s : Sound b) (start : base ≡ start
       (es fs : List (ℕ × ℕ)) → nodeOf (d .effect) < getD b 1 0 + 2 → Below 41 es → Below 17 fs →
       putsIn (nodeImage (nodeAt (queueIn b) (nodeOf (d .effect)))) es
       ≡ nodeImage
-      (changed (queueIn b .levels) (queueIn b .entries + 1) (p + 1) (queueIn b .clock + 1)
+      (changed (queueIn b .levelCount) (queueIn b .nodeCount + 1) (p + 1) (queueIn b .clock + 1)
       (d .effect) (nodeAt (queueIn b) (nodeOf (d .effect)))) →
       putsIn (processorImage
       (moves (processorAt (queueIn b) p) g (processorAt (queueIn b) p .saved))) fs
       ≡ processorImage
-      (processorAfter (queueIn b .levels) (queueIn b .clock + 1) (processorAt (queueIn b) p) d)
+      (processorAfter (queueIn b .levelCount) (queueIn b .clock + 1) (processorAt (queueIn b) p) d)
       →
       (after : List ℕ) →
       after ≡ puts
@@ -146,25 +146,25 @@ module _ (b : List ℕ) (base p tag : ℕ) (s : Sound b) (start : base ≡ start
       (7 + 17 * p) fs →
       (r : Answer) → r ≡ d .answer →
       Stepped b p after r
-  arm es fs x< es< fs< node caller after e r f =
+  arm es fs x< es< fs< node processor after e r f =
       let q = queueIn b in
       let c = processorAt q p in
       let decided : stepDecision q c ≡ d =
-      ap (λ (x : Stage). decide (sightOf q c (readingPlace x)) x) at-stage ∙ decides in
+      ap (λ (x : Stage). decide (stepViewOf q c (readingPlace x)) x) at-stage ∙ decides in
       gives b base p s (head-is b base start) (low-is b p low) d (calledValid q (call.Step p))
       (step-accepted q p (rw (clock-is b) early) (low-is b p low) (ap isIdle at-stage ∙ busy)
       ∙ ap (accepted q p) decided)
       es fs (tail-is b (nodeOf (d .effect)) x<) es< fs< node
-      (ap (λ (x : Stage). putsIn (processorImage (moves c x (c .saved))) fs) at-stage ∙ caller)
+      (ap (λ (x : Stage). putsIn (processorImage (moves c x (c .saved))) fs) at-stage ∙ processor)
       after (rw (clock-is b) e) r f
 
 -- what the stages of an Insert read besides
 module _ (b : List ℕ) (base p tag : ℕ) (r : Placed b base p tag) where
-  pub guard-is : lockAt (nodeAt (queueIn b) (mine b p 6)) (mine b p 7)
+  pub place-lock-is : lockAt (nodeAt (queueIn b) (mine b p 6)) (mine b p 7)
       ≡ getD b (base + 41 * mine b p 6 + (8 + (mine b p 7 - 1))) 0
-  guard-is =
+  place-lock-is =
       let k = mine b p 7 - 1 in
-      ap (λ (n : Node). getD (n .locks) k 0)
+      ap (λ (n : Node). getD (n .levelLocks) k 0)
       (node-is b base (r .start) (r .entries-high) (mine b p 6) (omega (arith, r .node-low)))
       ∙ eight-at (piece b (base + 41 * mine b p 6)) 8 k (omega (arith, r .level-low, r .level-high))
 
@@ -181,11 +181,11 @@ module _ (b : List ℕ) (base p tag : ℕ) (r : Placed b base p tag) where
   up-is h =
       let z : mine b p 7 + 1 - 1 ≡ mine b p 7 = omega arith in
       rw z (ap (λ (c : Processor). getD (c .saved) (mine b p 7) 0)
-      (caller-is b p (r .processors-high) (r .low))
+      (processor-is b p (r .processors-high) (r .low))
       ∙ eight-at (piece b (7 + 17 * p)) 9 (mine b p 7) h)
 
 -- stages with no place
-pub levels-is : (b : List ℕ) → queueIn b .levels ≡ getD b 2 0
+pub levels-is : (b : List ℕ) → queueIn b .levelCount ≡ getD b 2 0
 unfolding queueIn
 levels-is b = refl
 
@@ -197,7 +197,7 @@ clears-below (suc l) es h k =
 
 module _ (b : List ℕ) (base p tag : ℕ) (r : Owned b base p tag) where
   pub mine-is : processorAt (queueIn b) p .own ≡ mine b p 4
-  mine-is = ap (λ (c : Processor). c .own) (caller-is b p (r .processors-high) (r .low))
+  mine-is = ap (λ (c : Processor). c .own) (processor-is b p (r .processors-high) (r .low))
 
   pub own-low : mine b p 4 < getD b 1 0 + 2
   own-low = omega (arith, r .own-high, r .entries-high)

@@ -16,7 +16,7 @@ use Rattle.record.specs.Stages.{isIdle, place}
 use Rattle.image.specs.Image.{queueIn, Sound}
 use Rattle.image.specs.Numbers.{number32}
 use Rattle.image.specs.Tags.{code, insertOf, deleteOf, removalOf, stageOf}
-use Rattle.image.proofs.Fields.{caller-is}
+use Rattle.image.proofs.Fields.{processor-is}
 use Rattle.rules.specs.declared.calls.Call.{Call}
 use Rattle.rules.specs.declared.calls.Call.the-variants as call
 use Rattle.rules.specs.Calls.{processorOf, turnRefusal, numbersRefusal, refusalBy}
@@ -41,7 +41,7 @@ idle-tag t a i x = go (eqb t 0) (leb t 10) (leb t 13)
 pub idle-is : (b : List ℕ) (p : ℕ) → getD b 0 0 ≤ 16 → p < getD b 0 0 →
     isIdle (processorAt (queueIn b) p .stage) ≡ eqb (getD b (7 + 17 * p + 5) 0) 0
 idle-is b p many low =
-    ap (λ (c : Processor). isIdle (c .stage)) (caller-is b p many low)
+    ap (λ (c : Processor). isIdle (c .stage)) (processor-is b p many low)
     ∙ idle-tag (getD b (7 + 17 * p + 5) 0) _ _ _
 
 -- where there is no such processor it does not matter
@@ -55,7 +55,7 @@ refusal-in b s c = go (decLt (processorOf c) (getD b 0 0))
     p = processorOf c
 
     many : getD b 0 0 ≤ 16
-    many = valid-facts (queueIn b) (s .passes) .sizes .processors .high
+    many = valid-facts (queueIn b) (s .passes) .sizes .processorCount .high
 
     go : Dec (p < getD b 0 0) →
         refusalBy c (number32 b 3) (getD b 0 0) (getD b 2 0) (idleIn b p) ≡ refusalIn b c
@@ -81,7 +81,7 @@ module _ (b : List ℕ) (s : Sound b) (c : Call) (e : refusalIn b c ≡ 0) where
   pub turn : turnRefusal c (idleIn b (processorOf c)) ≡ 0
   unfolding queueIn
   turn =
-      let many : getD b 0 0 ≤ 16 = valid-facts (queueIn b) (s .passes) .sizes .processors .high in
+      let many : getD b 0 0 ≤ 16 = valid-facts (queueIn b) (s .passes) .sizes .processorCount .high in
       rw (lt-leb (getD b 0 0) (processorOf c) here, sym (idle-is b (processorOf c) many here))
       (early-allowed (queueIn b) c e .turn)
 

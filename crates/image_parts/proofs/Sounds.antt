@@ -6,7 +6,7 @@ use Prim.Native.Nat.{ℕ, _+_, _*_, _-_, _≤_, _<_}
 use native.Mathlib.Omega.{arith}
 use lib.ListN.{getD, drop}
 use lib.Seq.{getD-take, getD-drop}
-use Rattle.checks.specs.Check.{valid}
+use Rattle.record_check.specs.Check.{valid}
 use Rattle.record.specs.declared.nodes.Node.{Node}
 use Rattle.record.specs.declared.queues.Processor.{Processor}
 use Rattle.record.specs.declared.queues.Queue.{Queue}
@@ -29,23 +29,22 @@ use Rattle.rules.specs.declared.answers.Answer.the-variants as ans
 use Rattle.rules.specs.declared.answers.Outcome.{Outcome}
 use Rattle.rules.specs.Answers.{refused}
 use Rattle.rules.specs.declared.calls.Call.{Call}
-use Rattle.rules.specs.Calls.{nodeRefusal, firstOf, refusalOf, calledValid}
-use Rattle.rules.specs.Choice.{chosen}
+use Rattle.rules.specs.Calls.{taken, nodeRefusal, firstOf, refusalOf, calledValid}
 use Rattle.rules.proofs.ValidFacts.{valid-facts}
 use Rattle.rules.proofs.Allowed.{first-told, first-none}
 use Rattle.rules.proofs.Inner.{call-inner, call-told}
 use Rattle.image_parts.proofs.Kept.{sized-after}
-use Rattle.image.specs.Image.{imageOf, startOf, callerPart, queueIn, Sound}
+use Rattle.image.specs.Image.{imageOf, startOf, processorPart, queueIn, Sound}
 use Rattle.image_parts.specs.Given.{Gives, refusalIn, Called}
 use Rattle.image.specs.OneToOne.{Trim}
-use Rattle.image.proofs.Inverse.{trim-in, caller-part, read-write}
+use Rattle.image.proofs.Inverse.{trim-in, processor-part, read-write}
 use Rattle.image.proofs.Sizes.{sized-in}
 use Rattle.image.proofs.Lengths.{length-image}
 use Rattle.rules.specs.Demand3.{SameOutside}
 use Rattle.rules.specs.Runs.{Turn, calls, after}
 use Rattle.rules.proofs.Untouched.{untouched}
 use Rattle.rules.proofs.Valid.{kept-valid}
-use Rattle.image.proofs.Fields.{caller-is, node-is}
+use Rattle.image.proofs.Fields.{processor-is, node-is}
 use Rattle.image_parts.specs.Ready.{Placed, Owned, Walked}
 use Rattle.image_parts.proofs.Readings.{mine, next-at}
 
@@ -61,13 +60,13 @@ module _ (b : List ℕ) (base p tag : ℕ) (s : Sound b) (start : base ≡ start
   placed own at =
       let q = queueIn b in
       let v = valid-facts q (s .passes) in
-      let many : getD b 0 0 ≤ 16 = v .sizes .processors .high in
+      let many : getD b 0 0 ≤ 16 = v .sizes .processorCount .high in
       let few : p < 16 = omega arith in
-      let is = caller-is b p many low in
+      let is = processor-is b p many low in
       let g : processorAt q p .stage ≡ stageOf (code tag (mine b p 6) (mine b p 7) (mine b p 8)) =
       ap (λ (c : Processor). c .stage) is
       ∙ ap (λ (t : ℕ). stageOf (code t (mine b p 6) (mine b p 7) (mine b p 8))) tagged in
-      let c = v .callers p low .carries in
+      let c = v .processors p low .carries in
       let w = c .has-own (ap (λ (x : Stage). carried x .own) g ∙ own) in
       let o : processorAt q p .own ≡ mine b p 4 = ap (λ (c : Processor). c .own) is in
       let a : carried (processorAt q p .stage) .place ≡ place (mine b p 6) (mine b p 7) =
@@ -77,8 +76,8 @@ module _ (b : List ℕ) (base p tag : ℕ) (s : Sound b) (start : base ≡ start
       let l : 1 ≤ mine b p 7 = rw (ap (λ (x : Place). x .level) a) at (c .place .level .low) in
       let h : mine b p 7 ≤ getD b 2 0 =
       rw (ap (λ (x : Place). x .level) a) at (c .place .level .high) in
-      let n : getD b 1 0 ≤ 200 = v .sizes .entries .high in
-      let m : getD b 2 0 ≤ 8 = v .sizes .levels .high in
+      let n : getD b 1 0 ≤ 200 = v .sizes .nodeCount .high in
+      let m : getD b 2 0 ≤ 8 = v .sizes .levelCount .high in
       let oh : mine b p 4 ≤ getD b 1 0 = rw o at (w .high) in
       let height = v .nodes (mine b p 4) (omega arith) .height in
       let h≡ : nodeAt q (mine b p 4) .height ≡ getD b (base + 41 * mine b p 4 + 35) 0 =
@@ -110,17 +109,17 @@ module _ (b : List ℕ) (base p tag : ℕ) (s : Sound b) (start : base ≡ start
   owned own =
       let q = queueIn b in
       let v = valid-facts q (s .passes) in
-      let many : getD b 0 0 ≤ 16 = v .sizes .processors .high in
+      let many : getD b 0 0 ≤ 16 = v .sizes .processorCount .high in
       let few : p < 16 = omega arith in
-      let is = caller-is b p many low in
+      let is = processor-is b p many low in
       let g : processorAt q p .stage ≡ stageOf (code tag (mine b p 6) (mine b p 7) (mine b p 8)) =
       ap (λ (c : Processor). c .stage) is
       ∙ ap (λ (t : ℕ). stageOf (code t (mine b p 6) (mine b p 7) (mine b p 8))) tagged in
-      let w = v .callers p low .carries .has-own (ap (λ (x : Stage). carried x .own) g ∙ own) in
+      let w = v .processors p low .carries .has-own (ap (λ (x : Stage). carried x .own) g ∙ own) in
       let o : processorAt q p .own ≡ mine b p 4 = ap (λ (c : Processor). c .own) is in
       let oh : mine b p 4 ≤ getD b 1 0 = rw o at (w .high) in
-      let n : getD b 1 0 ≤ 200 = v .sizes .entries .high in
-      let m : getD b 2 0 ≤ 8 = v .sizes .levels .high in
+      let n : getD b 1 0 ≤ 200 = v .sizes .nodeCount .high in
+      let m : getD b 2 0 ≤ 8 = v .sizes .levelCount .high in
       let height = v .nodes (mine b p 4) (omega arith) .height in
       let h≡ : nodeAt q (mine b p 4) .height ≡ getD b (base + 41 * mine b p 4 + 35) 0 =
       ap (λ (n : Node). n .height) (node-is b base start n (mine b p 4) (omega arith)) in
@@ -137,8 +136,8 @@ module _ (b : List ℕ) (base p tag : ℕ) (s : Sound b) (start : base ≡ start
         tagged = tagged;
         own-low = rw o at (w .low);
         own-high = rw o at (w .high);
-        entries-high = v .sizes .entries .high;
-        levels-high = v .sizes .levels .high;
+        entries-high = v .sizes .nodeCount .high;
+        levels-high = v .sizes .levelCount .high;
       }
 
   pub walked :
@@ -149,15 +148,15 @@ module _ (b : List ℕ) (base p tag : ℕ) (s : Sound b) (start : base ≡ start
   walked at =
       let q = queueIn b in
       let v = valid-facts q (s .passes) in
-      let many : getD b 0 0 ≤ 16 = v .sizes .processors .high in
+      let many : getD b 0 0 ≤ 16 = v .sizes .processorCount .high in
       let few : p < 16 = omega arith in
       let g : processorAt q p .stage ≡ stageOf (code tag (mine b p 6) (mine b p 7) (mine b p 8)) =
-      ap (λ (c : Processor). c .stage) (caller-is b p many low)
+      ap (λ (c : Processor). c .stage) (processor-is b p many low)
       ∙ ap (λ (t : ℕ). stageOf (code t (mine b p 6) (mine b p 7) (mine b p 8))) tagged in
       let a : carried (processorAt q p .stage) .place .node ≡ mine b p 6 =
       ap (λ (x : Stage). carried x .place .node) g ∙ at in
-      let node : mine b p 6 ≤ getD b 1 0 + 1 = rw a at (v .callers p low .carries .place .node) in
-      let n : getD b 1 0 ≤ 200 = v .sizes .entries .high in
+      let node : mine b p 6 ≤ getD b 1 0 + 1 = rw a at (v .processors p low .carries .place .node) in
+      let n : getD b 1 0 ≤ 200 = v .sizes .nodeCount .high in
       record {
         sound = s;
         start = start;
@@ -169,20 +168,20 @@ module _ (b : List ℕ) (base p tag : ℕ) (s : Sound b) (start : base ≡ start
         tagged = tagged;
         node-low = node;
         entries-high = n;
-        levels-high = v .sizes .levels .high;
+        levels-high = v .sizes .levelCount .high;
       }
 
 -- the record that a call gives: its image is read as it, and it passes check 21
 pub trim-after : (q u : Queue) → SameOutside q u → Trim q → Trim u
 trim-after q u o t =
-    let p = o .processors in
-    let n = o .entries in
+    let p = o .processorCount in
+    let n = o .nodeCount in
     record {
       processors-high = omega (arith, t .processors-high);
       entries-high = omega (arith, t .entries-high);
       nodes = λ x h l. o .nodes x (omega arith) ∙ t .nodes x (omega arith) l
           ∙ ap (λ (k : ℕ). freshNode (k + 1)) (sym n);
-      callers = λ x h l. o .callers x (omega arith) ∙ t .callers x (omega arith) l;
+      processors = λ x h l. o .processors x (omega arith) ∙ t .processors x (omega arith) l;
     }
 
 -- the record after a call of any kind: its image is read as it, and passes
@@ -192,7 +191,7 @@ module _ (b : List ℕ) (s : Sound b) (c : Turn) (u : Queue) (is : u ≡ after (
   back-after =
       let q = queueIn b in
       let v = valid-facts q (s .passes) .sizes in
-      let t = trim-in b (v .processors .high) (v .entries .high) in
+      let t = trim-in b (v .processorCount .high) (v .nodeCount .high) in
       read-write u (rw is (sized-after q (sized-in b) c))
       (rw is (trim-after q (after q c) (untouched q c) t))
 
@@ -235,21 +234,21 @@ module _ (b : List ℕ) (s : Sound b) (c : Call) where
   pub refused-early : (n : ℕ) → n ≡ refusalIn b c → 0 < n → (r : Answer) → r ≡ ans.Refused n →
       Called b c b r
   refused-early n e h r f =
-      let more = nodeRefusal c (chosen (queueIn b)) in
+      let more = nodeRefusal c (taken (queueIn b) c) in
       let at : refusalOf (queueIn b) c ≡ n =
       ap (λ (m : ℕ). firstOf m more) (sym e) ∙ first-told n more h in
       kept-sound b r (refuses b s _ n r (call-told (queueIn b) c n at h) f)
 
-  pub refused-late : refusalIn b c ≡ 0 → (n : ℕ) → nodeRefusal c (chosen (queueIn b)) ≡ n → 0 < n →
+  pub refused-late : refusalIn b c ≡ 0 → (n : ℕ) → nodeRefusal c (taken (queueIn b) c) ≡ n → 0 < n →
       (r : Answer) → r ≡ ans.Refused n → Called b c b r
   refused-late e n g h r f =
-      let at = first-none (refusalIn b c) (nodeRefusal c (chosen (queueIn b))) e ∙ g in
+      let at = first-none (refusalIn b c) (nodeRefusal c (taken (queueIn b) c)) e ∙ g in
       kept-sound b r (refuses b s _ n r (call-told (queueIn b) c n at h) f)
 
 module _ (b : List ℕ) (p : ℕ) (s : Sound b) (r : Answer) where
   pub processors-high : getD b 0 0 ≤ 16
   unfolding queueIn
-  processors-high = valid-facts (queueIn b) (s .passes) .sizes .processors .high
+  processors-high = valid-facts (queueIn b) (s .passes) .sizes .processorCount .high
 
 -- a stage's tag is at most 26
 tag-low : (g : Stage) → stageCode g .tag ≤ 26
@@ -268,13 +267,13 @@ tag-low (stage.Insert (ins.Seek (seek.Confirm a))) = omega arith
 tag-low (stage.Removal jobs.Deliver (rem.Seek (seek.Confirm a))) = omega arith
 tag-low (stage.Insert (ins.Seek (seek.Release a b))) = omega arith
 tag-low (stage.Removal jobs.Deliver (rem.Seek (seek.Release a b))) = omega arith
-tag-low (stage.Delete (del.Next a)) = omega arith
-tag-low (stage.Delete (del.Stamped a)) = omega arith
-tag-low (stage.Delete (del.Mark a)) = omega arith
+tag-low (stage.Delete (del.ReadNext a)) = omega arith
+tag-low (stage.Delete (del.TestStamp a)) = omega arith
+tag-low (stage.Delete (del.SetMark a)) = omega arith
 tag-low (stage.Removal jobs.Deliver (rem.Search a)) = omega arith
 tag-low (stage.Removal jobs.Deliver (rem.HoldOwn a)) = omega arith
 tag-low (stage.Removal jobs.Deliver (rem.Unlink a)) = omega arith
-tag-low (stage.Removal jobs.Deliver (rem.Back a)) = omega arith
+tag-low (stage.Removal jobs.Deliver (rem.LeadBack a)) = omega arith
 tag-low (stage.Removal jobs.Deliver (rem.FreeOwn a)) = omega arith
 tag-low (stage.Removal jobs.Deliver (rem.FreeLevel a)) = omega arith
 tag-low (stage.Removal jobs.Deliver rem.HoldNode) = omega arith
@@ -290,8 +289,8 @@ unfolding queueIn
 tag-high b p s low =
     let e : mine b p 5 ≡ stageCode (processorAt (queueIn b) p .stage) .tag =
     sym (getD-take 17 (drop (7 + 17 * p) b) 5 0 (omega arith) ∙ getD-drop (7 + 17 * p) b 5 0)
-    ∙ ap (λ (l : List ℕ). getD (callerPart l p) 5 0) (sym (s .image))
-    ∙ ap (λ (l : List ℕ). getD l 5 0) (caller-part (queueIn b) p low)
+    ∙ ap (λ (l : List ℕ). getD (processorPart l p) 5 0) (sym (s .image))
+    ∙ ap (λ (l : List ℕ). getD l 5 0) (processor-part (queueIn b) p low)
     ∙ tag-of (processorAt (queueIn b) p) in
     rw e (tag-low (processorAt (queueIn b) p .stage))
 

@@ -24,7 +24,7 @@ idleIn b p = cond (leb (getD b 0 0) p) false (eqb (getD b (7 + 17 * p + 5) 0) 0)
 -- what a call on these bytes is refused with before a node is looked for, or 0
 abbrev pub refusalIn : List ℕ → Call → ℕ
 refusalIn b c =
-    refusalBy c (queueIn b .clock) (queueIn b .processors) (queueIn b .levels)
+    refusalBy c (queueIn b .clock) (queueIn b .processorCount) (queueIn b .levelCount)
     (idleAt (queueIn b) (processorOf c))
 
 -- after a call: what it leaves passes again

@@ -4,6 +4,7 @@ ghost use Prim.Native.Nat.{ℕ, _+_, _*_, _≤_, _<_};
 ghost use lib.ListN.{length, getD};
 ghost use Rattle.image_parts.specs.Ready.{keyIn};
 ghost use Rattle.record.specs.Keys.{keyBefore};
+use image::layout::NODE_BYTES;
 use image::numbers::number_from;
 
 // Whether node x's key is before that of node y, which is an entry's.
@@ -21,8 +22,8 @@ pub fn before(b: &[u8], base: usize, x: u8, y: u8) -> bool
     if x - 1 == n {
         return false;
     }
-    let s = base + 41 * (x as usize);
-    let t = base + 41 * (y as usize);
+    let s = base + NODE_BYTES * (x as usize);
+    let t = base + NODE_BYTES * (y as usize);
     let d = number_from(b, s + 23);
     let e = number_from(b, t + 23);
     if d != e {

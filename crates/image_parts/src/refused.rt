@@ -2,10 +2,12 @@
 ghost use mathlib.Core.Path.{_≡_};
 ghost use Rattle.image.specs.Image.{Sound};
 ghost use Rattle.image_parts.specs.Given.{idleIn, refusalIn};
+use image::layout::HEADER;
+use image::layout::PROCESSOR_BYTES;
 use image::numbers::number_from;
-use refusals::processor_of;
-use refusals::refusal_of;
 use rules::Call;
+use rules_refusals::processor_of;
+use rules_refusals::refusal_of;
 
 // Whether a processor is idle; it is not where the queue has none of this number.
 fn idle_at(b: &[u8], processor: u32) -> bool
@@ -15,7 +17,7 @@ fn idle_at(b: &[u8], processor: u32) -> bool
     if (b[0] as u32) <= processor {
         return false;
     }
-    b[7 + 17 * (processor as usize) + 5] == 0
+    b[HEADER + PROCESSOR_BYTES * (processor as usize) + 5] == 0
 }
 
 // The refusal of a call before a node is looked for, or 0.

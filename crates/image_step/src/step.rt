@@ -6,6 +6,8 @@ ghost use Rattle.image.specs.Image.{startOf, Sound};
 ghost use Rattle.image.specs.Numbers.{number32};
 ghost use Rattle.image_parts.specs.Given.{Called};
 ghost use Rattle.rules.specs.declared.calls.Call.the-variants as call;
+use image::layout::HEADER;
+use image::layout::PROCESSOR_BYTES;
 use image_delete::removals::back;
 use image_delete::removals::free_level;
 use image_delete::removals::free_node;
@@ -37,7 +39,7 @@ fn stage_step(image: &mut [u8], base: usize, p: usize) -> Answer
         × (number32 (now image) 3 < 999999) × (1 ≤ getD (now image) (7 + 17 * p + 5) 0) ⌝ }
     ensures { λ r. ⌜ Called (now (image .entry)) (call.Step p) (now (image .exit)) r ⌝ }
 {
-    let tag = image[7 + 17 * p + 5];
+    let tag = image[HEADER + PROCESSOR_BYTES * p + 5];
     match tag {
         1 => return search(image, base, p, false),
         2 => return approach(image, base, p, false),
@@ -79,6 +81,6 @@ pub fn step_at(image: &mut [u8], processor: u32) -> Answer
     if 0 < refusal {
         return Answer::Refused(refusal);
     }
-    let base = 7 + 17 * (image[0] as usize);
+    let base = HEADER + PROCESSOR_BYTES * (image[0] as usize);
     stage_step(image, base, processor as usize)
 }

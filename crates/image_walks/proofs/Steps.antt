@@ -14,7 +14,7 @@ use Rattle.record.specs.Stages.{place}
 use Rattle.rules.specs.declared.answers.Answer.{Answer}
 use Rattle.rules.specs.declared.answers.Answer.the-variants as ans
 use Rattle.rules.specs.declared.decisions.Effect.the-variants as eff
-use Rattle.rules.specs.Calls.{sightOf}
+use Rattle.rules.specs.Calls.{stepViewOf}
 use Rattle.rules.specs.Decide.{moved, waits, saving}
 use Rattle.image.specs.Image.{queueIn}
 use Rattle.image.specs.Numbers.{number32}
@@ -23,7 +23,7 @@ use Rattle.image.proofs.Sizes.{sized-in}
 use Rattle.image_parts.specs.Given.{Stepped}
 use Rattle.image_parts.specs.Ready.{keyIn, Placed}
 use Rattle.image_parts.proofs.Pieces.{put-lock}
-use Rattle.image_parts.proofs.Readings.{mine, onward, arm, next-is, before-is, guard-is}
+use Rattle.image_parts.proofs.Readings.{mine, onward, arm, next-is, before-is, place-lock-is}
 use Rattle.image_walks.specs.Walks.{searchTag, seekTag}
 use Rattle.image_walks.proofs.Tags.{
   searching,
@@ -71,14 +71,14 @@ module _ (w : Bool) (b : List ℕ) (base p : ℕ) (r : Placed b base p (searchTa
       let q = queueIn b in
       let c = processorAt q p in
       let a = place (mine b p 6) (mine b p 7) in
-      let s = sightOf q c a in
+      let s = stepViewOf q c a in
       let k< : mine b p 7 - 1 < 8 = omega (arith, r .level-high, r .level-low) in
       arm b base p (searchTag w) (r .sound) (r .start) (r .entries-high) (r .processors-high)
       (r .low) (r .few)
       (r .early) (r .tagged) (searching w a) (search-tag w (mine b p 6) (mine b p 7) (mine b p 8))
       (search-busy w a)
       (moved s eff.Keep (searching w (place (onward b base p) (mine b p 7))))
-      (search-goes (sightOf q c) a w (before-is b base p (searchTag w) r ∙ sym h)
+      (search-goes (stepViewOf q c) a w (before-is b base p (searchTag w) r ∙ sym h)
       ∙ ap (λ (n : ℕ). moved s eff.Keep (searching w (place n (mine b p 7))))
       (next-is b base p (searchTag w) r))
       [] ((6, onward b base p) ∷ []) (omega arith) tt (omega arith, tt)
@@ -96,14 +96,14 @@ module _ (w : Bool) (b : List ℕ) (base p : ℕ) (r : Placed b base p (searchTa
       let q = queueIn b in
       let c = processorAt q p in
       let a = place (mine b p 6) (mine b p 7) in
-      let s = sightOf q c a in
+      let s = stepViewOf q c a in
       let k< : mine b p 7 - 1 < 8 = omega (arith, r .level-high, r .level-low) in
       arm b base p (searchTag w) (r .sound) (r .start) (r .entries-high) (r .processors-high)
       (r .low) (r .few)
       (r .early) (r .tagged) (searching w a) (search-tag w (mine b p 6) (mine b p 7) (mine b p 8))
       (search-busy w a)
       (saving s a (searching w (place (mine b p 6) (mine b p 7 - 1))))
-      (search-falls (sightOf q c) a w (before-is b base p (searchTag w) r ∙ sym h) (lt-leb _ _ i))
+      (search-falls (stepViewOf q c) a w (before-is b base p (searchTag w) r ∙ sym h) (lt-leb _ _ i))
       [] ((9 + (mine b p 7 - 1), mine b p 6) ∷ (7, mine b p 7 - 1) ∷ []) (omega arith) tt
       (omega arith, (omega arith, tt))
       refl
@@ -122,12 +122,12 @@ module _ (b : List ℕ) (base p : ℕ) (r : Placed b base p 1) (after : List ℕ
       let q = queueIn b in
       let c = processorAt q p in
       let a = place (mine b p 6) (mine b p 7) in
-      let s = sightOf q c a in
+      let s = stepViewOf q c a in
       let k< : mine b p 7 - 1 < 8 = omega (arith, r .level-high, r .level-low) in
       arm b base p 1 (r .sound) (r .start) (r .entries-high) (r .processors-high) (r .low) (r .few)
       (r .early) (r .tagged) (searching false a) refl refl
       (saving s a (left false a))
-      (search-ends (sightOf q c) a false (before-is b base p 1 r ∙ sym h) (le-leb _ _ i))
+      (search-ends (stepViewOf q c) a false (before-is b base p 1 r ∙ sym h) (le-leb _ _ i))
       [] ((9 + (mine b p 7 - 1), mine b p 6) ∷ (5, 2) ∷ []) (omega arith) tt
       (omega arith, (omega arith, tt))
       refl
@@ -146,12 +146,12 @@ module _ (b : List ℕ) (base p : ℕ) (r : Placed b base p 14) (after : List �
       let q = queueIn b in
       let c = processorAt q p in
       let a = place (mine b p 6) (mine b p 7) in
-      let s = sightOf q c a in
+      let s = stepViewOf q c a in
       let k< : mine b p 7 - 1 < 8 = omega (arith, r .level-high, r .level-low) in
       arm b base p 14 (r .sound) (r .start) (r .entries-high) (r .processors-high) (r .low) (r .few)
       (r .early) (r .tagged) (searching true a) refl refl
       (saving s a (left true a))
-      (search-ends (sightOf q c) a true (before-is b base p 14 r ∙ sym h) (le-leb _ _ i))
+      (search-ends (stepViewOf q c) a true (before-is b base p 14 r ∙ sym h) (le-leb _ _ i))
       [] ((9 + (mine b p 7 - 1), mine b p 6) ∷ (5, 15) ∷ (6, 0) ∷ (7, 0) ∷ []) (omega arith) tt
       (omega arith, (omega arith, (omega arith, (omega arith, tt))))
       refl
@@ -170,14 +170,14 @@ module _ (w : Bool) (b : List ℕ) (base p : ℕ) (r : Placed b base p (seekTag 
       let q = queueIn b in
       let c = processorAt q p in
       let a = place (mine b p 6) (mine b p 7) in
-      let s = sightOf q c a in
+      let s = stepViewOf q c a in
       let k< : mine b p 7 - 1 < 8 = omega (arith, r .level-high, r .level-low) in
       arm b base p (seekTag w) (r .sound) (r .start) (r .entries-high) (r .processors-high)
       (r .low) (r .few)
       (r .early) (r .tagged) (seeking w (seek.Approach a))
       (approach-tag w (mine b p 6) (mine b p 7) (mine b p 8)) (seek-busy w (seek.Approach a))
       (moved s eff.Keep (seeking w (seek.Approach (place (onward b base p) (mine b p 7)))))
-      (approach-goes (sightOf q c) a w (before-is b base p (seekTag w) r ∙ sym h)
+      (approach-goes (stepViewOf q c) a w (before-is b base p (seekTag w) r ∙ sym h)
       ∙ ap (λ (n : ℕ). moved s eff.Keep (seeking w (seek.Approach (place n (mine b p 7)))))
       (next-is b base p (seekTag w) r))
       [] ((6, onward b base p) ∷ []) (omega arith) tt (omega arith, tt)
@@ -193,14 +193,14 @@ module _ (w : Bool) (b : List ℕ) (base p : ℕ) (r : Placed b base p (seekTag 
       let q = queueIn b in
       let c = processorAt q p in
       let a = place (mine b p 6) (mine b p 7) in
-      let s = sightOf q c a in
+      let s = stepViewOf q c a in
       let k< : mine b p 7 - 1 < 8 = omega (arith, r .level-high, r .level-low) in
       arm b base p (seekTag w) (r .sound) (r .start) (r .entries-high) (r .processors-high)
       (r .low) (r .few)
       (r .early) (r .tagged) (seeking w (seek.Approach a))
       (approach-tag w (mine b p 6) (mine b p 7) (mine b p 8)) (seek-busy w (seek.Approach a))
       (moved s eff.Keep (seeking w (seek.Take a)))
-      (approach-ends (sightOf q c) a w (before-is b base p (seekTag w) r ∙ sym h))
+      (approach-ends (stepViewOf q c) a w (before-is b base p (seekTag w) r ∙ sym h))
       [] ((5, seekTag w + 1) ∷ []) (omega arith) tt (omega arith, tt)
       refl
       (takes-next c a w) after e answer f
@@ -219,18 +219,18 @@ module _ (w : Bool) (b : List ℕ) (base p : ℕ) (r : Placed b base p (seekTag 
       let q = queueIn b in
       let c = processorAt q p in
       let a = place (mine b p 6) (mine b p 7) in
-      let s = sightOf q c a in
+      let s = stepViewOf q c a in
       let k< : mine b p 7 - 1 < 8 = omega (arith, r .level-high, r .level-low) in
       arm b base p (seekTag w + 1) (r .sound) (r .start) (r .entries-high) (r .processors-high)
       (r .low) (r .few)
       (r .early) (r .tagged) (seeking w (seek.Take a))
       (take-tag w (mine b p 6) (mine b p 7) (mine b p 8)) (seek-busy w (seek.Take a))
       (moved s (eff.HoldLevel a) (seeking w (seek.Confirm a)))
-      (take-goes (sightOf q c) a w
-      (ap (λ (n : ℕ). eqb n 0) (guard-is b base p (seekTag w + 1) r) ∙ eq-eqb _ _ h))
+      (take-goes (stepViewOf q c) a w
+      (ap (λ (n : ℕ). eqb n 0) (place-lock-is b base p (seekTag w + 1) r) ∙ eq-eqb _ _ h))
       ((8 + (mine b p 7 - 1), p + 1) ∷ []) ((5, seekTag w + 2) ∷ []) (omega (arith, r .node-low))
       (omega arith, tt) (omega arith, tt)
-      (put-lock (nodeAt q (mine b p 6)) (mine b p 7) (p + 1) k<
+      (put-lock (nodeAt q (mine b p 6)) (mine b p 7 - 1) (p + 1) [] k<
       (sized-in b .locks-long (mine b p 6) (omega (arith, r .node-low, r .entries-high))))
       (confirms-next c a w) after e answer f
 
@@ -243,15 +243,15 @@ module _ (w : Bool) (b : List ℕ) (base p : ℕ) (r : Placed b base p (seekTag 
       let q = queueIn b in
       let c = processorAt q p in
       let a = place (mine b p 6) (mine b p 7) in
-      let s = sightOf q c a in
+      let s = stepViewOf q c a in
       let k< : mine b p 7 - 1 < 8 = omega (arith, r .level-high, r .level-low) in
       arm b base p (seekTag w + 1) (r .sound) (r .start) (r .entries-high) (r .processors-high)
       (r .low) (r .few)
       (r .early) (r .tagged) (seeking w (seek.Take a))
       (take-tag w (mine b p 6) (mine b p 7) (mine b p 8)) (seek-busy w (seek.Take a))
       (waits s (seeking w (seek.Take a)))
-      (take-stays (sightOf q c) a w
-      (ap (λ (n : ℕ). eqb n 0) (guard-is b base p (seekTag w + 1) r) ∙ ne-eqb _ _ h))
+      (take-stays (stepViewOf q c) a w
+      (ap (λ (n : ℕ). eqb n 0) (place-lock-is b base p (seekTag w + 1) r) ∙ ne-eqb _ _ h))
       [] [] (omega arith) tt tt
       refl
       refl after e answer f
@@ -269,14 +269,14 @@ module _ (w : Bool) (b : List ℕ) (base p : ℕ) (r : Placed b base p (seekTag 
       let q = queueIn b in
       let c = processorAt q p in
       let a = place (mine b p 6) (mine b p 7) in
-      let s = sightOf q c a in
+      let s = stepViewOf q c a in
       let k< : mine b p 7 - 1 < 8 = omega (arith, r .level-high, r .level-low) in
       arm b base p (seekTag w + 2) (r .sound) (r .start) (r .entries-high) (r .processors-high)
       (r .low) (r .few)
       (r .early) (r .tagged) (seeking w (seek.Confirm a))
       (confirm-tag w (mine b p 6) (mine b p 7) (mine b p 8)) (seek-busy w (seek.Confirm a))
       (moved s eff.Keep (seeking w (seek.Release a (onward b base p))))
-      (confirm-goes (sightOf q c) a w (before-is b base p (seekTag w + 2) r ∙ sym h)
+      (confirm-goes (stepViewOf q c) a w (before-is b base p (seekTag w + 2) r ∙ sym h)
       ∙ ap (λ (n : ℕ). moved s eff.Keep (seeking w (seek.Release a n)))
       (next-is b base p (seekTag w + 2) r))
       [] ((5, seekTag w + 3) ∷ (8, onward b base p) ∷ []) (omega arith) tt
@@ -293,14 +293,14 @@ module _ (w : Bool) (b : List ℕ) (base p : ℕ) (r : Placed b base p (seekTag 
       let q = queueIn b in
       let c = processorAt q p in
       let a = place (mine b p 6) (mine b p 7) in
-      let s = sightOf q c a in
+      let s = stepViewOf q c a in
       let k< : mine b p 7 - 1 < 8 = omega (arith, r .level-high, r .level-low) in
       arm b base p (seekTag w + 2) (r .sound) (r .start) (r .entries-high) (r .processors-high)
       (r .low) (r .few)
       (r .early) (r .tagged) (seeking w (seek.Confirm a))
       (confirm-tag w (mine b p 6) (mine b p 7) (mine b p 8)) (seek-busy w (seek.Confirm a))
       (moved s eff.Keep (sought w a))
-      (confirm-ends (sightOf q c) a w (before-is b base p (seekTag w + 2) r ∙ sym h))
+      (confirm-ends (stepViewOf q c) a w (before-is b base p (seekTag w + 2) r ∙ sym h))
       [] ((5, seekTag w + 4) ∷ []) (omega arith) tt (omega arith, tt)
       refl
       (leaves c a w) after e answer f
@@ -319,7 +319,7 @@ module _ (w : Bool) (b : List ℕ) (base p : ℕ) (r : Placed b base p (seekTag 
       let q = queueIn b in
       let c = processorAt q p in
       let a = place (mine b p 6) (mine b p 7) in
-      let s = sightOf q c a in
+      let s = stepViewOf q c a in
       let k< : mine b p 7 - 1 < 8 = omega (arith, r .level-high, r .level-low) in
       arm b base p (seekTag w + 3) (r .sound) (r .start) (r .entries-high) (r .processors-high)
       (r .low) (r .few)
@@ -327,10 +327,10 @@ module _ (w : Bool) (b : List ℕ) (base p : ℕ) (r : Placed b base p (seekTag 
       (release-tag w (mine b p 6) (mine b p 7) (mine b p 8))
       (seek-busy w (seek.Release a (mine b p 8)))
       (moved s (eff.FreeLevel a) (seeking w (seek.Take (place (mine b p 8) (mine b p 7)))))
-      (release-goes (sightOf q c) a w (mine b p 8))
+      (release-goes (stepViewOf q c) a w (mine b p 8))
       ((8 + (mine b p 7 - 1), 0) ∷ []) ((5, seekTag w + 1) ∷ (6, mine b p 8) ∷ (8, 0) ∷ [])
       (omega (arith, r .node-low)) (omega arith, tt)
       (omega arith, (omega arith, (omega arith, tt)))
-      (put-lock (nodeAt q (mine b p 6)) (mine b p 7) 0 k<
+      (put-lock (nodeAt q (mine b p 6)) (mine b p 7 - 1) 0 [] k<
       (sized-in b .locks-long (mine b p 6) (omega (arith, r .node-low, r .entries-high))))
       (takes-again c a w (mine b p 8)) after e answer f

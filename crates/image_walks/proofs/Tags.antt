@@ -17,7 +17,7 @@ use Rattle.record.specs.declared.stages.Stage.{Stage}
 use Rattle.record.specs.declared.stages.Stage.the-variants as stage
 use Rattle.record.specs.Stages.{place, seekPart, isIdle}
 use Rattle.rules.specs.declared.decisions.Effect.the-variants as eff
-use Rattle.rules.specs.declared.decisions.Sight.{Sight}
+use Rattle.rules.specs.declared.decisions.StepView.{StepView}
 use Rattle.rules.specs.Calls.{readingPlace}
 use Rattle.rules.specs.Decide.{moved, waits, saving, decide, removing}
 use Rattle.image.specs.Tags.{code, stageOf}
@@ -91,64 +91,64 @@ seek-reads true k = refl
 seek-reads false k = refl
 
 -- what they decide, of what is seen at a place
-module _ (see : Place → Sight) (a : Place) where
+module _ (see : Place → StepView) (a : Place) where
   pub search-goes :
-      (w : Bool) → see a .before ≡ true →
+      (w : Bool) → see a .nextBeforeKey ≡ true →
       decide (see (readingPlace (searching w a))) (searching w a)
       ≡ moved (see a) eff.Keep (searching w (place (see a .next) (a .level)))
   search-goes true h = rw h refl
   search-goes false h = rw h refl
 
   pub search-falls :
-      (w : Bool) → see a .before ≡ false → leb (a .level) 1 ≡ false →
+      (w : Bool) → see a .nextBeforeKey ≡ false → leb (a .level) 1 ≡ false →
       decide (see (readingPlace (searching w a))) (searching w a)
       ≡ saving (see a) a (searching w (place (a .node) (a .level - 1)))
   search-falls true h l = rw (h, l) refl
   search-falls false h l = rw (h, l) refl
 
   pub search-ends :
-      (w : Bool) → see a .before ≡ false → leb (a .level) 1 ≡ true →
+      (w : Bool) → see a .nextBeforeKey ≡ false → leb (a .level) 1 ≡ true →
       decide (see (readingPlace (searching w a))) (searching w a) ≡ saving (see a) a (after w a)
   search-ends true h l = rw (h, l) refl
   search-ends false h l = rw (h, l) refl
 
   pub approach-goes :
-      (w : Bool) → see a .before ≡ true →
+      (w : Bool) → see a .nextBeforeKey ≡ true →
       decide (see (readingPlace (seeking w (seek.Approach a)))) (seeking w (seek.Approach a))
       ≡ moved (see a) eff.Keep (seeking w (seek.Approach (place (see a .next) (a .level))))
   approach-goes true h = rw h refl
   approach-goes false h = rw h refl
 
   pub approach-ends :
-      (w : Bool) → see a .before ≡ false →
+      (w : Bool) → see a .nextBeforeKey ≡ false →
       decide (see (readingPlace (seeking w (seek.Approach a)))) (seeking w (seek.Approach a))
       ≡ moved (see a) eff.Keep (seeking w (seek.Take a))
   approach-ends true h = rw h refl
   approach-ends false h = rw h refl
 
   pub take-goes :
-      (w : Bool) → eqb (see a .guard) 0 ≡ true →
+      (w : Bool) → eqb (see a .placeLock) 0 ≡ true →
       decide (see (readingPlace (seeking w (seek.Take a)))) (seeking w (seek.Take a))
       ≡ moved (see a) (eff.HoldLevel a) (seeking w (seek.Confirm a))
   take-goes true h = rw h refl
   take-goes false h = rw h refl
 
   pub take-stays :
-      (w : Bool) → eqb (see a .guard) 0 ≡ false →
+      (w : Bool) → eqb (see a .placeLock) 0 ≡ false →
       decide (see (readingPlace (seeking w (seek.Take a)))) (seeking w (seek.Take a))
       ≡ waits (see a) (seeking w (seek.Take a))
   take-stays true h = rw h refl
   take-stays false h = rw h refl
 
   pub confirm-goes :
-      (w : Bool) → see a .before ≡ true →
+      (w : Bool) → see a .nextBeforeKey ≡ true →
       decide (see (readingPlace (seeking w (seek.Confirm a)))) (seeking w (seek.Confirm a))
       ≡ moved (see a) eff.Keep (seeking w (seek.Release a (see a .next)))
   confirm-goes true h = rw h refl
   confirm-goes false h = rw h refl
 
   pub confirm-ends :
-      (w : Bool) → see a .before ≡ false →
+      (w : Bool) → see a .nextBeforeKey ≡ false →
       decide (see (readingPlace (seeking w (seek.Confirm a)))) (seeking w (seek.Confirm a))
       ≡ moved (see a) eff.Keep (sought w a)
   confirm-ends true h = rw h refl

@@ -5,6 +5,9 @@ ghost use Prim.Native.Nat.{_+_, _≤_};
 ghost use Rattle.image_parts.specs.Given.{Stepped};
 ghost use Rattle.image_parts.specs.Ready.{Placed};
 ghost use Rattle.image_walks.specs.Walks.{searchTag, seekTag};
+use image::layout::HEADER;
+use image::layout::NODE_BYTES;
+use image::layout::PROCESSOR_BYTES;
 use image::numbers::tick;
 use image_parts::keys::before;
 use rules::Answer;
@@ -21,12 +24,12 @@ pub fn search(image: &mut [u8], base: usize, p: usize, removal: bool) -> Answer
     requires { ⌜ Placed (now image) base p (searchTag removal) ⌝ }
     ensures { λ r. ⌜ Stepped (now (image .entry)) p (now (image .exit)) r ⌝ }
 {
-    let at = 7 + 17 * p;
+    let at = HEADER + PROCESSOR_BYTES * p;
     let own = image[at + 4];
     let a = image[at + 6];
     let i = image[at + 7];
     let k = (i as usize) - 1;
-    let x = image[base + 41 * (a as usize) + k];
+    let x = image[base + NODE_BYTES * (a as usize) + k];
     if before(image, base, x, own) {
         tick(image);
         image[at + 6] = x;
@@ -53,12 +56,12 @@ pub fn approach(image: &mut [u8], base: usize, p: usize, removal: bool) -> Answe
     requires { ⌜ Placed (now image) base p (seekTag removal) ⌝ }
     ensures { λ r. ⌜ Stepped (now (image .entry)) p (now (image .exit)) r ⌝ }
 {
-    let at = 7 + 17 * p;
+    let at = HEADER + PROCESSOR_BYTES * p;
     let own = image[at + 4];
     let a = image[at + 6];
     let i = image[at + 7];
     let k = (i as usize) - 1;
-    let x = image[base + 41 * (a as usize) + k];
+    let x = image[base + NODE_BYTES * (a as usize) + k];
     let first = seek_tag(removal);
     if before(image, base, x, own) {
         tick(image);
@@ -75,16 +78,16 @@ pub fn take(image: &mut [u8], base: usize, p: usize, removal: bool) -> Answer
     requires { ⌜ Placed (now image) base p (seekTag removal + 1) ⌝ }
     ensures { λ r. ⌜ Stepped (now (image .entry)) p (now (image .exit)) r ⌝ }
 {
-    let at = 7 + 17 * p;
+    let at = HEADER + PROCESSOR_BYTES * p;
     let a = image[at + 6];
     let i = image[at + 7];
     let k = (i as usize) - 1;
     let h = (p as u8) + 1;
-    let guard = image[base + 41 * (a as usize) + (8 + k)];
+    let place_lock = image[base + NODE_BYTES * (a as usize) + (8 + k)];
     let first = seek_tag(removal);
     tick(image);
-    if guard == 0 {
-        image[base + 41 * (a as usize) + (8 + k)] = h;
+    if place_lock == 0 {
+        image[base + NODE_BYTES * (a as usize) + (8 + k)] = h;
         image[at + 5] = first + 2;
         return Answer::Moved;
     }
@@ -96,12 +99,12 @@ pub fn confirm(image: &mut [u8], base: usize, p: usize, removal: bool) -> Answer
     requires { ⌜ Placed (now image) base p (seekTag removal + 2) ⌝ }
     ensures { λ r. ⌜ Stepped (now (image .entry)) p (now (image .exit)) r ⌝ }
 {
-    let at = 7 + 17 * p;
+    let at = HEADER + PROCESSOR_BYTES * p;
     let own = image[at + 4];
     let a = image[at + 6];
     let i = image[at + 7];
     let k = (i as usize) - 1;
-    let x = image[base + 41 * (a as usize) + k];
+    let x = image[base + NODE_BYTES * (a as usize) + k];
     let first = seek_tag(removal);
     if before(image, base, x, own) {
         tick(image);
@@ -119,14 +122,14 @@ pub fn release(image: &mut [u8], base: usize, p: usize, removal: bool) -> Answer
     requires { ⌜ Placed (now image) base p (seekTag removal + 3) ⌝ }
     ensures { λ r. ⌜ Stepped (now (image .entry)) p (now (image .exit)) r ⌝ }
 {
-    let at = 7 + 17 * p;
+    let at = HEADER + PROCESSOR_BYTES * p;
     let a = image[at + 6];
     let i = image[at + 7];
     let k = (i as usize) - 1;
     let x = image[at + 8];
     let first = seek_tag(removal);
     tick(image);
-    image[base + 41 * (a as usize) + (8 + k)] = 0;
+    image[base + NODE_BYTES * (a as usize) + (8 + k)] = 0;
     image[at + 5] = first + 1;
     image[at + 6] = x;
     image[at + 8] = 0;

@@ -11,44 +11,36 @@ use Rattle.record.specs.declared.queues.Queue.{Queue}
 use Rattle.record.specs.Limits.{maxNumber}
 use Rattle.rules.specs.declared.answers.Outcome.{Outcome}
 use Rattle.rules.specs.declared.calls.Call.{Call}
-use Rattle.rules.specs.declared.calls.Call.the-variants as call
 use Rattle.rules.specs.declared.decisions.Decision.{Decision}
-use Rattle.rules.specs.Answers.{refused}
 use Rattle.rules.specs.Calls.{decisionOf, processorOf, turnRefusal, numbersRefusal, nodeRefusal}
-use Rattle.rules.specs.Calls.{firstOf, refusalBy, idleAt, refusalOf, calledValid}
-use Rattle.rules.specs.Choice.{chosen}
+use Rattle.rules.specs.Calls.{taken, firstOf, refusalBy, idleAt, refusalOf, calledValid}
 use Rattle.rules.specs.Effects.{applied, accepted}
-use Rattle.queue.specs.Taken.{taken}
+use Rattle.rules.proofs.Inner.{call-accepted}
 
 module _ (q : Queue) (c : Call) where
   abbrev by : Bool → ℕ
-  by i = refusalBy c (q .clock) (q .processors) (q .levels) i
+  by i = refusalBy c (q .clock) (q .processorCount) (q .levelCount) i
 
   -- what is asked before a node is looked for
   abbrev early : ℕ
   early = by (idleAt q (processorOf c))
 
   abbrev ofTurn : Bool → ℕ
-  ofTurn i = firstOf (turnRefusal c i) (numbersRefusal c (q .levels))
+  ofTurn i = firstOf (turnRefusal c i) (numbersRefusal c (q .levelCount))
 
   -- of a processor that is not there it does not matter whether it is idle
   there :
       (b i : Bool) →
-      leb (q .processors) (processorOf c) ≡ b →
+      leb (q .processorCount) (processorOf c) ≡ b →
       _≡_ {A = ℕ}
-      (cond b 32 (ofTurn (ltb (processorOf c) (q .processors) && i)))
+      (cond b 32 (ofTurn (ltb (processorOf c) (q .processorCount) && i)))
       (cond b 32 (ofTurn i))
   there true i e = refl
   there false i e =
-      ap (λ (h : Bool). ofTurn (h && i)) (lt-ltb (processorOf c) (q .processors) (leb-false _ _ e))
-
-  late : (c : Call) → nodeRefusal c (taken q c) ≡ nodeRefusal c (chosen q)
-  late (call.Insert p due item height) = refl
-  late (call.DeleteMin p) = refl
-  late (call.Step p) = refl
+      ap (λ (h : Bool). ofTurn (h && i)) (lt-ltb (processorOf c) (q .processorCount) (leb-false _ _ e))
 
   abbrev first : Bool → ℕ
-  first b = cond b (nodeRefusal c (chosen q)) early
+  first b = cond b (nodeRefusal c (taken q c)) early
 
   -- p, i and n are what the code has: the call's processor, whether it is idle, the first refusal
   module _
@@ -56,14 +48,14 @@ module _ (q : Queue) (c : Call) where
       (i : Bool)
       (n : ℕ)
       (ep : p ≡ processorOf c)
-      (ei : i ≡ (ltb p (q .processors) && idleAt q p))
+      (ei : i ≡ (ltb p (q .processorCount) && idleAt q p))
       (en : n ≡ by i) where
     asked : n ≡ early
     asked =
         let idle = idleAt q (processorOf c) in
-        let at : i ≡ (ltb (processorOf c) (q .processors) && idle) =
-        ei ∙ ap (λ (x : ℕ). ltb x (q .processors) && idleAt q x) ep in
-        let same = there (leb (q .processors) (processorOf c)) idle refl in
+        let at : i ≡ (ltb (processorOf c) (q .processorCount) && idle) =
+        ei ∙ ap (λ (x : ℕ). ltb x (q .processorCount) && idleAt q x) ep in
+        let same = there (leb (q .processorCount) (processorOf c)) idle refl in
         en ∙ (ap by at ∙ ap (λ (m : ℕ). cond (leb maxNumber (q .clock)) 31 m) same)
 
     pub refused-early : 0 < n → n ≡ refusalOf q c
@@ -76,16 +68,8 @@ module _ (q : Queue) (c : Call) where
         n ≤ 0 → (x m : ℕ) → x ≡ taken q c → m ≡ nodeRefusal c x → m ≡ refusalOf q c
     refused-late h x m ex em =
         let none : early ≡ 0 = sym asked ∙ le-zero h in
-        let node = ap (λ (y : ℕ). nodeRefusal c y) ex ∙ late c in
-        em ∙ (node ∙ sym (ap first (eq-eqb early 0 none)))
-
-  abbrev told : ℕ → Bool → Outcome
-  told n b = cond b (accepted q (processorOf c) (decisionOf q c)) (refused q n)
-
-  pub call-told : (n : ℕ) → n ≡ refusalOf q c → 0 < n → refused q n ≡ calledValid q c
-  call-told n e h =
-      let some : (refusalOf q c ≡ 0 → ⊥) = λ z. omega (arith, e ∙ z, h) in
-      ap (refused q) e ∙ sym (ap (told (refusalOf q c)) (ne-eqb (refusalOf q c) 0 some))
+        em
+        ∙ (ap (λ (y : ℕ). nodeRefusal c y) ex ∙ sym (ap first (eq-eqb early 0 none)))
 
   -- the outcome as the code makes it
   pub call-made :
@@ -99,5 +83,4 @@ module _ (q : Queue) (c : Call) where
       let outcome : Queue → Outcome = λ s. record { queue = s; answer = d .answer } in
       ap outcome er
       ∙ (ap (λ (x : ℕ). accepted q x d) ep
-      ∙ (ap (accepted q (processorOf c)) ed
-      ∙ sym (ap (told (refusalOf q c)) (eq-eqb (refusalOf q c) 0 e))))
+      ∙ (ap (accepted q (processorOf c)) ed ∙ sym (call-accepted q c e)))

@@ -4,7 +4,7 @@ use mathlib.Core.Path.{_≡_, sym, ap, _∙_}
 use mathlib.Core.Bool.{true}
 use Prim.Native.Nat.{ℕ, _+_, _<_}
 use lib.ListN.{set}
-use Rattle.checks.specs.Check.{valid}
+use Rattle.record_check.specs.Check.{valid}
 use Rattle.record.specs.declared.nodes.Node.{Node}
 use Rattle.record.specs.declared.queues.Processor.{Processor}
 use Rattle.record.specs.declared.queues.Queue.{Queue}
@@ -15,37 +15,35 @@ use Rattle.record.specs.Queues.{nodeAt, processorAt}
 use Rattle.rules.specs.declared.calls.Call.{Call}
 use Rattle.rules.specs.declared.calls.Call.the-variants as call
 use Rattle.rules.specs.declared.decisions.Decision.{Decision}
-use Rattle.rules.specs.declared.decisions.Sight.{Sight}
+use Rattle.rules.specs.declared.decisions.StepView.{StepView}
 use Rattle.rules.specs.Calls.{readingPlace, nextOf, stepDecision, insertBegins, insertDecision}
-use Rattle.rules.specs.Calls.{decisionOf}
+use Rattle.rules.specs.Calls.{stepViewFrom, taken, decisionOf}
 use Rattle.rules.specs.Decide.{decide}
 use Rattle.rules.specs.Effects.{nodeOf, changed, processorAfter, applied}
-use Rattle.parts.specs.From.{sightFrom}
-use Rattle.queue.specs.Taken.{taken}
-use Rattle.choosing.proofs.Bounds.{place-low, own-low, next-low}
+use Rattle.queue_begin.proofs.Bounds.{place-low, own-low, next-low}
 
 -- the record after a decision of processor p: node w becomes m, the processor after
 abbrev pub stored : Queue → ℕ → ℕ → ℕ → Node → Processor → Queue
 stored q p t w m after = record {
-  processors = q .processors;
-  entries = q .entries;
-  levels = q .levels;
+  processorCount = q .processorCount;
+  nodeCount = q .nodeCount;
+  levelCount = q .levelCount;
   clock = t;
   nodes = set (q .nodes) w m;
-  callers = set (q .callers) p after;
+  processors = set (q .processors) p after;
 }
 
 module _ (q : Queue) (p : ℕ) where
   -- what is read and decided
   pub decided :
-      (c : Processor) (a : Place) (here own ahead : Node) (next : ℕ) (s : Sight) (d : Decision) →
+      (c : Processor) (a : Place) (here own ahead : Node) (next : ℕ) (s : StepView) (d : Decision) →
       c ≡ processorAt q p →
       a ≡ readingPlace (c .stage) →
       here ≡ nodeAt q (a .node) →
       next ≡ forwardAt here (a .level) →
       ahead ≡ nodeAt q next →
       own ≡ nodeAt q (c .own) →
-      s ≡ sightFrom here own ahead next c a (q .entries) (q .levels) →
+      s ≡ stepViewFrom here own ahead next c a (q .nodeCount) (q .levelCount) →
       d ≡ decide s (c .stage) →
       d ≡ stepDecision q (processorAt q p)
   decided c a here own ahead next s d ec ea eh en eA eo es ed =
@@ -57,8 +55,8 @@ module _ (q : Queue) (p : ℕ) where
       c ≡ processorAt q p →
       w ≡ nodeOf (d .effect) →
       n ≡ nodeAt q w →
-      m ≡ changed (q .levels) (q .entries + 1) (p + 1) (q .clock + 1) (d .effect) n →
-      after ≡ processorAfter (q .levels) (q .clock + 1) c d →
+      m ≡ changed (q .levelCount) (q .nodeCount + 1) (p + 1) (q .clock + 1) (d .effect) n →
+      after ≡ processorAfter (q .levelCount) (q .clock + 1) c d →
       stored q p (q .clock + 1) w m after ≡ applied q p d
   changes d c w n m after ec ew en em ea = simp (ea, em, en, ew, ec)
 
@@ -67,7 +65,7 @@ module _
     (q : Queue)
     (p : ℕ)
     (v : valid q ≡ true)
-    (h : p < q .processors)
+    (h : p < q .processorCount)
     (c : Processor)
     (e : c ≡ processorAt q p) where
   place-is : (a : Place) → a ≡ readingPlace (c .stage) → a ≡ readingPlace (processorAt q p .stage)
@@ -96,7 +94,7 @@ pub insert-decided :
     (q : Queue) (c : Call) (p due item height x : ℕ) (d : Decision) →
     c ≡ call.Insert p due item height →
     x ≡ taken q c →
-    d ≡ insertBegins (q .levels) (q .clock + 1) x due item height →
+    d ≡ insertBegins (q .levelCount) (q .clock + 1) x due item height →
     d ≡ decisionOf q c
 insert-decided q c p due item height x d ec ex ed =
     ed

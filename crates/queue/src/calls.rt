@@ -4,22 +4,23 @@
 // gives its number and the record as it came.
 ghost use mathlib.Core.Path.{_≡_};
 ghost use mathlib.Core.Bool.{true};
-ghost use Rattle.checks.specs.Check.{valid as validOf};
+ghost use Rattle.record_check.specs.Check.{valid as validOf};
 ghost use Rattle.rules.specs.Answers.{reported};
-ghost use Rattle.rules.specs.Calls.{calledValid, called, beginInsert, beginDelete, step as stepOf};
+ghost use Rattle.rules.specs.Calls.{calledValid, called, beginInsert, beginDeleteMin};
+ghost use Rattle.rules.specs.Calls.{step as stepOf};
 use crate::applying::applied;
 use crate::deciding::decision_of;
 use crate::reading::idle_at;
 use crate::reading::taken;
-use checks::valid;
 use record::Queue;
-use refusals::node_refusal;
-use refusals::processor_of;
-use refusals::refusal_of;
+use record_check::valid;
 use rules::Answer;
 use rules::Call;
 use rules::Decision;
 use rules::Outcome;
+use rules_refusals::node_refusal;
+use rules_refusals::processor_of;
+use rules_refusals::refusal_of;
 
 // A call on a record that passes check 21.
 pub fn call_valid(q: Queue, c: Call) -> Outcome
@@ -28,7 +29,7 @@ pub fn call_valid(q: Queue, c: Call) -> Outcome
 {
     let p = processor_of(c);
     let idle = idle_at(q, p);
-    let refusal = refusal_of(c, q.clock, q.processors, q.levels, idle);
+    let refusal = refusal_of(c, q.clock, q.processorCount, q.levelCount, idle);
     if 0 < refusal {
         return Outcome {
             queue: q,
@@ -76,8 +77,8 @@ pub fn begin_insert(q: Queue, processor: u32, due: u32, item: u32, height: u32) 
 
 // The begin of a Delete_Min by a processor.
 pub fn begin_delete_min(q: Queue, processor: u32) -> Outcome
-    ensures { λ r. ⌜ r ≡ beginDelete q processor ⌝ }
-    ensures { λ r. ⌜ reported (r .answer) ≡ reported (beginDelete q processor .answer) ⌝ }
+    ensures { λ r. ⌜ r ≡ beginDeleteMin q processor ⌝ }
+    ensures { λ r. ⌜ reported (r .answer) ≡ reported (beginDeleteMin q processor .answer) ⌝ }
 {
     call(q, Call::DeleteMin(processor))
 }

@@ -2,15 +2,14 @@
 ghost use mathlib.Core.Path.{_≡_};
 ghost use mathlib.Core.Bool.{true};
 ghost use Prim.Native.Nat.{ℕ, _<_};
-ghost use Rattle.checks.specs.Check.{valid as validOf};
+ghost use Rattle.record_check.specs.Check.{valid as validOf};
 ghost use Rattle.record.specs.Queues.{processorAt};
-ghost use Rattle.rules.specs.Calls.{stepDecision, decisionOf, refusalOf};
-ghost use Rattle.queue.specs.Taken.{taken};
-use choosing::begins::delete_begins;
-use choosing::begins::insert_begins;
-use decisions::walk::decide;
-use parts::reads::reading_place;
-use parts::reads::sight_from;
+ghost use Rattle.rules.specs.Calls.{stepDecision, taken, decisionOf, refusalOf};
+use queue_begin::begins::delete_begins;
+use queue_begin::begins::insert_begins;
+use queue_decide::walk::decide;
+use queue_parts::reads::reading_place;
+use queue_parts::reads::step_view_from;
 use record::Node;
 use record::Place;
 use record::Processor;
@@ -18,15 +17,15 @@ use record::Queue;
 use record::Stage;
 use rules::Call;
 use rules::Decision;
-use rules::Sight;
+use rules::StepView;
 
 // A step of processor p: three nodes are read, and the stage decides.
 fn step_decision(q: Queue, p: u32) -> Decision
-    requires { ⌜ (validOf q ≡ true) × (p < q .processors) ⌝ }
+    requires { ⌜ (validOf q ≡ true) × (p < q .processorCount) ⌝ }
     ensures { λ r. ⌜ r ≡ stepDecision q (processorAt q p) ⌝ }
 {
     let k = p as usize;
-    let c = q.callers[k];
+    let c = q.processors[k];
     let g = c.stage;
     let a = reading_place(g);
     let x = a.node as usize;
@@ -36,7 +35,7 @@ fn step_decision(q: Queue, p: u32) -> Decision
     let ahead = q.nodes[y];
     let z = c.own as usize;
     let own = q.nodes[z];
-    let s = sight_from(here, own, ahead, next, c, a, q.entries, q.levels);
+    let s = step_view_from(here, own, ahead, next, c, a, q.nodeCount, q.levelCount);
     decide(s, g)
 }
 
@@ -48,7 +47,7 @@ pub fn decision_of(q: Queue, c: Call, x: u8) -> Decision
     let t = q.clock + 1;
     match c {
         Call::Insert(_, due, item, height) => insert_begins(
-            q.levels,
+            q.levelCount,
             t,
             x,
             due,

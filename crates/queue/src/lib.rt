@@ -1,7 +1,7 @@
 // The calls on a record by value. What a call asks of the record is read (reading), then it is
 // refused, or decided (deciding) and carried out on the record (applying); check 21 keeps every
-// index in range. Single nodes and numbers go to the functions of `refusals`, `parts`, `decisions`
-// and `choosing`.
+// index in range. Single nodes and numbers go to the functions of `rules_refusals`, `queue_parts`,
+// `queue_decide` and `queue_begin`.
 pub mod applying;
 pub mod calls;
 pub mod deciding;

@@ -3,27 +3,26 @@ ghost use mathlib.Core.Path.{_≡_};
 ghost use mathlib.Core.Bool.{Bool, true, _&&_};
 ghost use Prim.Native.Nat.{ℕ, _≤_};
 ghost use lib.Dec.{ltb};
-ghost use Rattle.checks.specs.Check.{valid as validOf};
+ghost use Rattle.record_check.specs.Check.{valid as validOf};
 ghost use Rattle.record.specs.Limits.{maxProcessors};
-ghost use Rattle.rules.specs.Calls.{idleAt};
-ghost use Rattle.queue.specs.Taken.{taken as takenOf};
-use choosing::choice::choose;
-use parts::reads::is_idle;
+ghost use Rattle.rules.specs.Calls.{idleAt, taken as takenOf};
+use queue_begin::choice::choose;
 use record::Processor;
 use record::Queue;
 use record::Stage;
+use record::stages::is_idle;
 use rules::Call;
 
 // Whether processor p is idle; false where there is no such processor.
 pub fn idle_at(q: Queue, p: u32) -> bool
-    requires { ⌜ q .processors ≤ maxProcessors ⌝ }
-    ensures { λ r. ⌜ r ≡ (ltb p (q .processors) && idleAt q p) ⌝ }
+    requires { ⌜ q .processorCount ≤ maxProcessors ⌝ }
+    ensures { λ r. ⌜ r ≡ (ltb p (q .processorCount) && idleAt q p) ⌝ }
 {
-    if (q.processors as u32) <= p {
+    if (q.processorCount as u32) <= p {
         return false;
     }
     let k = p as usize;
-    let c = q.callers[k];
+    let c = q.processors[k];
     let g = c.stage;
     is_idle(g)
 }

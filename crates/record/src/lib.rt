@@ -4,6 +4,7 @@
 // nothing.
 pub mod keys;
 pub mod levels;
+pub mod limits;
 pub mod nodes;
 pub mod queues;
 pub mod stages;

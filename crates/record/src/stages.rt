@@ -4,7 +4,7 @@
 ghost use mathlib.Core.Path.{_≡_};
 ghost use mathlib.Core.Bool.{false};
 ghost use Rattle.record.specs.Stages.{seekRow, insertRow, deleteRow, removalRow};
-ghost use Rattle.record.specs.Stages.{carriedOf, carried};
+ghost use Rattle.record.specs.Stages.{carriedOf, carried, place, isIdle};
 
 // A node and a level, from 1.
 pub struct Place {
@@ -39,7 +39,7 @@ pub enum Removal {
     Seek(Seek),
     HoldOwn(Place),
     Unlink(Place),
-    Back(Place),
+    LeadBack(Place),
     FreeOwn(Place),
     FreeLevel(Place),
     FreeNode,
@@ -53,9 +53,9 @@ pub enum Job {
 
 // A Delete_Min before its mark: W1, W2, W3.
 pub enum Delete {
-    Next(Place),
-    Stamped(Place),
-    Mark(Place),
+    ReadNext(Place),
+    TestStamp(Place),
+    SetMark(Place),
 }
 
 pub enum Stage {
@@ -79,7 +79,27 @@ impl Place {
     pub const HEAD: Place = Place { node: 0, level: 1 };
 }
 
-fn at(own: bool, a: Place) -> Carried
+pub fn at(node: u8, level: u8) -> Place
+    ensures { λ r. ⌜ r ≡ place node level ⌝ }
+{
+    Place {
+        node: node,
+        level: level,
+    }
+}
+
+pub fn is_idle(g: Stage) -> bool
+    ensures { λ r. ⌜ r ≡ isIdle g ⌝ }
+{
+    match g {
+        Stage::Idle => true,
+        Stage::Insert(_) => false,
+        Stage::Delete(_) => false,
+        Stage::Removal(_, _) => false,
+    }
+}
+
+fn carrying(own: bool, a: Place) -> Carried
     ensures { λ r. ⌜ r ≡ record { own = own; place = a; ahead = a .node; marking = false } ⌝ }
 {
     Carried {
@@ -94,9 +114,9 @@ fn seek_carried(g: Seek) -> Carried
     ensures { λ r. ⌜ r ≡ carriedOf (seekRow 0 g) ⌝ }
 {
     match g {
-        Seek::Approach(a) => at(true, a),
-        Seek::Take(a) => at(true, a),
-        Seek::Confirm(a) => at(true, a),
+        Seek::Approach(a) => carrying(true, a),
+        Seek::Take(a) => carrying(true, a),
+        Seek::Confirm(a) => carrying(true, a),
         Seek::Release(a, b) => Carried {
             own: true,
             place: a,
@@ -110,13 +130,13 @@ fn insert_carried(g: Insert) -> Carried
     ensures { λ r. ⌜ r ≡ carriedOf (insertRow g) ⌝ }
 {
     match g {
-        Insert::Search(a) => at(true, a),
+        Insert::Search(a) => carrying(true, a),
         Insert::Seek(k) => seek_carried(k),
-        Insert::Copy(a) => at(true, a),
-        Insert::Link(a) => at(true, a),
-        Insert::FreeLevel(a) => at(true, a),
-        Insert::FreeNode => at(true, Place::HEAD),
-        Insert::Stamp => at(true, Place::HEAD),
+        Insert::Copy(a) => carrying(true, a),
+        Insert::Link(a) => carrying(true, a),
+        Insert::FreeLevel(a) => carrying(true, a),
+        Insert::FreeNode => carrying(true, Place::HEAD),
+        Insert::Stamp => carrying(true, Place::HEAD),
     }
 }
 
@@ -124,16 +144,16 @@ fn removal_carried(g: Removal) -> Carried
     ensures { λ r. ⌜ r ≡ carriedOf (removalRow g) ⌝ }
 {
     match g {
-        Removal::Search(a) => at(true, a),
-        Removal::HoldNode => at(true, Place::HEAD),
+        Removal::Search(a) => carrying(true, a),
+        Removal::HoldNode => carrying(true, Place::HEAD),
         Removal::Seek(k) => seek_carried(k),
-        Removal::HoldOwn(a) => at(true, a),
-        Removal::Unlink(a) => at(true, a),
-        Removal::Back(a) => at(true, a),
-        Removal::FreeOwn(a) => at(true, a),
-        Removal::FreeLevel(a) => at(true, a),
-        Removal::FreeNode => at(true, Place::HEAD),
-        Removal::Retire => at(true, Place::HEAD),
+        Removal::HoldOwn(a) => carrying(true, a),
+        Removal::Unlink(a) => carrying(true, a),
+        Removal::LeadBack(a) => carrying(true, a),
+        Removal::FreeOwn(a) => carrying(true, a),
+        Removal::FreeLevel(a) => carrying(true, a),
+        Removal::FreeNode => carrying(true, Place::HEAD),
+        Removal::Retire => carrying(true, Place::HEAD),
     }
 }
 
@@ -141,9 +161,9 @@ fn delete_carried(g: Delete) -> Carried
     ensures { λ r. ⌜ r ≡ carriedOf (deleteRow g) ⌝ }
 {
     match g {
-        Delete::Next(a) => at(false, a),
-        Delete::Stamped(a) => at(false, a),
-        Delete::Mark(a) => Carried {
+        Delete::ReadNext(a) => carrying(false, a),
+        Delete::TestStamp(a) => carrying(false, a),
+        Delete::SetMark(a) => Carried {
             own: false,
             place: a,
             ahead: a.node,
@@ -156,7 +176,7 @@ pub fn carried_by(g: Stage) -> Carried
     ensures { λ r. ⌜ r ≡ carried g ⌝ }
 {
     match g {
-        Stage::Idle => at(false, Place::HEAD),
+        Stage::Idle => carrying(false, Place::HEAD),
         Stage::Insert(i) => insert_carried(i),
         Stage::Delete(d) => delete_carried(d),
         Stage::Removal(_j, r) => removal_carried(r),

@@ -8,23 +8,22 @@ use borrow.Author.Tests.{leb-false, eqb-true, eqb-false, eq-eqb, ne-eqb}
 use Rattle.laws.proofs.Booleans.{cond-cases}
 use Rattle.record.specs.declared.queues.Queue.{Queue}
 use Rattle.record.specs.Limits.{maxNumber}
-use Rattle.checks.specs.Check.{valid}
-use Rattle.checks.specs.Making.{outside}
+use Rattle.record_check.specs.Check.{valid}
+use Rattle.record_check.specs.Making.{outside}
 use Rattle.rules.specs.declared.answers.Outcome.{Outcome}
 use Rattle.rules.specs.declared.calls.Call.{Call}
 use Rattle.rules.specs.declared.calls.Call.the-variants as call
 use Rattle.rules.specs.Answers.{refused}
-use Rattle.rules.specs.Calls.{decisionOf, processorOf, turnRefusal, numbersRefusal}
+use Rattle.rules.specs.Calls.{taken, decisionOf, processorOf, turnRefusal, numbersRefusal}
 use Rattle.rules.specs.Calls.{nodeRefusal, firstOf, refusalBy, idleAt, refusalOf, called}
-use Rattle.rules.specs.Choice.{chosen}
 use Rattle.rules.specs.Effects.{accepted}
 
 pub record Allowed (q : Queue) (c : Call) : Type 0 where
   pub ticks : q .clock < maxNumber
-  pub here : processorOf c < q .processors
+  pub here : processorOf c < q .processorCount
   pub turn : turnRefusal c (idleAt q (processorOf c)) ≡ 0
-  pub numbers : numbersRefusal c (q .levels) ≡ 0
-  pub node : nodeRefusal c (chosen q) ≡ 0
+  pub numbers : numbersRefusal c (q .levelCount) ≡ 0
+  pub node : nodeRefusal c (taken q c) ≡ 0
 
 -- of a test that refuses with the number n, and what comes after it
 pub passed : (b : Bool) (n r : ℕ) → 0 < n → cond b n r ≡ 0 → (b ≡ false) × (r ≡ 0)
@@ -48,16 +47,16 @@ first-none m n e = rw (eq-eqb m 0 e) refl
 -- of a call that is not refused before a node is looked for
 pub record Early (q : Queue) (c : Call) : Type 0 where
   pub ticks : q .clock < maxNumber
-  pub here : processorOf c < q .processors
+  pub here : processorOf c < q .processorCount
   pub turn : turnRefusal c (idleAt q (processorOf c)) ≡ 0
-  pub numbers : numbersRefusal c (q .levels) ≡ 0
+  pub numbers : numbersRefusal c (q .levelCount) ≡ 0
 
 pub early-allowed : (q : Queue) (c : Call) →
-    refusalBy c (q .clock) (q .processors) (q .levels) (idleAt q (processorOf c)) ≡ 0 → Early q c
+    refusalBy c (q .clock) (q .processorCount) (q .levelCount) (idleAt q (processorOf c)) ≡ 0 → Early q c
 early-allowed q c e =
     let a = passed (leb maxNumber (q .clock)) 31 _ (omega arith) e in
-    let b = passed (leb (q .processors) (processorOf c)) 32 _ (omega arith) (a .1) in
-    let d = first (turnRefusal c (idleAt q (processorOf c))) (numbersRefusal c (q .levels)) (b .1) in
+    let b = passed (leb (q .processorCount) (processorOf c)) 32 _ (omega arith) (a .1) in
+    let d = first (turnRefusal c (idleAt q (processorOf c))) (numbersRefusal c (q .levelCount)) (b .1) in
     record {
       ticks = leb-false _ _ (a .0);
       here = leb-false _ _ (b .0);
@@ -67,8 +66,8 @@ early-allowed q c e =
 
 pub allowed : (q : Queue) (c : Call) → refusalOf q c ≡ 0 → Allowed q c
 allowed q c e =
-    let f = first (refusalBy c (q .clock) (q .processors) (q .levels) (idleAt q (processorOf c)))
-    (nodeRefusal c (chosen q)) e in
+    let f = first (refusalBy c (q .clock) (q .processorCount) (q .levelCount) (idleAt q (processorOf c)))
+    (nodeRefusal c (taken q c)) e in
     let a = early-allowed q c (f .0) in
     record {
       ticks = a .ticks;

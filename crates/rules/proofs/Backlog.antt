@@ -17,10 +17,10 @@ use Rattle.record.specs.declared.nodes.Use.the-variants as use′
 use Rattle.record.specs.declared.queues.Queue.{Queue}
 use Rattle.record.specs.Nodes.{isInUse, isStamped}
 use Rattle.record.specs.Queues.{nodeAt}
-use Rattle.checks.specs.declared.counting.Count.{Count}
-use Rattle.checks.specs.Backlog.{pendingAt, backlogOf}
-use Rattle.checks.specs.Check.{valid}
-use Rattle.rules.specs.Book.{Line, Book, agrees, answeredIn, pendingIn, feedBacklog}
+use Rattle.record_check.specs.declared.counting.Count.{Count}
+use Rattle.record_check.specs.Backlog.{pendingAt, backlogOf}
+use Rattle.record_check.specs.Check.{valid}
+use Rattle.rules.specs.Book.{BookEntry, Book, agrees, answeredIn, pendingIn, feedBacklog}
 use Rattle.rules.specs.Demand3.{Pending}
 use Rattle.rules.proofs.Booked.{ticket-apart, eligible-of, candidate-of}
 use Rattle.rules.proofs.Choose.{used-number}
@@ -70,7 +70,7 @@ module _ (q : Queue) (b : Book) (S : Sound q b) where
   abbrev Holds : ℕ → Type 0
   Holds x = Eligible (v .us) (v .st) (v .mk) (v .nodes) ever x
 
-  node-holds : valid q ≡ true → (x : ℕ) → Passed (pendingAt q) (q .entries) x → Holds x
+  node-holds : valid q ≡ true → (x : ℕ) → Passed (pendingAt q) (q .nodeCount) x → Holds x
   node-holds ok x P =
       let n = nodeAt q x in
       let i = isInUse (n .state) in
@@ -87,7 +87,7 @@ module _ (q : Queue) (b : Book) (S : Sound q b) where
         unmarked = mark-number (n .mark) (and-right s m r);
       }
 
-  holds-node : (x : ℕ) → Holds x → Passed (pendingAt q) (q .entries) x
+  holds-node : (x : ℕ) → Holds x → Passed (pendingAt q) (q .nodeCount) x
   holds-node x H =
       let n = nodeAt q x in
       let used = number-use (n .state) (sym (used-number q x (H .low) (H .high)) ∙ H .used) in
@@ -98,7 +98,7 @@ module _ (q : Queue) (b : Book) (S : Sound q b) where
         passes = rw (used, number-stamp (n .stamp) (H .stamped), unmarked);
       }
 
-  paired : valid q ≡ true → Paired (pendingAt q) (pendingIn b) (q .entries) (b .count) (v .tick)
+  paired : valid q ≡ true → Paired (pendingAt q) (pendingIn b) (q .nodeCount) (b .count) (v .tick)
   paired ok = record {
     passes = λ x X.
         let C = candidate-of v (S .until) (S .inv) b (S .rel) ever x (node-holds ok x X) in
@@ -110,16 +110,16 @@ module _ (q : Queue) (b : Book) (S : Sound q b) where
         record { number = E .0; passed = holds-node (E .0) (E .2); is = E .1 };
     once = λ x z X Z e.
         let used = node-holds ok z Z .used in
-        let due = ap (λ (l : Line). l .due) (S .rel .kept z (Z .low) (Z .high) used) in
+        let due = ap (λ (l : BookEntry). l .due) (S .rel .kept z (Z .low) (Z .high) used) in
         ticket-apart v (S .until) (S .inv) b (S .rel) x z (X .low) (X .high) (Z .low) (Z .high)
         (node-holds ok x X .used) (omega (arith, used)) due e;
   }
 
   -- the count by the nodes is the count by the book
   count-same :
-      valid q ≡ true → howMany (pendingAt q) (q .entries) ≡ howMany (pendingIn b) (b .count)
+      valid q ≡ true → howMany (pendingAt q) (q .nodeCount) ≡ howMany (pendingIn b) (b .count)
   count-same ok =
-      many-paired (pendingAt q) (pendingIn b) (q .entries) (b .count) (v .tick) (paired ok)
+      many-paired (pendingAt q) (pendingIn b) (q .nodeCount) (b .count) (v .tick) (paired ok)
 
   -- so the book agrees with Backlog, and stays as it is
   pub backlog-agrees : feedBacklog b (backlogOf q) ≡ agrees b
@@ -127,7 +127,7 @@ module _ (q : Queue) (b : Book) (S : Sound q b) where
       cond-cases (λ (k : Count). feedBacklog b k ≡ agrees b) (valid q) _ _
       (λ ok. rw (eq-eqb _ (howMany (pendingIn b) (b .count)) (count-same ok))) (λ _. refl)
 
-  pub backlog-pending : valid q ≡ true → Pending b (howMany (pendingAt q) (q .entries))
+  pub backlog-pending : valid q ≡ true → Pending b (howMany (pendingAt q) (q .nodeCount))
   backlog-pending ok = record {
     entries = count-same ok;
     less = rw (count-same ok) (many-split (answeredIn b) (λ t. b .entry t .marked) (b .count));

@@ -11,14 +11,14 @@ use Rattle.record.specs.declared.stages.Insert.the-variants as ins
 use Rattle.record.specs.declared.stages.Stage.{Stage}
 use Rattle.record.specs.declared.stages.Stage.the-variants as stage
 use Rattle.record.specs.Stages.{place}
-use Rattle.laws.specs.Update.{upd}
-use Rattle.laws.proofs.Updating.{upd-same, upd-other}
+use Rattle.laws.specs.Update.{changedAt}
+use Rattle.laws.proofs.Updating.{changed-same, changed-other}
 use Rattle.rules.proofs.Put.{ever}
-use Rattle.rules.proofs.View.{Pr, View, Info, info, walking, claim, key, tail, last, rank}
+use Rattle.rules.proofs.View.{Pr, View, Info, info, walkInfo, claim, key, tail, last, rank}
 use Rattle.rules.proofs.View.{entryRank}
 use Rattle.rules.proofs.Facts.{kind-any}
 use Rattle.rules.proofs.Machine.{filled}
-use Rattle.rules.proofs.Inv.{Next, Core, Entered, Busy, Readable, Near, Eligible, Unlinking, Led, back, unlinking, Inv, sought, One, Yields}
+use Rattle.rules.proofs.Inv.{Next, Core, Entered, Busy, Readable, Near, Eligible, Unlinking, Led, back, unlinker, Inv, sought, One, Yields}
 use Rattle.rules.proofs.Assemble.{ticked, assembled-new, unlinking-other, one-new, yields-new}
 use Rattle.rules.proofs.Move.{near-none}
 use Rattle.rules.proofs.InsertSteps.{head-readable}
@@ -59,7 +59,7 @@ begin-ownless v u I room p idle c began two mine =
     core =
         let C = I .core in
         record {
-          levels = C .levels;
+          levelCount = C .levelCount;
           levels-high = C .levels-high;
           size = C .size;
           clock = room;
@@ -85,8 +85,8 @@ begin-ownless v u I room p idle c began two mine =
 
     led : (q n i : ℕ) → Led v u (v .pr q .begin) n i → Led (ticked v p c) u (v .pr q .begin) n i
     led q n i (back k) = back k
-    led q n i (unlinking x l) =
-        unlinking x (unlinking-other v u p c x n i (λ e. omega (arith, idle, (rw e at (l .kind))))
+    led q n i (unlinker x l) =
+        unlinker x (unlinking-other v u p c x n i (λ e. omega (arith, idle, (rw e at (l .kind))))
         (record { kind = l .kind; nx = l .nx; hp = l .hp; ho = l .ho; own = l .own; level = l .level }))
 
 abbrev pub walker : View → ℕ → Stage → Pr
@@ -94,10 +94,10 @@ walker v p s = record { begin = v .clock + 1; own = 0; stage = s; saved = v .pr 
 
 -- the begin of a walk
 pub begin-walk : (v : View) (u : ℕ → ℕ → ℕ) (I : Inv v u) (room : v .clock + 1 < ever) (p : ℕ) →
-    claim v p .kind ≡ 0 → (s : Stage) → info (v .ht 0) s ≡ walking 2 0 (place 0 1) →
+    claim v p .kind ≡ 0 → (s : Stage) → info (v .ht 0) s ≡ walkInfo 2 0 (place 0 1) →
     Inv (ticked v p (walker v p s)) u
 begin-walk v u I room p idle s is =
-    let G = head-readable v u I (v .clock + 1) last 1 (I .core .levels) (omega arith)
+    let G = head-readable v u I (v .clock + 1) last 1 (I .core .levelCount) (omega arith)
     (omega arith) in
     begin-ownless v u I room p idle (walker v p s) refl (ap (λ (f : Info). f .kind) is)
     (subst (λ (f : Info). Busy (ticked v p (walker v p s)) u p (walker v p s) f) (sym is)
@@ -105,7 +105,7 @@ begin-walk v u I room p idle s is =
       begun = omega arith;
       begun-by = omega arith;
       low = omega arith;
-      high = I .core .levels;
+      high = I .core .levelCount;
       place = G;
       read = G;
       saved = λ j f j≥ j≤. absurd (omega (arith, I .core .levels-high));
@@ -148,7 +148,7 @@ abbrev pub inserter : View → ℕ → ℕ → Pr
 inserter v p x = record { begin = v .clock + 1; own = x; stage = stage.Insert (ins.Search (place 0 (v .top))); saved = v .pr p .saved }
 
 abbrev pub cleared : (ℕ → ℕ → ℕ) → ℕ → ℕ → ℕ → ℕ
-cleared u x = upd u x (λ (j : ℕ). 0)
+cleared u x = changedAt u x (λ (j : ℕ). 0)
 
 module _ (v : View) (u : ℕ → ℕ → ℕ) (I : Inv v u) (room : v .clock + 1 < ever) (p : ℕ) (idle : claim v p .kind ≡ 0)
     (x d t h : ℕ) (fwd lk : ℕ → ℕ → ℕ) (x≥ : 1 ≤ x) (x≤ : x ≤ v .nodes) (d≤ : d ≤ 999999) (h≥ : 1 ≤ h) (h≤ : h ≤ v .top)
@@ -164,25 +164,25 @@ module _ (v : View) (u : ℕ → ℕ → ℕ) (I : Inv v u) (room : v .clock + 1
   u′ = cleared u x
 
   u-same : (n j : ℕ) → (n ≡ x → ⊥) → u′ n j ≡ u n j
-  u-same n j ne = ap (λ (f : ℕ → ℕ). f j) (upd-other u x (λ (j : ℕ). 0) n ne)
+  u-same n j ne = ap (λ (f : ℕ → ℕ). f j) (changed-other u x (λ (j : ℕ). 0) n ne)
 
   u-zero : (j : ℕ) → u′ x j ≡ 0
-  u-zero j = ap (λ (f : ℕ → ℕ). f j) (upd-same u x (λ (j : ℕ). 0))
+  u-zero j = ap (λ (f : ℕ → ℕ). f j) (changed-same u x (λ (j : ℕ). 0))
 
   not-x : (n j : ℕ) → 1 ≤ u′ n j → n ≡ x → ⊥
   not-x n j on e = omega (arith, u-zero j, (rw e at on))
 
   key-same : (n : ℕ) → (n ≡ x → ⊥) → key w n ≡ key v n
-  key-same n ne = rank-same (v .nodes) (v .due) (v .tick) (upd (v .due) x d) (upd (v .tick) x (v .clock + 1)) n (upd-other (v .due) x d n ne) (upd-other (v .tick) x (v .clock + 1) n ne)
+  key-same n ne = rank-same (v .nodes) (v .due) (v .tick) (changedAt (v .due) x d) (changedAt (v .tick) x (v .clock + 1)) n (changed-other (v .due) x d n ne) (changed-other (v .tick) x (v .clock + 1) n ne)
 
   key-x : key w x ≡ entryRank d (v .clock + 1)
-  key-x = rank-entry (v .nodes) (upd (v .due) x d) (upd (v .tick) x (v .clock + 1)) x x≥ x≤ ∙ rw (upd-same (v .due) x d, upd-same (v .tick) x (v .clock + 1))
+  key-x = rank-entry (v .nodes) (changedAt (v .due) x d) (changedAt (v .tick) x (v .clock + 1)) x x≥ x≤ ∙ rw (changed-same (v .due) x d, changed-same (v .tick) x (v .clock + 1))
 
   core : Core w′ u′
   core =
       let C = I .core in
       record {
-        levels = C .levels;
+        levelCount = C .levelCount;
         levels-high = C .levels-high;
         size = C .size;
         clock = room;
@@ -193,9 +193,9 @@ module _ (v : View) (u : ℕ → ℕ → ℕ) (I : Inv v u) (room : v .clock + 1
         ends = let E = C .ends in record {
           head-on = λ j l. rw (u-same 0 j (λ e. omega arith)) (E .head-on j l);
           tail-on = λ j l. rw (u-same (tail v) j (λ e. omega arith)) (E .tail-on j l);
-          head-used = rw (upd-other (v .us) x 1 0 (λ e. omega arith)) (E .head-used);
-          tail-used = rw (upd-other (v .us) x 1 (tail v) (λ e. omega arith)) (E .tail-used);
-          head-stamp = rw (upd-other (v .st) x ever 0 (λ e. omega arith)) (E .head-stamp);
+          head-used = rw (changed-other (v .us) x 1 0 (λ e. omega arith)) (E .head-used);
+          tail-used = rw (changed-other (v .us) x 1 (tail v) (λ e. omega arith)) (E .tail-used);
+          head-stamp = rw (changed-other (v .st) x ever 0 (λ e. omega arith)) (E .head-stamp);
           head-key = rw (key-same 0 (λ e. omega arith)) (E .head-key);
           tail-key = rw (key-same (tail v) (λ e. omega arith)) (E .tail-key);
           keys = λ n n≥ n<. keys n n≥ n< (ℕ-discrete n x);
@@ -241,28 +241,28 @@ module _ (v : View) (u : ℕ → ℕ → ℕ) (I : Inv v u) (room : v .clock + 1
 
       entered : (n : ℕ) → 1 ≤ n → n < tail v → Dec (n ≡ x) → Entered u′ (w .us) (w .mk) (w .nl) (w .ht) (w .tick) (w .due) (v .top) (v .clock + 1) n
       entered n n≥ n< (yes e) = rw e (record {
-        low-height = rw (upd-same (v .ht) x h) h≥;
-        high-height = rw (upd-same (v .ht) x h) h≤;
+        low-height = rw (changed-same (v .ht) x h) h≥;
+        high-height = rw (changed-same (v .ht) x h) h≤;
         above = λ j k. rw (u-zero j) (omega arith);
-        ticket = rw (upd-same (v .tick) x (v .clock + 1)) (omega arith);
-        used-by = rw (upd-same (v .us) x 1) (omega arith);
-        due-range = rw (upd-same (v .due) x d) d≤;
-        never = λ k. absurd (omega (arith, upd-same (v .us) x 1));
-        retired = λ r k. absurd (omega (arith, upd-same (v .us) x 1));
-        retired-marked = λ k. absurd (omega (arith, upd-same (v .us) x 1));
-        full = λ k l m. absurd (omega (arith, upd-same (v .nl) x (suc p)));
+        ticket = rw (changed-same (v .tick) x (v .clock + 1)) (omega arith);
+        used-by = rw (changed-same (v .us) x 1) (omega arith);
+        due-range = rw (changed-same (v .due) x d) d≤;
+        never = λ k. absurd (omega (arith, changed-same (v .us) x 1));
+        retired = λ r k. absurd (omega (arith, changed-same (v .us) x 1));
+        retired-marked = λ k. absurd (omega (arith, changed-same (v .us) x 1));
+        full = λ k l m. absurd (omega (arith, changed-same (v .nl) x (suc p)));
       })
       entered n n≥ n< (no ne) = let E = I .core .entered n n≥ n< in record {
-        low-height = rw (upd-other (v .ht) x h n ne) (E .low-height);
-        high-height = rw (upd-other (v .ht) x h n ne) (E .high-height);
-        above = rw (upd-other (v .ht) x h n ne) λ j k. rw (u-same n j ne) (E .above j k);
-        ticket = rw (upd-other (v .tick) x (v .clock + 1) n ne) (omega (arith, E .ticket));
-        used-by = rw (upd-other (v .us) x 1 n ne) (omega (arith, E .used-by));
-        due-range = rw (upd-other (v .due) x d n ne) (E .due-range);
-        never = rw (upd-other (v .us) x 1 n ne) λ k j. rw (u-same n j ne) (E .never k j);
-        retired = rw (upd-other (v .us) x 1 n ne) λ r k j j≥. rw (u-same n j ne) (E .retired r k j j≥);
-        retired-marked = rw (upd-other (v .us) x 1 n ne, upd-other (v .mk) x 0 n ne) (E .retired-marked);
-        full = rw (upd-other (v .us) x 1 n ne, upd-other (v .mk) x 0 n ne, upd-other (v .nl) x (suc p) n ne, upd-other (v .ht) x h n ne) λ k l m j j≥ j≤. rw (u-same n j ne) (E .full k l m j j≥ j≤);
+        low-height = rw (changed-other (v .ht) x h n ne) (E .low-height);
+        high-height = rw (changed-other (v .ht) x h n ne) (E .high-height);
+        above = rw (changed-other (v .ht) x h n ne) λ j k. rw (u-same n j ne) (E .above j k);
+        ticket = rw (changed-other (v .tick) x (v .clock + 1) n ne) (omega (arith, E .ticket));
+        used-by = rw (changed-other (v .us) x 1 n ne) (omega (arith, E .used-by));
+        due-range = rw (changed-other (v .due) x d n ne) (E .due-range);
+        never = rw (changed-other (v .us) x 1 n ne) λ k j. rw (u-same n j ne) (E .never k j);
+        retired = rw (changed-other (v .us) x 1 n ne) λ r k j j≥. rw (u-same n j ne) (E .retired r k j j≥);
+        retired-marked = rw (changed-other (v .us) x 1 n ne, changed-other (v .mk) x 0 n ne) (E .retired-marked);
+        full = rw (changed-other (v .us) x 1 n ne, changed-other (v .mk) x 0 n ne, changed-other (v .nl) x (suc p) n ne, changed-other (v .ht) x h n ne) λ k l m j j≥ j≤. rw (u-same n j ne) (E .full k l m j j≥ j≤);
       }
 
       fresh-key : (m : ℕ) → m ≤ tail v → (m ≡ x → ⊥) → key w x ≡ key w m → ⊥
@@ -283,7 +283,7 @@ module _ (v : View) (u : ℕ → ℕ → ℕ) (I : Inv v u) (room : v .clock + 1
       apart n m (yes e) (yes f) = λ n≤ m≤ nu mu k. omega arith
       apart n m (yes e) (no f) = rw e λ n≤ m≤ nu mu k. absurd (fresh-key m m≤ f k)
       apart n m (no e) (yes f) = rw f λ n≤ m≤ nu mu k. absurd (fresh-key n n≤ e (sym k))
-      apart n m (no e) (no f) = rw (key-same n e, key-same m f, upd-other (v .us) x 1 n e, upd-other (v .us) x 1 m f) (I .core .apart n m)
+      apart n m (no e) (no f) = rw (key-same n e, key-same m f, changed-other (v .us) x 1 n e, changed-other (v .us) x 1 m f) (I .core .apart n m)
 
   busy-v : (q : ℕ) → 1 ≤ claim w q .kind → 1 ≤ claim v q .kind
   busy-v q b = omega (arith, kind-any (w .ht (v .pr q .own)) (v .ht (v .pr q .own)) (v .pr q .stage))
@@ -298,7 +298,7 @@ module _ (v : View) (u : ℕ → ℕ → ℕ) (I : Inv v u) (room : v .clock + 1
   ]
 
   claim-w : (q : ℕ) → 1 ≤ claim v q .kind → claim w q ≡ claim v q
-  claim-w q b = ap (λ (k : ℕ). info k (v .pr q .stage)) (upd-other (v .ht) x h (v .pr q .own) (own-ne q b))
+  claim-w q b = ap (λ (k : ℕ). info k (v .pr q .stage)) (changed-other (v .ht) x h (v .pr q .own) (own-ne q b))
 
   -- what q has seen is not x
   seen-ne : (q n i : ℕ) → 1 ≤ claim v q .kind → 1 ≤ i → v .pr q .begin ≤ u n i → n ≡ x → ⊥
@@ -348,7 +348,7 @@ module _ (v : View) (u : ℕ → ℕ → ℕ) (I : Inv v u) (room : v .clock + 1
         s-ne k = seen-ne q _ (claim v q .level) b (B .low) (omega (arith, I .core .ordered (claim v q .node) (claim v q .level) (B .low) (B .place .below) (B .near .on k) .on, B .begun-by))
 
     eligible : (y : ℕ) → Eligible (w .us) (w .st) (w .mk) (v .nodes) (v .pr q .begin) y → (y ≡ x → ⊥)
-    eligible y L e = omega (arith, B .begun-by, upd-same (v .st) x ever, (rw e at (L .stamped)))
+    eligible y L e = omega (arith, B .begun-by, changed-same (v .st) x ever, (rw e at (L .stamped)))
 
     other : Busy w′ u′ q (v .pr q) (claim v q)
     other =
@@ -362,27 +362,27 @@ module _ (v : View) (u : ℕ → ℕ → ℕ) (I : Inv v u) (room : v .clock + 1
           saved = λ j f j≥ j≤. readable _ _ j≥ (B .saved j f j≥ j≤);
           holds-place = λ k. rw (lk-same (claim v q .node) (claim v q .level) a-ne) (B .holds-place k);
           holds-own = λ k. rw (lk-same (v .pr q .own) (claim v q .level) o-ne) (B .holds-own k);
-          holds-node = λ k. rw (upd-other (v .nl) x (suc p) (v .pr q .own) o-ne) (B .holds-node k);
+          holds-node = λ k. rw (changed-other (v .nl) x (suc p) (v .pr q .own) o-ne) (B .holds-node k);
           near = near;
           inserts = λ k. let S = B .inserts k in record {
             low = S .low;
             high = S .high;
-            used = rw (upd-other (v .us) x 1 _ o-ne) (S .used);
-            later = rw (upd-other (v .us) x 1 _ o-ne) (S .later);
-            ticket = rw (upd-other (v .tick) x (v .clock + 1) _ o-ne) (S .ticket);
-            unstamped = rw (upd-other (v .st) x ever _ o-ne) (S .unstamped);
+            used = rw (changed-other (v .us) x 1 _ o-ne) (S .used);
+            later = rw (changed-other (v .us) x 1 _ o-ne) (S .later);
+            ticket = rw (changed-other (v .tick) x (v .clock + 1) _ o-ne) (S .ticket);
+            unstamped = rw (changed-other (v .st) x ever _ o-ne) (S .unstamped);
             linked = λ l j j≥ j≤. rw (u-same _ j o-ne) (S .linked l j j≥ j≤);
             off = λ l j lt. rw (u-same _ j o-ne) (S .off l j lt);
           };
-          within = λ k. rw (upd-other (v .ht) x h _ o-ne) (B .within k);
+          within = λ k. rw (changed-other (v .ht) x h _ o-ne) (B .within k);
           removes = λ k. let S = B .removes k in record {
             low = S .low;
             high = S .high;
-            used = rw (upd-other (v .us) x 1 _ o-ne) (S .used);
-            marked = rw (upd-other (v .mk) x 0 _ o-ne) (S .marked);
+            used = rw (changed-other (v .us) x 1 _ o-ne) (S .used);
+            marked = rw (changed-other (v .mk) x 0 _ o-ne) (S .marked);
             linked = λ l j j≥ j≤. rw (u-same _ j o-ne) (S .linked l j j≥ j≤);
             off = λ l j lt. rw (u-same _ j o-ne) (S .off l j lt);
-            whole = rw (upd-other (v .nl) x (suc p) _ o-ne, upd-other (v .ht) x h _ o-ne) λ l z j j≥ j≤. rw (u-same _ j o-ne) (S .whole l z j j≥ j≤);
+            whole = rw (changed-other (v .nl) x (suc p) _ o-ne, changed-other (v .ht) x h _ o-ne) λ l z j j≥ j≤. rw (u-same _ j o-ne) (S .whole l z j j≥ j≤);
           };
           walks = λ k. let W = B .walks k in record {
             ownless = W .ownless;
@@ -390,13 +390,13 @@ module _ (v : View) (u : ℕ → ℕ → ℕ) (I : Inv v u) (room : v .clock + 1
                 rw (key-same _ a-ne, key-same y ye) (W .ahead l y (record {
                   low = L .low;
                   high = L .high;
-                  used = rw (upd-other (v .us) x 1 y ye) at (L .used);
-                  stamped = rw (upd-other (v .st) x ever y ye) at (L .stamped);
-                  unmarked = rw (upd-other (v .mk) x 0 y ye) at (L .unmarked);
+                  used = rw (changed-other (v .us) x 1 y ye) at (L .used);
+                  stamped = rw (changed-other (v .st) x ever y ye) at (L .stamped);
+                  unmarked = rw (changed-other (v .mk) x 0 y ye) at (L .unmarked);
                 }));
             entry = W .entry;
             named = λ l. rw (key-same _ a-ne) (W .named l);
-            stamped = λ l. rw (upd-other (v .st) x ever _ a-ne) (W .stamped l);
+            stamped = λ l. rw (changed-other (v .st) x ever _ a-ne) (W .stamped l);
           };
         }
 
@@ -410,7 +410,7 @@ module _ (v : View) (u : ℕ → ℕ → ℕ) (I : Inv v u) (room : v .clock + 1
             let se = seen-ne q (v .fwd n i) i b i≥ (k .seen) in
             let f = fwd-same n i ne in
             back (record { below = rw f (k .below); seen = rw (f, u-same (v .fwd n i) i se) (k .seen); less = rw (f, key-same (v .fwd n i) se, key-same n ne) (k .less) })
-        go ne (unlinking y l) = unlinking y (unlinking-other w u′ p (inserter v p x) y n i (λ e. omega (arith, idle, (rw e at (l .kind)))) (moved (omega (arith, l .kind))))
+        go ne (unlinker y l) = unlinker y (unlinking-other w u′ p (inserter v p x) y n i (λ e. omega (arith, idle, (rw e at (l .kind)))) (moved (omega (arith, l .kind))))
           where
             moved : 1 ≤ claim v y .kind → Unlinking w y n i
             moved by = let e = claim-w y by in record {
@@ -427,26 +427,26 @@ module _ (v : View) (u : ℕ → ℕ → ℕ) (I : Inv v u) (room : v .clock + 1
       record {
         begun = omega arith;
         begun-by = omega arith;
-        low = I .core .levels;
+        low = I .core .levelCount;
         high = omega arith;
         place = G;
         read = G;
         saved = λ j f j≥ j≤. absurd (omega arith);
         holds-place = λ k. absurd (omega arith);
         holds-own = λ k. absurd (omega arith);
-        holds-node = λ k. upd-same (v .nl) x (suc p);
+        holds-node = λ k. changed-same (v .nl) x (suc p);
         near = near-none _ _ _ _ _ _;
         inserts = λ k. record {
           low = x≥;
           high = x≤;
-          used = λ l. upd-same (v .us) x 1;
-          later = λ l. absurd (l (upd-same (v .us) x 1));
-          ticket = upd-same (v .tick) x (v .clock + 1);
-          unstamped = upd-same (v .st) x ever;
+          used = λ l. changed-same (v .us) x 1;
+          later = λ l. absurd (l (changed-same (v .us) x 1));
+          ticket = changed-same (v .tick) x (v .clock + 1);
+          unstamped = changed-same (v .st) x ever;
           linked = λ l j j≥ j≤. absurd (omega arith);
           off = λ l j lt. u-zero j;
         };
-        within = λ k. absurd (omega (arith, I .core .levels));
+        within = λ k. absurd (omega (arith, I .core .levelCount));
         removes = λ k. absurd (omega arith);
         walks = λ k. absurd (omega arith);
       }

@@ -7,18 +7,20 @@ use native.Mathlib.Omega.{arith}
 use native.Mathlib.Decide.{ℕ-discrete}
 use lib.Dec.{ltb, eqb}
 use borrow.Author.Tests.{eqb-true}
-use Rattle.checks.specs.declared.counting.Count.{Count}
-use Rattle.checks.specs.declared.counting.Count.the-variants as count
+use Rattle.record_check.specs.declared.counting.Count.{Count}
+use Rattle.record_check.specs.declared.counting.Count.the-variants as count
 use Rattle.laws.specs.HowMany.{howMany}
-use Rattle.laws.specs.Update.{upd}
+use Rattle.laws.specs.Update.{changedAt}
 use Rattle.laws.proofs.Booleans.{cond-cases}
 use Rattle.laws.proofs.Counting.{and-left, and-right}
-use Rattle.laws.proofs.Updating.{upd-same, upd-other}
+use Rattle.laws.proofs.Updating.{changed-same, changed-other}
 use Rattle.record.specs.declared.queues.Queue.{Queue}
 use Rattle.rules.specs.declared.answers.Answer.{Answer}
 use Rattle.rules.specs.declared.answers.Answer.the-variants as ans
+use Rattle.rules.specs.declared.answers.Deed.{Deed}
+use Rattle.rules.specs.declared.answers.Deed.the-variants as deed
 use Rattle.rules.specs.declared.answers.Entry.{Entry}
-use Rattle.rules.specs.Book.{Line, Open, nothing, inserting, deleting, delivering, Book, Verdict, agrees, differs, provided, now, turned, pick, gives, withAnswer, withMark, withHandOut, beginsInsert, beginsDelete, inserted, marks, empties, handsOut, moves, feedInsert, feedDelete, feedStep, feed, thenFeed, judged}
+use Rattle.rules.specs.Book.{BookEntry, Open, nothing, inserting, walking, unlinking, Book, Verdict, agrees, differs, agreesIf, now, afterCall, pick, gives, withAnswer, withMarked, withHandOut, beginsInsert, beginsDelete, inserted, marks, empties, handsOut, moves, feedBegin, feedInsert, feedDelete, feedDeed, feedStep, feed, thenFeed, judged}
 use Rattle.rules.specs.Book.{pendingIn, feedBacklog}
 use Rattle.rules.specs.declared.calls.Call.the-variants as call
 use Rattle.rules.specs.Runs.{Turn, calls, backlog, Reply, answered, counted, after, reply}
@@ -32,8 +34,8 @@ pub right-book : (P : Book → Type 0) (v : Verdict) (b : Book) → v ≡ agrees
 right-book P v b e h = subst (Right P) e h
 
 -- an answer that is right only where a test holds
-pub right-provided : (P : Book → Type 0) (t : Bool) (b : Book) → (t ≡ true → P b) → Right P (provided t b)
-right-provided P t b h = cond-cases (Right P) t (agrees b) differs h (λ _. tt)
+pub right-if : (P : Book → Type 0) (t : Bool) (b : Book) → (t ≡ true → P b) → Right P (agreesIf t b)
+right-if P t b h = cond-cases (Right P) t (agrees b) differs h (λ _. tt)
 
 -- the answer gives the entry t
 pub record Given (b : Book) (e : Entry) (t : ℕ) : Type 0 where
@@ -50,19 +52,19 @@ given b e t h =
     record { due = eqb-true _ _ (and-left x (y && z) h); item = eqb-true _ _ (and-left y z r); ticket = eqb-true _ _ (and-right y z r) }
 
 -- a flag of a line that no change of the line takes back stays up: the entry's ticket is not a time to come
-pub record Stays (flag : Line → Bool) (t : ℕ) (b : Book) : Type 0 where
+pub record Stays (flag : BookEntry → Bool) (t : ℕ) (b : Book) : Type 0 where
   pub low : t ≤ b .count
   pub up : flag (b .entry t) ≡ true
 
-module _ (flag : Line → Bool) (t : ℕ) (answer-keeps : (l : Line) (n : ℕ) → flag l ≡ true → flag (withAnswer l n) ≡ true)
-    (mark-keeps : (l : Line) → flag l ≡ true → flag (withMark l) ≡ true) (hand-out-keeps : (l : Line) → flag l ≡ true → flag (withHandOut l) ≡ true) where
+module _ (flag : BookEntry → Bool) (t : ℕ) (answer-keeps : (l : BookEntry) (n : ℕ) → flag l ≡ true → flag (withAnswer l n) ≡ true)
+    (mark-keeps : (l : BookEntry) → flag l ≡ true → flag (withMarked l) ≡ true) (hand-out-keeps : (l : BookEntry) → flag l ≡ true → flag (withHandOut l) ≡ true) where
   -- a line that is written over another
-  written : (b : Book) (p : ℕ) (o : Open) (x : ℕ) (l : Line) → (x ≡ t → flag l ≡ true) → Stays flag t b → Stays flag t (turned b (upd (b .entry) x l) p o)
+  written : (b : Book) (p : ℕ) (o : Open) (x : ℕ) (l : BookEntry) → (x ≡ t → flag l ≡ true) → Stays flag t b → Stays flag t (afterCall b (changedAt (b .entry) x l) p o)
   written b p o x l h S = record { low = omega arith; up = go (ℕ-discrete t x) }
     where
-      go : Dec (t ≡ x) → flag (upd (b .entry) x l t) ≡ true
-      go (yes e) = subst (λ (n : ℕ). flag (upd (b .entry) x l n) ≡ true) (sym e) (rw (upd-same (b .entry) x l) (h (sym e)))
-      go (no d) = rw (upd-other (b .entry) x l t d) (S .up)
+      go : Dec (t ≡ x) → flag (changedAt (b .entry) x l t) ≡ true
+      go (yes e) = subst (λ (n : ℕ). flag (changedAt (b .entry) x l n) ≡ true) (sym e) (rw (changed-same (b .entry) x l) (h (sym e)))
+      go (no d) = rw (changed-other (b .entry) x l t d) (S .up)
 
   module _ (b : Book) (S : Stays flag t b) where
     abbrev K : Verdict → Type 0
@@ -75,72 +77,71 @@ module _ (flag : Line → Bool) (t : ℕ) (answer-keeps : (l : Line) (n : ℕ) �
     same : Stays flag t (record { count = now b; entry = b .entry; opened = b .opened })
     same = record { low = omega arith; up = S .up }
 
-    opens-only : (p : ℕ) (o : Open) → Stays flag t (turned b (b .entry) p o)
+    opens-only : (p : ℕ) (o : Open) → Stays flag t (afterCall b (b .entry) p o)
     opens-only p o = record { low = omega arith; up = S .up }
 
     insert-begins : (p due item x : ℕ) (o : Open) → K (beginsInsert b p due item x o)
-    insert-begins p due item x nothing = right-provided (Stays flag t) (eqb x (now b)) _ (λ e. written b p (inserting x) x _ (λ g. absurd (omega (arith, eqb-true x (now b) e))) S)
+    insert-begins p due item x nothing = right-if (Stays flag t) (eqb x (now b)) _ (λ e. written b p (inserting x) x _ (λ g. absurd (omega (arith, eqb-true x (now b) e))) S)
     insert-begins p due item x (inserting y) = tt
-    insert-begins p due item x (deleting y) = tt
-    insert-begins p due item x (delivering y) = tt
+    insert-begins p due item x (walking y) = tt
+    insert-begins p due item x (unlinking y) = tt
 
     delete-begins : (p x : ℕ) (o : Open) → K (beginsDelete b p x o)
-    delete-begins p x nothing = right-provided (Stays flag t) (eqb x (now b)) _ (λ e. opens-only p (deleting x))
+    delete-begins p x nothing = right-if (Stays flag t) (eqb x (now b)) _ (λ e. opens-only p (walking x))
     delete-begins p x (inserting y) = tt
-    delete-begins p x (deleting y) = tt
-    delete-begins p x (delivering y) = tt
+    delete-begins p x (walking y) = tt
+    delete-begins p x (unlinking y) = tt
 
     insert-answers : (p : ℕ) (e : Entry) (o : Open) → K (inserted b p e o)
     insert-answers p e nothing = tt
-    insert-answers p e (inserting x) = right-provided (Stays flag t) (gives b e x) _ (λ _. written b p nothing x _ (λ g. answer-keeps (b .entry x) (now b) (flagged x g)) S)
-    insert-answers p e (deleting y) = tt
-    insert-answers p e (delivering y) = tt
+    insert-answers p e (inserting x) = right-if (Stays flag t) (gives b e x) _ (λ _. written b p nothing x _ (λ g. answer-keeps (b .entry x) (now b) (flagged x g)) S)
+    insert-answers p e (walking y) = tt
+    insert-answers p e (unlinking y) = tt
 
     delete-marks : (p : ℕ) (e : Entry) (o : Open) → K (marks b p e o)
     delete-marks p e nothing = tt
     delete-marks p e (inserting y) = tt
-    delete-marks p e (deleting T) = right-provided (Stays flag t) (ltb 0 (pick b T) && gives b e (pick b T)) _
-        (λ _. written b p (delivering (pick b T)) (pick b T) _ (λ g. mark-keeps (b .entry (pick b T)) (flagged (pick b T) g)) S)
-    delete-marks p e (delivering y) = tt
+    delete-marks p e (walking T) = right-if (Stays flag t) (ltb 0 (pick b T) && gives b e (pick b T)) _
+        (λ _. written b p (unlinking (pick b T)) (pick b T) _ (λ g. mark-keeps (b .entry (pick b T)) (flagged (pick b T) g)) S)
+    delete-marks p e (unlinking y) = tt
 
     delete-empties : (p : ℕ) (o : Open) → K (empties b p o)
     delete-empties p nothing = tt
     delete-empties p (inserting y) = tt
-    delete-empties p (deleting T) = right-provided (Stays flag t) (eqb (pick b T) 0) _ (λ _. opens-only p nothing)
-    delete-empties p (delivering y) = tt
+    delete-empties p (walking T) = right-if (Stays flag t) (eqb (pick b T) 0) _ (λ _. opens-only p nothing)
+    delete-empties p (unlinking y) = tt
 
     delete-hands-out : (p : ℕ) (e : Entry) (o : Open) → K (handsOut b p e o)
     delete-hands-out p e nothing = tt
     delete-hands-out p e (inserting y) = tt
-    delete-hands-out p e (deleting y) = tt
-    delete-hands-out p e (delivering x) = right-provided (Stays flag t) (gives b e x && not (b .entry x .handedOut)) _
+    delete-hands-out p e (walking y) = tt
+    delete-hands-out p e (unlinking x) = right-if (Stays flag t) (gives b e x && not (b .entry x .handedOut)) _
         (λ _. written b p nothing x _ (λ g. hand-out-keeps (b .entry x) (flagged x g)) S)
 
     step-moves : (o : Open) → K (moves b o)
     step-moves nothing = tt
     step-moves (inserting y) = same
-    step-moves (deleting y) = same
-    step-moves (delivering y) = same
+    step-moves (walking y) = same
+    step-moves (unlinking y) = same
+
+    fed-begin : (begun : ℕ → Verdict) (a : Answer) → ((x : ℕ) → K (begun x)) → K (feedBegin b begun a)
+    fed-begin begun (ans.Refused n) h = S
+    fed-begin begun (ans.Began x) h = h x
+    fed-begin begun ans.Moved h = tt
+    fed-begin begun ans.Waits h = tt
+    fed-begin begun ans.Empty h = tt
+    fed-begin begun (ans.Did d e) h = tt
 
     fed-insert : (p due item : ℕ) (a : Answer) → K (feedInsert b p due item a)
-    fed-insert p due item (ans.Refused n) = S
-    fed-insert p due item (ans.Began x) = insert-begins p due item x (b .opened p)
-    fed-insert p due item ans.Moved = tt
-    fed-insert p due item ans.Waits = tt
-    fed-insert p due item ans.Empty = tt
-    fed-insert p due item (ans.Marked e) = tt
-    fed-insert p due item (ans.Inserted e) = tt
-    fed-insert p due item (ans.HandedOut e) = tt
+    fed-insert p due item a = fed-begin _ a (λ x. insert-begins p due item x (b .opened p))
 
     fed-delete : (p : ℕ) (a : Answer) → K (feedDelete b p a)
-    fed-delete p (ans.Refused n) = S
-    fed-delete p (ans.Began x) = delete-begins p x (b .opened p)
-    fed-delete p ans.Moved = tt
-    fed-delete p ans.Waits = tt
-    fed-delete p ans.Empty = tt
-    fed-delete p (ans.Marked e) = tt
-    fed-delete p (ans.Inserted e) = tt
-    fed-delete p (ans.HandedOut e) = tt
+    fed-delete p a = fed-begin _ a (λ x. delete-begins p x (b .opened p))
+
+    fed-deed : (p : ℕ) (e : Entry) (d : Deed) → K (feedDeed b p e d)
+    fed-deed p e deed.Marked = delete-marks p e (b .opened p)
+    fed-deed p e deed.Inserted = insert-answers p e (b .opened p)
+    fed-deed p e deed.HandedOut = delete-hands-out p e (b .opened p)
 
     fed-step : (p : ℕ) (a : Answer) → K (feedStep b p a)
     fed-step p (ans.Refused n) = S
@@ -148,14 +149,12 @@ module _ (flag : Line → Bool) (t : ℕ) (answer-keeps : (l : Line) (n : ℕ) �
     fed-step p ans.Moved = step-moves (b .opened p)
     fed-step p ans.Waits = step-moves (b .opened p)
     fed-step p ans.Empty = delete-empties p (b .opened p)
-    fed-step p (ans.Marked e) = delete-marks p e (b .opened p)
-    fed-step p (ans.Inserted e) = insert-answers p e (b .opened p)
-    fed-step p (ans.HandedOut e) = delete-hands-out p e (b .opened p)
+    fed-step p (ans.Did d e) = fed-deed p e d
 
     fed-backlog : (k : Count) → K (feedBacklog b k)
     fed-backlog (count.Refused n) = S
     fed-backlog (count.Pending k) =
-        right-provided (Stays flag t) (eqb k (howMany (pendingIn b) (b .count))) b (λ _. S)
+        right-if (Stays flag t) (eqb k (howMany (pendingIn b) (b .count))) b (λ _. S)
 
     fed : (c : Turn) (r : Reply) → K (feed b c r)
     fed (calls (call.Insert p due item height)) (answered a) = fed-insert p due item a

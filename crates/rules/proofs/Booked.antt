@@ -21,7 +21,7 @@ use Rattle.record.specs.declared.stages.Job.the-variants as jobs
 use Rattle.record.specs.declared.stages.Stage.the-variants as stage
 use Rattle.rules.specs.declared.answers.Entry.{Entry}
 use Rattle.rules.specs.declared.decisions.Decision.{Decision}
-use Rattle.rules.specs.declared.decisions.Sight.{Sight}
+use Rattle.rules.specs.declared.decisions.StepView.{StepView}
 use Rattle.rules.specs.declared.decisions.Searched.{Searched}
 use Rattle.rules.specs.declared.decisions.Searched.the-variants as srch
 use Rattle.rules.specs.declared.decisions.Sought.{Sought}
@@ -30,18 +30,18 @@ use Rattle.record.specs.Stages.{place}
 use Rattle.rules.specs.Decide.{insertSearched, insertSought, removalSearched, removalSought, seekStep, searchStep}
 use Rattle.record.specs.Stages.{seekPart}
 use Rattle.laws.proofs.Booleans.{cond-elim}
-use Rattle.laws.specs.Update.{upd}
-use Rattle.laws.proofs.Updating.{upd-same, upd-other}
+use Rattle.laws.specs.Update.{changedAt}
+use Rattle.laws.proofs.Updating.{changed-same, changed-other}
 use Rattle.rules.proofs.Put.{ever}
-use Rattle.rules.proofs.View.{Pr, View, info, walking, claim, key, tail}
+use Rattle.rules.proofs.View.{Pr, View, info, walkInfo, claim, key, tail}
 use Rattle.rules.proofs.Inv.{Inv, Eligible, Inserts, NodeHeld}
 use Rattle.rules.proofs.Assemble.{ticked}
-use Rattle.rules.proofs.Machine.{decision, entryAt, sight, withStatus}
+use Rattle.rules.proofs.Machine.{decision, entryAt, view, withStatus}
 use Rattle.rules.proofs.Move.{busy-at, kind-at}
 use Rattle.rules.proofs.InsertSteps.{idle}
 use Rattle.rules.proofs.WalkSteps.{empty-right, mark-able, mark-first}
 use Rattle.rules.proofs.Begin.{rank-entry}
-use Rattle.rules.specs.Book.{Line, Open, nothing, delivering, Book, turned, pick, gives, withAnswer, withMark, withHandOut}
+use Rattle.rules.specs.Book.{BookEntry, Open, nothing, unlinking, Book, afterCall, pick, gives, withAnswer, withMarked, withHandOut}
 use Rattle.rules.proofs.Picks.{order, Candidate, Picked, none, one, picked}
 use Rattle.rules.proofs.Rel.{opens, lineOf, Found, Filed, Rel, Booked, quiet, Quiet, quiet-booked}
 use Rattle.rules.proofs.Rel.{still-past}
@@ -52,10 +52,10 @@ sought-quiet (sght.Goes e k) = quiet e
 sought-quiet (sght.Waits k) = Unit {0}
 sought-quiet (sght.Done a) = Unit {0}
 
-seek-quiet : (s : Sight) (k : Seek) → sought-quiet (seekStep s k)
-seek-quiet s (seek.Approach a) = cond-elim sought-quiet (s .before) _ _ tt tt
-seek-quiet s (seek.Take a) = cond-elim sought-quiet (eqb (s .guard) 0) _ _ tt tt
-seek-quiet s (seek.Confirm a) = cond-elim sought-quiet (s .before) _ _ tt tt
+seek-quiet : (s : StepView) (k : Seek) → sought-quiet (seekStep s k)
+seek-quiet s (seek.Approach a) = cond-elim sought-quiet (s .nextBeforeKey) _ _ tt tt
+seek-quiet s (seek.Take a) = cond-elim sought-quiet (eqb (s .placeLock) 0) _ _ tt tt
+seek-quiet s (seek.Confirm a) = cond-elim sought-quiet (s .nextBeforeKey) _ _ tt tt
 seek-quiet s (seek.Release a b) = tt
 
 kind-seek-insert : (h : ℕ) (k : Seek) → info h (stage.Insert (ins.Seek k)) .kind ≡ 1
@@ -71,35 +71,35 @@ kind-seek-delete job h (seek.Take a) = refl
 kind-seek-delete job h (seek.Confirm a) = refl
 kind-seek-delete job h (seek.Release a b) = refl
 
-quiet-insert-sought : (s : Sight) (j : Seek) (r : Sought) → sought-quiet r →
+quiet-insert-sought : (s : StepView) (j : Seek) (r : Sought) → sought-quiet r →
     Quiet (s .own) (stage.Insert (ins.Seek j)) (insertSought s r)
 quiet-insert-sought s j (sght.Goes e k) q = record { answer = tt; effect = q; own-same = refl; begin-same = λ t b. refl; kind-same = λ h. kind-seek-insert h k ∙ sym (kind-seek-insert h j); opens-same = λ t b. refl }
 quiet-insert-sought s j (sght.Waits k) q = record { answer = tt; effect = tt; own-same = refl; begin-same = λ t b. refl; kind-same = λ h. kind-seek-insert h k ∙ sym (kind-seek-insert h j); opens-same = λ t b. refl }
 quiet-insert-sought s j (sght.Done a) q = record { answer = tt; effect = tt; own-same = refl; begin-same = λ t b. refl; kind-same = λ h. sym (kind-seek-insert h j); opens-same = λ t b. refl }
 
-quiet-delete-sought : (job : Job) (s : Sight) (j : Seek) (r : Sought) → sought-quiet r →
+quiet-delete-sought : (job : Job) (s : StepView) (j : Seek) (r : Sought) → sought-quiet r →
     Quiet (s .own) (stage.Removal job (rem.Seek j)) (removalSought job s r)
 quiet-delete-sought job s j (sght.Goes e k) q = record { answer = tt; effect = q; own-same = refl; begin-same = λ t b. refl; kind-same = λ h. kind-seek-delete job h k ∙ sym (kind-seek-delete job h j); opens-same = λ t b. refl }
 quiet-delete-sought job s j (sght.Waits k) q = record { answer = tt; effect = tt; own-same = refl; begin-same = λ t b. refl; kind-same = λ h. kind-seek-delete job h k ∙ sym (kind-seek-delete job h j); opens-same = λ t b. refl }
 quiet-delete-sought job s j (sght.Done a) q = record { answer = tt; effect = tt; own-same = refl; begin-same = λ t b. refl; kind-same = λ h. sym (kind-seek-delete job h j); opens-same = λ t b. refl }
 
-quiet-insert-searched : (s : Sight) (a : Place) (r : Searched) →
+quiet-insert-searched : (s : StepView) (a : Place) (r : Searched) →
     Quiet (s .own) (stage.Insert (ins.Search a)) (insertSearched s a r)
 quiet-insert-searched s a (srch.Ahead b) = record { answer = tt; effect = tt; own-same = refl; begin-same = λ t b. refl; kind-same = λ h. refl; opens-same = λ t b. refl }
 quiet-insert-searched s a (srch.Down b) = record { answer = tt; effect = tt; own-same = refl; begin-same = λ t b. refl; kind-same = λ h. refl; opens-same = λ t b. refl }
-quiet-insert-searched s a (srch.Left b) = record { answer = tt; effect = tt; own-same = refl; begin-same = λ t b. refl; kind-same = λ h. refl; opens-same = λ t b. refl }
+quiet-insert-searched s a (srch.Done b) = record { answer = tt; effect = tt; own-same = refl; begin-same = λ t b. refl; kind-same = λ h. refl; opens-same = λ t b. refl }
 
-quiet-delete-searched : (job : Job) (s : Sight) (a : Place) (r : Searched) →
+quiet-delete-searched : (job : Job) (s : StepView) (a : Place) (r : Searched) →
     Quiet (s .own) (stage.Removal job (rem.Search a)) (removalSearched job s a r)
 quiet-delete-searched job s a (srch.Ahead b) = record { answer = tt; effect = tt; own-same = refl; begin-same = λ t b. refl; kind-same = λ h. refl; opens-same = λ t b. refl }
 quiet-delete-searched job s a (srch.Down b) = record { answer = tt; effect = tt; own-same = refl; begin-same = λ t b. refl; kind-same = λ h. refl; opens-same = λ t b. refl }
-quiet-delete-searched job s a (srch.Left b) = record { answer = tt; effect = tt; own-same = refl; begin-same = λ t b. refl; kind-same = λ h. refl; opens-same = λ t b. refl }
+quiet-delete-searched job s a (srch.Done b) = record { answer = tt; effect = tt; own-same = refl; begin-same = λ t b. refl; kind-same = λ h. refl; opens-same = λ t b. refl }
 
 -- a node in use is known by its ticket, among those that are or were used and whose entry has their due
 pub ticket-apart : (v : View) (u : ℕ → ℕ → ℕ) (I : Inv v u) (b : Book) (R : Rel v b) (n m : ℕ) → 1 ≤ n → n ≤ v .nodes → 1 ≤ m → m ≤ v .nodes → v .us n ≡ 1 → 1 ≤ v .us m →
     b .entry (v .tick m) .due ≡ v .due m → v .tick n ≡ v .tick m → n ≡ m
 ticket-apart v u I b R n m n≥ n≤ m≥ m≤ nu mu md e =
-    let d : v .due n ≡ v .due m = sym (ap (λ (x : Line). x .due) (R .kept n n≥ n≤ nu)) ∙ (ap (λ (t : ℕ). b .entry t .due) e ∙ md) in
+    let d : v .due n ≡ v .due m = sym (ap (λ (x : BookEntry). x .due) (R .kept n n≥ n≤ nu)) ∙ (ap (λ (t : ℕ). b .entry t .due) e ∙ md) in
     I .core .apart n m (omega arith) (omega arith) (omega arith) mu
     (rank-entry (v .nodes) (v .due) (v .tick) n n≥ n≤ ∙ (rw (d, e) (sym (rank-entry (v .nodes) (v .due) (v .tick) m m≥ m≤))))
 
@@ -118,18 +118,18 @@ module _ (v : View) (u : ℕ → ℕ → ℕ) (I : Inv v u) (b : Book) (R : Rel 
           low = F .low;
           high = F .high;
           used = F .used;
-          stamped = rw (ap (λ (x : Line). x .answeredAt) l) at (rw (← (F .ticket)) at (C .answered));
-          unmarked = unmarked-zero (v .mk (F .node)) (rw (ap (λ (x : Line). x .marked) l) at (rw (← (F .ticket)) at (C .unmarked)));
+          stamped = rw (ap (λ (x : BookEntry). x .answeredAt) l) at (rw (← (F .ticket)) at (C .answered));
+          unmarked = unmarked-zero (v .mk (F .node)) (rw (ap (λ (x : BookEntry). x .marked) l) at (rw (← (F .ticket)) at (C .unmarked)));
         },
       )
 
   pub candidate-of : (n : ℕ) → Eligible (v .us) (v .st) (v .mk) (v .nodes) T n → Candidate b T (v .tick n)
   candidate-of n L =
       let l = R .kept n (L .low) (L .high) (L .used) in
-      record { written = ap (λ (x : Line). x .written) l; answered = rw (ap (λ (x : Line). x .answeredAt) l) (L .stamped); unmarked = ap (λ (x : Line). x .marked) l ∙ le-ltb 0 (v .mk n) (omega (arith, L .unmarked)) }
+      record { written = ap (λ (x : BookEntry). x .written) l; answered = rw (ap (λ (x : BookEntry). x .answeredAt) l) (L .stamped); unmarked = ap (λ (x : BookEntry). x .marked) l ∙ le-ltb 0 (v .mk n) (omega (arith, L .unmarked)) }
 
   order-of : (n : ℕ) → 1 ≤ n → n ≤ v .nodes → v .us n ≡ 1 → order b (v .tick n) ≡ key v n
-  order-of n n≥ n≤ nu = rw (ap (λ (x : Line). x .due) (R .kept n n≥ n≤ nu)) (sym (rank-entry (v .nodes) (v .due) (v .tick) n n≥ n≤))
+  order-of n n≥ n≤ nu = rw (ap (λ (x : BookEntry). x .due) (R .kept n n≥ n≤ nu)) (sym (rank-entry (v .nodes) (v .due) (v .tick) n n≥ n≤))
 
   small : b .count < ever
   small = omega (arith, R .count, I .core .clock)
@@ -167,14 +167,14 @@ gives-true : (b : Book) (e : Entry) (t : ℕ) → e .due ≡ b .entry t .due →
 gives-true b e t d i k = rw (eq-eqb (e .due) (b .entry t .due) d, eq-eqb (e .item) (b .entry t .item) i, eq-eqb (e .ticket) t k)
 
 -- one entry's line and one node's mark, stamp or use change together
-module _ (v : View) (u : ℕ → ℕ → ℕ) (I : Inv v u) (b : Book) (R : Rel v b) (p : ℕ) (c : Pr) (mk st us : ℕ → ℕ) (o : ℕ) (l : Line) (op : Open)
+module _ (v : View) (u : ℕ → ℕ → ℕ) (I : Inv v u) (b : Book) (R : Rel v b) (p : ℕ) (c : Pr) (mk st us : ℕ → ℕ) (o : ℕ) (l : BookEntry) (op : Open)
     (o≥ : 1 ≤ o) (o≤ : o ≤ v .nodes) (used : 1 ≤ v .us o) (F : Filed (b .entry) (v .tick) (v .due) (v .item) o)
     (mk-same : (n : ℕ) → (n ≡ o → ⊥) → mk n ≡ v .mk n) (st-same : (n : ℕ) → (n ≡ o → ⊥) → st n ≡ v .st n) (us-same : (n : ℕ) → (n ≡ o → ⊥) → us n ≡ v .us n)
     (l-written : l .written ≡ b .entry (v .tick o) .written) (l-due : l .due ≡ b .entry (v .tick o) .due) (l-item : l .item ≡ b .entry (v .tick o) .item)
     (kept-o : us o ≡ 1 → l ≡ lineOf (v .due) (v .item) st mk o) (found-o : l .marked ≡ false → Found us (v .tick) (v .nodes) (v .tick o))
     (opened-p : op ≡ opens (c .stage) (c .begin) (v .tick (c .own)))
     (not-insert : info (v .ht (c .own)) (c .stage) .kind ≡ 1 → ⊥) where
-  rel-line : Rel (ticked (withStatus v mk st us) p c) (turned b (upd (b .entry) (v .tick o) l) p op)
+  rel-line : Rel (ticked (withStatus v mk st us) p c) (afterCall b (changedAt (b .entry) (v .tick o) l) p op)
   rel-line = record {
     count = omega (arith, R .count);
     opened = λ q. opened q (ℕ-discrete q p);
@@ -184,61 +184,61 @@ module _ (v : View) (u : ℕ → ℕ → ℕ) (I : Inv v u) (b : Book) (R : Rel 
     late = λ t. late t (ℕ-discrete t (v .tick o));
   }
     where
-      opened : (q : ℕ) → Dec (q ≡ p) → upd (b .opened) p op q ≡ opens (upd (v .pr) p c q .stage)
-          (upd (v .pr) p c q .begin) (v .tick (upd (v .pr) p c q .own))
-      opened q (yes e) = rw (e, upd-same (v .pr) p c, upd-same (b .opened) p op) opened-p
-      opened q (no d) = rw (upd-other (v .pr) p c q d, upd-other (b .opened) p op q d) (R .opened q)
+      opened : (q : ℕ) → Dec (q ≡ p) → changedAt (b .opened) p op q ≡ opens (changedAt (v .pr) p c q .stage)
+          (changedAt (v .pr) p c q .begin) (v .tick (changedAt (v .pr) p c q .own))
+      opened q (yes e) = rw (e, changed-same (v .pr) p c, changed-same (b .opened) p op) opened-p
+      opened q (no d) = rw (changed-other (v .pr) p c q d, changed-other (b .opened) p op q d) (R .opened q)
 
-      kept : (n : ℕ) → Dec (n ≡ o) → 1 ≤ n → n ≤ v .nodes → us n ≡ 1 → upd (b .entry) (v .tick o) l (v .tick n) ≡ lineOf (v .due) (v .item) st mk n
-      kept n (yes e) = rw e λ n≥ n≤ nu. upd-same (b .entry) (v .tick o) l ∙ kept-o nu
+      kept : (n : ℕ) → Dec (n ≡ o) → 1 ≤ n → n ≤ v .nodes → us n ≡ 1 → changedAt (b .entry) (v .tick o) l (v .tick n) ≡ lineOf (v .due) (v .item) st mk n
+      kept n (yes e) = rw e λ n≥ n≤ nu. changed-same (b .entry) (v .tick o) l ∙ kept-o nu
       kept n (no d) = rw (us-same n d, st-same n d, mk-same n d) λ n≥ n≤ nu.
-          upd-other (b .entry) (v .tick o) l (v .tick n) (λ e. d (ticket-apart v u I b R n o n≥ n≤ o≥ o≤ nu used (F .due) e)) ∙ R .kept n n≥ n≤ nu
+          changed-other (b .entry) (v .tick o) l (v .tick n) (λ e. d (ticket-apart v u I b R n o n≥ n≤ o≥ o≤ nu used (F .due) e)) ∙ R .kept n n≥ n≤ nu
 
-      found : (t : ℕ) → Dec (t ≡ v .tick o) → upd (b .entry) (v .tick o) l t .written ≡ true → upd (b .entry) (v .tick o) l t .marked ≡ false → Found us (v .tick) (v .nodes) t
-      found t (yes e) = rw (e, upd-same (b .entry) (v .tick o) l) λ w m. found-o m
-      found t (no d) = rw (upd-other (b .entry) (v .tick o) l t d) λ w m.
+      found : (t : ℕ) → Dec (t ≡ v .tick o) → changedAt (b .entry) (v .tick o) l t .written ≡ true → changedAt (b .entry) (v .tick o) l t .marked ≡ false → Found us (v .tick) (v .nodes) t
+      found t (yes e) = rw (e, changed-same (b .entry) (v .tick o) l) λ w m. found-o m
+      found t (no d) = rw (changed-other (b .entry) (v .tick o) l t d) λ w m.
           let G = R .found t w m in
           record { node = G .node; low = G .low; high = G .high; used = rw (us-same (G .node) (λ e. d (sym (G .ticket) ∙ ap (v .tick) e))) (G .used); ticket = G .ticket }
 
-      same-line : (P : Line → Type 0) (t : ℕ) → Dec (t ≡ v .tick o) → (P (b .entry (v .tick o)) → P l) → P (b .entry t) → P (upd (b .entry) (v .tick o) l t)
-      same-line P t (yes e) h = rw (e, upd-same (b .entry) (v .tick o) l) h
-      same-line P t (no d) h = rw (upd-other (b .entry) (v .tick o) l t d) λ x. x
+      same-line : (P : BookEntry → Type 0) (t : ℕ) → Dec (t ≡ v .tick o) → (P (b .entry (v .tick o)) → P l) → P (b .entry t) → P (changedAt (b .entry) (v .tick o) l t)
+      same-line P t (yes e) h = rw (e, changed-same (b .entry) (v .tick o) l) h
+      same-line P t (no d) h = rw (changed-other (b .entry) (v .tick o) l t d) λ x. x
 
-      filed : (q : ℕ) → Dec (q ≡ p) → info (v .ht (upd (v .pr) p c q .own)) (upd (v .pr) p c q .stage) .kind ≡ 1 → Filed (upd (b .entry) (v .tick o) l) (v .tick) (v .due) (v .item) (upd (v .pr) p c q .own)
-      filed q (yes e) = rw (e, upd-same (v .pr) p c) λ k. absurd (not-insert k)
-      filed q (no d) = rw (upd-other (v .pr) p c q d) λ k.
+      filed : (q : ℕ) → Dec (q ≡ p) → info (v .ht (changedAt (v .pr) p c q .own)) (changedAt (v .pr) p c q .stage) .kind ≡ 1 → Filed (changedAt (b .entry) (v .tick o) l) (v .tick) (v .due) (v .item) (changedAt (v .pr) p c q .own)
+      filed q (yes e) = rw (e, changed-same (v .pr) p c) λ k. absurd (not-insert k)
+      filed q (no d) = rw (changed-other (v .pr) p c q d) λ k.
           let G = R .filed q k in
           let t = ℕ-discrete (v .tick (v .pr q .own)) (v .tick o) in
           record {
-            written = same-line (λ (x : Line). x .written ≡ true) _ t (λ y. l-written ∙ y) (G .written);
-            due = same-line (λ (x : Line). x .due ≡ v .due (v .pr q .own)) _ t (λ y. l-due ∙ y) (G .due);
-            item = same-line (λ (x : Line). x .item ≡ v .item (v .pr q .own)) _ t (λ y. l-item ∙ y) (G .item);
+            written = same-line (λ (x : BookEntry). x .written ≡ true) _ t (λ y. l-written ∙ y) (G .written);
+            due = same-line (λ (x : BookEntry). x .due ≡ v .due (v .pr q .own)) _ t (λ y. l-due ∙ y) (G .due);
+            item = same-line (λ (x : BookEntry). x .item ≡ v .item (v .pr q .own)) _ t (λ y. l-item ∙ y) (G .item);
           }
 
       late :
-          (t : ℕ) → Dec (t ≡ v .tick o) → upd (b .entry) (v .tick o) l t .written ≡ true →
+          (t : ℕ) → Dec (t ≡ v .tick o) → changedAt (b .entry) (v .tick o) l t .written ≡ true →
           (1 ≤ t) × (t ≤ b .count + 1)
       late t (yes e) = rw e λ w. still-past (R .late (v .tick o) (F .written))
-      late t (no d) = rw (upd-other (b .entry) (v .tick o) l t d) λ w. still-past (R .late t w)
+      late t (no d) = rw (changed-other (b .entry) (v .tick o) l t d) λ w. still-past (R .late t w)
 
 -- what one processor has open changes, and no entry
 pub rel-open : (v : View) (b : Book) (R : Rel v b) (p : ℕ) (c : Pr) (op : Open) →
     op ≡ opens (c .stage) (c .begin) (v .tick (c .own)) →
-    (info (v .ht (c .own)) (c .stage) .kind ≡ 1 → ⊥) → Rel (ticked v p c) (turned b (b .entry) p op)
+    (info (v .ht (c .own)) (c .stage) .kind ≡ 1 → ⊥) → Rel (ticked v p c) (afterCall b (b .entry) p op)
 rel-open v b R p c op e not-insert = record { count = omega (arith, R .count); opened = λ q. opened q (ℕ-discrete q p); kept = R .kept; found = R .found; filed = λ q. filed q (ℕ-discrete q p); late = λ t w. still-past (R .late t w) }
   where
-    filed : (q : ℕ) → Dec (q ≡ p) → claim (ticked v p c) q .kind ≡ 1 → Filed (b .entry) (v .tick) (v .due) (v .item) (upd (v .pr) p c q .own)
-    filed q (yes f) = rw (f, upd-same (v .pr) p c) λ k. absurd (not-insert k)
-    filed q (no d) = rw (upd-other (v .pr) p c q d) (R .filed q)
+    filed : (q : ℕ) → Dec (q ≡ p) → claim (ticked v p c) q .kind ≡ 1 → Filed (b .entry) (v .tick) (v .due) (v .item) (changedAt (v .pr) p c q .own)
+    filed q (yes f) = rw (f, changed-same (v .pr) p c) λ k. absurd (not-insert k)
+    filed q (no d) = rw (changed-other (v .pr) p c q d) (R .filed q)
 
-    opened : (q : ℕ) → Dec (q ≡ p) → upd (b .opened) p op q ≡ opens (upd (v .pr) p c q .stage)
-        (upd (v .pr) p c q .begin) (v .tick (upd (v .pr) p c q .own))
-    opened q (yes f) = rw (f, upd-same (v .pr) p c, upd-same (b .opened) p op) e
-    opened q (no d) = rw (upd-other (v .pr) p c q d, upd-other (b .opened) p op q d) (R .opened q)
+    opened : (q : ℕ) → Dec (q ≡ p) → changedAt (b .opened) p op q ≡ opens (changedAt (v .pr) p c q .stage)
+        (changedAt (v .pr) p c q .begin) (v .tick (changedAt (v .pr) p c q .own))
+    opened q (yes f) = rw (f, changed-same (v .pr) p c, changed-same (b .opened) p op) e
+    opened q (no d) = rw (changed-other (v .pr) p c q d, changed-other (b .opened) p op q d) (R .opened q)
 
 -- what the book has of a node in use
 in-use-filed : (v : View) (b : Book) (R : Rel v b) (n : ℕ) → 1 ≤ n → n ≤ v .nodes → v .us n ≡ 1 → Filed (b .entry) (v .tick) (v .due) (v .item) n
-in-use-filed v b R n n≥ n≤ nu = let l = R .kept n n≥ n≤ nu in record { written = ap (λ (x : Line). x .written) l; due = ap (λ (x : Line). x .due) l; item = ap (λ (x : Line). x .item) l }
+in-use-filed v b R n n≥ n≤ nu = let l = R .kept n n≥ n≤ nu in record { written = ap (λ (x : BookEntry). x .written) l; due = ap (λ (x : BookEntry). x .due) l; item = ap (λ (x : BookEntry). x .item) l }
 
 module _ (v : View) (u : ℕ → ℕ → ℕ) (I : Inv v u) (H : NodeHeld v) (room : v .clock + 1 < ever) (b : Book) (R : Rel v b) (p : ℕ) where
   open-at : (s : Stage) → v .pr p .stage ≡ s →
@@ -254,12 +254,12 @@ module _ (v : View) (u : ℕ → ℕ → ℕ) (I : Inv v u) (H : NodeHeld v) (ro
       let F = R .filed p (kind-at v u I p s e) in
       let same = gives-true b (entryAt v o) (v .tick o) (sym (F .due)) (sym (F .item)) refl in
       record {
-        after = turned b (upd (b .entry) (v .tick o) (withAnswer (b .entry (v .tick o)) (b .count + 1))) p nothing;
+        after = afterCall b (changedAt (b .entry) (v .tick o) (withAnswer (b .entry (v .tick o)) (b .count + 1))) p nothing;
         fed = rw (open-at s e, same);
-        rel = rel-line v u I b R p (idle (v .top) (v .pr p)) (v .mk) (upd (v .st) o (v .clock + 1)) (v .us) o
-            (withAnswer (b .entry (v .tick o)) (b .count + 1)) nothing (S .low) (S .high) (insert-used S (ℕ-discrete (v .us o) 1)) F (λ n d. refl) (λ n d. upd-other (v .st) o (v .clock + 1) n d) (λ n d. refl)
+        rel = rel-line v u I b R p (idle (v .top) (v .pr p)) (v .mk) (changedAt (v .st) o (v .clock + 1)) (v .us) o
+            (withAnswer (b .entry (v .tick o)) (b .count + 1)) nothing (S .low) (S .high) (insert-used S (ℕ-discrete (v .us o) 1)) F (λ n d. refl) (λ n d. changed-other (v .st) o (v .clock + 1) n d) (λ n d. refl)
             refl refl refl
-            (λ nu. rw (R .kept o (S .low) (S .high) nu, R .count, upd-same (v .st) o (v .clock + 1))) (λ m. R .found (v .tick o) (F .written) m) refl (λ k. omega arith);
+            (λ nu. rw (R .kept o (S .low) (S .high) nu, R .count, changed-same (v .st) o (v .clock + 1))) (λ m. R .found (v .tick o) (F .written) m) refl (λ k. omega arith);
       }
     where
       insert-used : {n T own lo hn : ℕ} → Inserts u (v .us) (v .st) (v .tick) n T own lo hn → Dec (v .us own ≡ 1) → 1 ≤ v .us own
@@ -274,29 +274,29 @@ module _ (v : View) (u : ℕ → ℕ → ℕ) (I : Inv v u) (H : NodeHeld v) (ro
       let l = R .kept o (S .low) (S .high) (S .used) in
       let F = in-use-filed v b R o (S .low) (S .high) (S .used) in
       let same = gives-true b (entryAt v o) (v .tick o) (sym (F .due)) (sym (F .item)) refl in
-      let marked : b .entry (v .tick o) .marked ≡ true = ap (λ (x : Line). x .marked) l ∙ lt-ltb 0 (v .mk o) (S .marked) in
-      go job e same (ap (λ (x : Line). x .handedOut) l)
+      let marked : b .entry (v .tick o) .marked ≡ true = ap (λ (x : BookEntry). x .marked) l ∙ lt-ltb 0 (v .mk o) (S .marked) in
+      go job e same (ap (λ (x : BookEntry). x .handedOut) l)
       (λ x h d i m. rel-line v u I b R p (idle (v .top) (v .pr p)) (v .mk) (v .st)
-      (upd (v .us) o (v .clock + 1 + 2)) o
+      (changedAt (v .us) o (v .clock + 1 + 2)) o
       x nothing (S .low) (S .high) (omega (arith, S .used)) F (λ n d. refl) (λ n d. refl)
-      (λ n d. upd-other (v .us) o (v .clock + 1 + 2) n d)
-      h d i (λ nu. absurd (omega (arith, upd-same (v .us) o (v .clock + 1 + 2))))
+      (λ n d. changed-other (v .us) o (v .clock + 1 + 2) n d)
+      h d i (λ nu. absurd (omega (arith, changed-same (v .us) o (v .clock + 1 + 2))))
       (λ n. absurd (true≢false (sym marked ∙ sym m ∙ n))) refl (λ k. omega arith))
     where
       go : (job : Job) → v .pr p .stage ≡ stage.Removal job rem.Retire →
           gives b (entryAt v (v .pr p .own)) (v .tick (v .pr p .own)) ≡ true →
           b .entry (v .tick (v .pr p .own)) .handedOut ≡ false →
-          ((x : Line) → x .written ≡ b .entry (v .tick (v .pr p .own)) .written →
+          ((x : BookEntry) → x .written ≡ b .entry (v .tick (v .pr p .own)) .written →
           x .due ≡ b .entry (v .tick (v .pr p .own)) .due →
           x .item ≡ b .entry (v .tick (v .pr p .own)) .item →
           x .marked ≡ b .entry (v .tick (v .pr p .own)) .marked →
-          Rel (ticked (withStatus v (v .mk) (v .st) (upd (v .us) (v .pr p .own) (v .clock + 1 + 2)))
+          Rel (ticked (withStatus v (v .mk) (v .st) (changedAt (v .us) (v .pr p .own) (v .clock + 1 + 2)))
           p (idle (v .top) (v .pr p)))
-          (turned b (upd (b .entry) (v .tick (v .pr p .own)) x) p nothing)) →
+          (afterCall b (changedAt (b .entry) (v .tick (v .pr p .own)) x) p nothing)) →
           Booked v p b (decision v p (stage.Removal job rem.Retire))
       go jobs.Deliver e same out rel = record {
-        after = turned b
-            (upd (b .entry) (v .tick (v .pr p .own))
+        after = afterCall b
+            (changedAt (b .entry) (v .tick (v .pr p .own))
             (withHandOut (b .entry (v .tick (v .pr p .own))))) p nothing;
         fed = rw (open-at (stage.Removal jobs.Deliver rem.Retire) e, same, out);
         rel = rel (withHandOut (b .entry (v .tick (v .pr p .own)))) refl refl refl refl;
@@ -309,59 +309,59 @@ module _ (v : View) (u : ℕ → ℕ → ℕ) (I : Inv v u) (H : NodeHeld v) (ro
 
   -- EMPTY of a walk
   nothing-left : (s : Stage) → v .pr p .stage ≡ s →
-      (a : Place) → info (v .ht (v .pr p .own)) s ≡ walking 2 0 a → v .fwd (a .node) 1 ≡ tail v →
+      (a : Place) → info (v .ht (v .pr p .own)) s ≡ walkInfo 2 0 a → v .fwd (a .node) 1 ≡ tail v →
       pick b (v .pr p .begin) ≡ 0
   nothing-left s e a is t =
       pick-none v u I b R (v .pr p .begin)
       (λ n L. empty-right v u I room p s e 2 0 a is H refl t n L)
 
-  empty-booked : (a : Place) → v .pr p .stage ≡ stage.Delete (del.Next a) → Booked v p b (decision v p (stage.Delete (del.Next a)))
+  empty-booked : (a : Place) → v .pr p .stage ≡ stage.Delete (del.ReadNext a) → Booked v p b (decision v p (stage.Delete (del.ReadNext a)))
   empty-booked a e = go (eqb (v .fwd (a .node) 1) (tail v)) refl
     where
-      go : (t : Bool) → eqb (v .fwd (a .node) 1) (tail v) ≡ t → Booked v p b (decision v p (stage.Delete (del.Next a)))
+      go : (t : Bool) → eqb (v .fwd (a .node) 1) (tail v) ≡ t → Booked v p b (decision v p (stage.Delete (del.ReadNext a)))
       go true x = rw x (record {
-        after = turned b (b .entry) p nothing;
+        after = afterCall b (b .entry) p nothing;
         fed = rw (
-          open-at (stage.Delete (del.Next a)) e,
+          open-at (stage.Delete (del.ReadNext a)) e,
           eq-eqb (pick b (v .pr p .begin)) 0
-              (nothing-left (stage.Delete (del.Next a)) e a refl (eqb-true _ _ x)),
+              (nothing-left (stage.Delete (del.ReadNext a)) e a refl (eqb-true _ _ x)),
         );
         rel = rel-open v b R p (idle (v .top) (v .pr p)) nothing refl (λ k. omega arith);
       })
-      go false x = rw x (quiet-step (stage.Delete (del.Next a)) e (omega arith) _ (record { answer = tt; effect = tt; own-same = refl; begin-same = λ t b. refl; kind-same = λ h. refl; opens-same = λ t b. refl }))
+      go false x = rw x (quiet-step (stage.Delete (del.ReadNext a)) e (omega arith) _ (record { answer = tt; effect = tt; own-same = refl; begin-same = λ t b. refl; kind-same = λ h. refl; opens-same = λ t b. refl }))
 
   -- the mark of a node in use, in the book
   rel-mark : (job : Job) (n : ℕ) → 1 ≤ n → n ≤ v .nodes → v .us n ≡ 1 →
-      Rel (ticked (withStatus v (upd (v .mk) n 1) (v .st) (v .us)) p (record { begin = v .pr p .begin; own = n; stage = stage.Removal job (rem.Search (place 0 (v .top))); saved = v .pr p .saved }))
-      (turned b (upd (b .entry) (v .tick n) (withMark (b .entry (v .tick n)))) p
+      Rel (ticked (withStatus v (changedAt (v .mk) n 1) (v .st) (v .us)) p (record { begin = v .pr p .begin; own = n; stage = stage.Removal job (rem.Search (place 0 (v .top))); saved = v .pr p .saved }))
+      (afterCall b (changedAt (b .entry) (v .tick n) (withMarked (b .entry (v .tick n)))) p
       (opens (stage.Removal job (rem.Search (place 0 (v .top)))) (v .pr p .begin) (v .tick n)))
   rel-mark job n low high used =
       let l = R .kept n low high used in
-      rel-line v u I b R p (record { begin = v .pr p .begin; own = n; stage = stage.Removal job (rem.Search (place 0 (v .top))); saved = v .pr p .saved }) (upd (v .mk) n 1) (v .st) (v .us) n
-      (withMark (b .entry (v .tick n))) _ low high (omega (arith, used))
-      (in-use-filed v b R n low high used) (λ m d. upd-other (v .mk) n 1 m d) (λ m d. refl)
+      rel-line v u I b R p (record { begin = v .pr p .begin; own = n; stage = stage.Removal job (rem.Search (place 0 (v .top))); saved = v .pr p .saved }) (changedAt (v .mk) n 1) (v .st) (v .us) n
+      (withMarked (b .entry (v .tick n))) _ low high (omega (arith, used))
+      (in-use-filed v b R n low high used) (λ m d. changed-other (v .mk) n 1 m d) (λ m d. refl)
       (λ m d. refl)
-      refl refl refl (λ nu. rw (l, upd-same (v .mk) n 1)) (λ m. absurd (true≢false m)) refl
+      refl refl refl (λ nu. rw (l, changed-same (v .mk) n 1)) (λ m. absurd (true≢false m)) refl
       (λ k. omega arith)
 
-  mark-booked : (a : Place) → v .pr p .stage ≡ stage.Delete (del.Mark a) → Booked v p b (decision v p (stage.Delete (del.Mark a)))
+  mark-booked : (a : Place) → v .pr p .stage ≡ stage.Delete (del.SetMark a) → Booked v p b (decision v p (stage.Delete (del.SetMark a)))
   mark-booked a e = go (ltb 0 (v .mk (a .node))) refl
     where
-      go : (t : Bool) → ltb 0 (v .mk (a .node)) ≡ t → Booked v p b (decision v p (stage.Delete (del.Mark a)))
-      go true x = rw x (quiet-step (stage.Delete (del.Mark a)) e (omega arith) _ (record { answer = tt; effect = tt; own-same = refl; begin-same = λ t b. refl; kind-same = λ h. refl; opens-same = λ t b. refl }))
+      go : (t : Bool) → ltb 0 (v .mk (a .node)) ≡ t → Booked v p b (decision v p (stage.Delete (del.SetMark a)))
+      go true x = rw x (quiet-step (stage.Delete (del.SetMark a)) e (omega arith) _ (record { answer = tt; effect = tt; own-same = refl; begin-same = λ t b. refl; kind-same = λ h. refl; opens-same = λ t b. refl }))
       go false x =
-          let s = stage.Delete (del.Mark a) in
+          let s = stage.Delete (del.SetMark a) in
           let n = a .node in
           let L = mark-able v u I room p s e 1 2 a refl refl
           (omega (arith, ltb-false 0 (v .mk (a .node)) x)) in
           let l = R .kept n (L .low) (L .high) (L .used) in
           let is = pick-is v u I b R (v .pr p .begin) n L
           (mark-first v u I room p s e 1 2 a refl (omega arith)) in
-          let same = gives-true b (entryAt v n) (v .tick n) (sym (ap (λ (x : Line). x .due) l)) (sym (ap (λ (x : Line). x .item) l)) refl in
-          let late = R .late (v .tick n) (ap (λ (x : Line). x .written) l) in
+          let same = gives-true b (entryAt v n) (v .tick n) (sym (ap (λ (x : BookEntry). x .due) l)) (sym (ap (λ (x : BookEntry). x .item) l)) refl in
+          let late = R .late (v .tick n) (ap (λ (x : BookEntry). x .written) l) in
           let pos = lt-ltb 0 (v .tick n) (late .0) in
           rw x (record {
-            after = turned b (upd (b .entry) (v .tick n) (withMark (b .entry (v .tick n)))) p (delivering (v .tick n));
+            after = afterCall b (changedAt (b .entry) (v .tick n) (withMarked (b .entry (v .tick n)))) p (unlinking (v .tick n));
             fed = rw (open-at s e, is, pos, same);
             rel = rel-mark jobs.Deliver n (L .low) (L .high) (L .used);
           })
@@ -370,34 +370,34 @@ module _ (v : View) (u : ℕ → ℕ → ℕ) (I : Inv v u) (H : NodeHeld v) (ro
   booked stage.Idle e k = absurd (omega arith)
   booked (stage.Insert (ins.Search a)) e k =
       quiet-step (stage.Insert (ins.Search a)) e k _
-      (quiet-insert-searched (sight v (v .pr p) (key v (v .pr p .own)) a) a
-      (searchStep (sight v (v .pr p) (key v (v .pr p .own)) a) a))
+      (quiet-insert-searched (view v (v .pr p) (key v (v .pr p .own)) a) a
+      (searchStep (view v (v .pr p) (key v (v .pr p .own)) a) a))
   booked (stage.Insert (ins.Seek j)) e k =
       quiet-step (stage.Insert (ins.Seek j)) e k _
-      (quiet-insert-sought (sight v (v .pr p) (key v (v .pr p .own)) (seekPart j .place)) j
-      (seekStep (sight v (v .pr p) (key v (v .pr p .own)) (seekPart j .place)) j)
-      (seek-quiet (sight v (v .pr p) (key v (v .pr p .own)) (seekPart j .place)) j))
+      (quiet-insert-sought (view v (v .pr p) (key v (v .pr p .own)) (seekPart j .place)) j
+      (seekStep (view v (v .pr p) (key v (v .pr p .own)) (seekPart j .place)) j)
+      (seek-quiet (view v (v .pr p) (key v (v .pr p .own)) (seekPart j .place)) j))
   booked (stage.Insert (ins.Copy a)) e k = quiet-step (stage.Insert (ins.Copy a)) e k _ (record { answer = tt; effect = tt; own-same = refl; begin-same = λ t b. refl; kind-same = λ h. refl; opens-same = λ t b. refl })
   booked (stage.Insert (ins.Link a)) e k = quiet-step (stage.Insert (ins.Link a)) e k _ (record { answer = tt; effect = tt; own-same = refl; begin-same = λ t b. refl; kind-same = λ h. refl; opens-same = λ t b. refl })
   booked (stage.Insert (ins.FreeLevel a)) e k = quiet-step (stage.Insert (ins.FreeLevel a)) e k _ (cond-elim (Quiet (v .pr p .own) (stage.Insert (ins.FreeLevel a))) (ltb (a .level) (v .ht (v .pr p .own))) _ _ (record { answer = tt; effect = tt; own-same = refl; begin-same = λ t b. refl; kind-same = λ h. refl; opens-same = λ t b. refl }) (record { answer = tt; effect = tt; own-same = refl; begin-same = λ t b. refl; kind-same = λ h. refl; opens-same = λ t b. refl }))
   booked (stage.Insert ins.FreeNode) e k = quiet-step (stage.Insert ins.FreeNode) e k _ (record { answer = tt; effect = tt; own-same = refl; begin-same = λ t b. refl; kind-same = λ h. refl; opens-same = λ t b. refl })
   booked (stage.Insert ins.Stamp) e k = stamp-booked e
-  booked (stage.Delete (del.Next a)) e k = empty-booked a e
-  booked (stage.Delete (del.Stamped a)) e k = quiet-step (stage.Delete (del.Stamped a)) e k _ (cond-elim (Quiet (v .pr p .own) (stage.Delete (del.Stamped a))) (ltb (v .st (a .node)) (v .pr p .begin)) _ _ (record { answer = tt; effect = tt; own-same = refl; begin-same = λ t b. refl; kind-same = λ h. refl; opens-same = λ t b. refl }) (record { answer = tt; effect = tt; own-same = refl; begin-same = λ t b. refl; kind-same = λ h. refl; opens-same = λ t b. refl }))
-  booked (stage.Delete (del.Mark a)) e k = mark-booked a e
+  booked (stage.Delete (del.ReadNext a)) e k = empty-booked a e
+  booked (stage.Delete (del.TestStamp a)) e k = quiet-step (stage.Delete (del.TestStamp a)) e k _ (cond-elim (Quiet (v .pr p .own) (stage.Delete (del.TestStamp a))) (ltb (v .st (a .node)) (v .pr p .begin)) _ _ (record { answer = tt; effect = tt; own-same = refl; begin-same = λ t b. refl; kind-same = λ h. refl; opens-same = λ t b. refl }) (record { answer = tt; effect = tt; own-same = refl; begin-same = λ t b. refl; kind-same = λ h. refl; opens-same = λ t b. refl }))
+  booked (stage.Delete (del.SetMark a)) e k = mark-booked a e
   booked (stage.Removal job (rem.Search a)) e k =
       quiet-step (stage.Removal job (rem.Search a)) e k _
-      (quiet-delete-searched job (sight v (v .pr p) (key v (v .pr p .own)) a) a
-      (searchStep (sight v (v .pr p) (key v (v .pr p .own)) a) a))
+      (quiet-delete-searched job (view v (v .pr p) (key v (v .pr p .own)) a) a
+      (searchStep (view v (v .pr p) (key v (v .pr p .own)) a) a))
   booked (stage.Removal job rem.HoldNode) e k = quiet-step (stage.Removal job rem.HoldNode) e k _ (cond-elim (Quiet (v .pr p .own) (stage.Removal job rem.HoldNode)) (eqb (v .nl (v .pr p .own)) 0) _ _ (record { answer = tt; effect = tt; own-same = refl; begin-same = λ t b. refl; kind-same = λ h. refl; opens-same = λ t b. refl }) (record { answer = tt; effect = tt; own-same = refl; begin-same = λ t b. refl; kind-same = λ h. refl; opens-same = λ t b. refl }))
   booked (stage.Removal job (rem.Seek j)) e k =
       quiet-step (stage.Removal job (rem.Seek j)) e k _
-      (quiet-delete-sought job (sight v (v .pr p) (key v (v .pr p .own)) (seekPart j .place)) j
-      (seekStep (sight v (v .pr p) (key v (v .pr p .own)) (seekPart j .place)) j)
-      (seek-quiet (sight v (v .pr p) (key v (v .pr p .own)) (seekPart j .place)) j))
+      (quiet-delete-sought job (view v (v .pr p) (key v (v .pr p .own)) (seekPart j .place)) j
+      (seekStep (view v (v .pr p) (key v (v .pr p .own)) (seekPart j .place)) j)
+      (seek-quiet (view v (v .pr p) (key v (v .pr p .own)) (seekPart j .place)) j))
   booked (stage.Removal job (rem.HoldOwn a)) e k = quiet-step (stage.Removal job (rem.HoldOwn a)) e k _ (cond-elim (Quiet (v .pr p .own) (stage.Removal job (rem.HoldOwn a))) (eqb (v .lk (v .pr p .own) (a .level)) 0) _ _ (record { answer = tt; effect = tt; own-same = refl; begin-same = λ t b. refl; kind-same = λ h. refl; opens-same = λ t b. refl }) (record { answer = tt; effect = tt; own-same = refl; begin-same = λ t b. refl; kind-same = λ h. refl; opens-same = λ t b. refl }))
   booked (stage.Removal job (rem.Unlink a)) e k = quiet-step (stage.Removal job (rem.Unlink a)) e k _ (record { answer = tt; effect = tt; own-same = refl; begin-same = λ t b. refl; kind-same = λ h. refl; opens-same = λ t b. refl })
-  booked (stage.Removal job (rem.Back a)) e k = quiet-step (stage.Removal job (rem.Back a)) e k _ (record { answer = tt; effect = tt; own-same = refl; begin-same = λ t b. refl; kind-same = λ h. refl; opens-same = λ t b. refl })
+  booked (stage.Removal job (rem.LeadBack a)) e k = quiet-step (stage.Removal job (rem.LeadBack a)) e k _ (record { answer = tt; effect = tt; own-same = refl; begin-same = λ t b. refl; kind-same = λ h. refl; opens-same = λ t b. refl })
   booked (stage.Removal job (rem.FreeOwn a)) e k = quiet-step (stage.Removal job (rem.FreeOwn a)) e k _ (record { answer = tt; effect = tt; own-same = refl; begin-same = λ t b. refl; kind-same = λ h. refl; opens-same = λ t b. refl })
   booked (stage.Removal job (rem.FreeLevel a)) e k = quiet-step (stage.Removal job (rem.FreeLevel a)) e k _ (cond-elim (Quiet (v .pr p .own) (stage.Removal job (rem.FreeLevel a))) (leb (a .level) 1) _ _ (record { answer = tt; effect = tt; own-same = refl; begin-same = λ t b. refl; kind-same = λ h. refl; opens-same = λ t b. refl }) (record { answer = tt; effect = tt; own-same = refl; begin-same = λ t b. refl; kind-same = λ h. refl; opens-same = λ t b. refl }))
   booked (stage.Removal job rem.FreeNode) e k = quiet-step (stage.Removal job rem.FreeNode) e k _ (record { answer = tt; effect = tt; own-same = refl; begin-same = λ t b. refl; kind-same = λ h. refl; opens-same = λ t b. refl })

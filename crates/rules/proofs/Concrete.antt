@@ -18,12 +18,12 @@ use Rattle.record.specs.declared.nodes.Use.{Use}
 use Rattle.record.specs.declared.nodes.Use.the-variants as use′
 use Rattle.record.specs.Keys.{keyBefore}
 use Rattle.record.specs.Queues.{nodeAt, processorAt}
-use Rattle.rules.specs.Calls.{keyFor, sightOf}
+use Rattle.rules.specs.Calls.{keyFor, stepViewOf}
 use Rattle.record.specs.Nodes.{stampedBefore, keyOf}
 use Rattle.record.specs.declared.stages.Place.{Place}
 use Rattle.rules.proofs.Put.{ever}
 use Rattle.rules.proofs.View.{Pr, View, rankFor, rank}
-use Rattle.rules.proofs.Machine.{sight}
+use Rattle.rules.proofs.Machine.{view}
 use Rattle.rules.proofs.Ranks.{Ranked, node-ranked, before-ranked, ranked-for, rank-at}
 
 abbrev pub levelOf : List ℕ → ℕ → ℕ
@@ -54,8 +54,8 @@ seenAs P N L t nd pr = record {
   top = L;
   clock = t;
   fwd = λ n. levelOf (nd n .forward);
-  lk = λ n. levelOf (nd n .locks);
-  nl = λ n. nd n .lock;
+  lk = λ n. levelOf (nd n .levelLocks);
+  nl = λ n. nd n .nodeLock;
   mk = λ n. markNumber (nd n .mark);
   st = λ n. stampNumber (nd n .stamp);
   us = λ n. useOf N n (nd n);
@@ -67,7 +67,7 @@ seenAs P N L t nd pr = record {
 }
 
 abbrev pub viewOf : Queue → View
-viewOf q = seenAs (q .processors) (q .entries) (q .levels) (q .clock) (nodeAt q) (λ p. prOf (processorAt q p))
+viewOf q = seenAs (q .processorCount) (q .nodeCount) (q .levelCount) (q .clock) (nodeAt q) (λ p. prOf (processorAt q p))
 
 pub level-pos : (l : List ℕ) (i : ℕ) → 1 ≤ i → getD l (i - 1) 0 ≡ levelOf l i
 level-pos l i i≥ = rw (ne-eqb i 0 (λ h. omega arith))
@@ -80,51 +80,51 @@ pub mark-test : (m : Bool) → m ≡ ltb 0 (markNumber m)
 mark-test true = refl
 mark-test false = refl
 
--- the sight of a step, read from the record and from the view
+-- the view of a step, read from the record and from the view
 module _ (q : Queue) (c : Processor) (a : Place) (a≥ : 1 ≤ a .level) (T≤ : c .begin ≤ ever)
-    (small : (n : ℕ) → n ≤ q .entries + 1 → (nodeAt q n .due ≤ 999999) × (nodeAt q n .ticket ≤ 999999))
-    (next≤ : levelOf (nodeAt q (a .node) .forward) (a .level) ≤ q .entries + 1) (own≤ : c .own ≤ q .entries + 1) where
+    (small : (n : ℕ) → n ≤ q .nodeCount + 1 → (nodeAt q n .due ≤ 999999) × (nodeAt q n .ticket ≤ 999999))
+    (next≤ : levelOf (nodeAt q (a .node) .forward) (a .level) ≤ q .nodeCount + 1) (own≤ : c .own ≤ q .nodeCount + 1) where
   abbrev v : View
   v = viewOf q
 
   next-same : getD (nodeAt q (a .node) .forward) (a .level - 1) 0 ≡ v .fwd (a .node) (a .level)
   next-same = level-pos (nodeAt q (a .node) .forward) (a .level) a≥
 
-  ranked : (y : ℕ) → y ≤ q .entries + 1 →
-      Ranked (keyOf (q .entries) y (nodeAt q y)) (rank (q .entries) (v .due) (v .tick) y)
+  ranked : (y : ℕ) → y ≤ q .nodeCount + 1 →
+      Ranked (keyOf (q .nodeCount) y (nodeAt q y)) (rank (q .nodeCount) (v .due) (v .tick) y)
   ranked y y≤ =
-      rw (rank-at (q .entries) (v .due) (v .tick) y)
-      (node-ranked (q .entries) y (nodeAt q y .due) (nodeAt q y .ticket) (small y y≤ .0)
+      rw (rank-at (q .nodeCount) (v .due) (v .tick) y)
+      (node-ranked (q .nodeCount) y (nodeAt q y .due) (nodeAt q y .ticket) (small y y≤ .0)
       (small y y≤ .1))
 
   abbrev goal : Key
-  goal = keyFor (c .stage) (keyOf (q .entries) (c .own) (nodeAt q (c .own)))
+  goal = keyFor (c .stage) (keyOf (q .nodeCount) (c .own) (nodeAt q (c .own)))
 
   abbrev goal-rank : ℕ
-  goal-rank = rankFor (c .stage) (rank (q .entries) (v .due) (v .tick) (c .own))
+  goal-rank = rankFor (c .stage) (rank (q .nodeCount) (v .due) (v .tick) (c .own))
 
   goal-ranked : Ranked goal goal-rank
   goal-ranked = ranked-for (c .stage) _ _ (ranked (c .own) own≤)
 
-  pub sight-same : sightOf q c a ≡ sight v (prOf c) goal-rank a
-  sight-same = λ i. record {
+  pub step-view-same : stepViewOf q c a ≡ view v (prOf c) goal-rank a
+  step-view-same = λ i. record {
     own = c .own;
     height = nodeAt q (c .own) .height;
-    holder = nodeAt q (c .own) .lock;
+    ownNodeLock = nodeAt q (c .own) .nodeLock;
     next = next-same i;
-    before = (ap (λ (y : ℕ). keyBefore (keyOf (q .entries) y (nodeAt q y)) goal) next-same
+    nextBeforeKey = (ap (λ (y : ℕ). keyBefore (keyOf (q .nodeCount) y (nodeAt q y)) goal) next-same
         ∙ before-ranked _ goal _ goal-rank (ranked (v .fwd (a .node) (a .level)) next≤) goal-ranked)
         i;
-    guard = level-pos (nodeAt q (a .node) .locks) (a .level) a≥ i;
-    onward = level-pos (nodeAt q (c .own) .forward) (a .level) a≥ i;
-    latch = level-pos (nodeAt q (c .own) .locks) (a .level) a≥ i;
-    tail = ap (λ (y : ℕ). eqb y (q .entries + 1)) next-same i;
-    levels = q .levels;
+    placeLock = level-pos (nodeAt q (a .node) .levelLocks) (a .level) a≥ i;
+    ownNext = level-pos (nodeAt q (c .own) .forward) (a .level) a≥ i;
+    ownLock = level-pos (nodeAt q (c .own) .levelLocks) (a .level) a≥ i;
+    nextIsTail = ap (λ (y : ℕ). eqb y (q .nodeCount + 1)) next-same i;
+    levelCount = q .levelCount;
     marked = mark-test (nodeAt q (a .node) .mark) i;
     stamped = stamp-before (nodeAt q (a .node) .stamp) (c .begin) T≤ i;
-    up = getD (c .saved) (a .level + 1 - 1) 0;
-    down = getD (c .saved) (a .level - 1 - 1) 0;
-    top = getD (c .saved) (nodeAt q (c .own) .height - 1) 0;
-    seen = record { due = nodeAt q (a .node) .due; item = nodeAt q (a .node) .item; ticket = nodeAt q (a .node) .ticket };
-    mine = record { due = nodeAt q (c .own) .due; item = nodeAt q (c .own) .item; ticket = nodeAt q (c .own) .ticket };
+    savedAbove = getD (c .saved) (a .level + 1 - 1) 0;
+    savedBelow = getD (c .saved) (a .level - 1 - 1) 0;
+    savedAtHeight = getD (c .saved) (nodeAt q (c .own) .height - 1) 0;
+    placeEntry = record { due = nodeAt q (a .node) .due; item = nodeAt q (a .node) .item; ticket = nodeAt q (a .node) .ticket };
+    ownEntry = record { due = nodeAt q (c .own) .due; item = nodeAt q (c .own) .item; ticket = nodeAt q (c .own) .ticket };
   }

@@ -22,20 +22,20 @@ use Rattle.record.specs.declared.stages.Stage.the-variants as stage
 use Rattle.rules.specs.declared.decisions.Effect.{Effect}
 use Rattle.rules.specs.declared.decisions.Effect.the-variants as eff
 use Rattle.rules.specs.declared.decisions.Decision.{Decision}
-use Rattle.rules.specs.declared.decisions.Sight.{Sight}
+use Rattle.rules.specs.declared.decisions.StepView.{StepView}
 use Rattle.rules.specs.declared.decisions.Searched.{Searched}
 use Rattle.rules.specs.declared.decisions.Searched.the-variants as srch
 use Rattle.rules.specs.declared.decisions.Sought.the-variants as sght
 use Rattle.record.specs.Stages.{place}
 use Rattle.rules.specs.Locks.{Lock, level, node}
 use Rattle.rules.specs.Decide.{insertSearched, insertSought, removalSearched, removalSought, seekStep, searchStep}
-use Rattle.laws.proofs.Updating.{upd-same, upd-other}
+use Rattle.laws.proofs.Updating.{changed-same, changed-other}
 use Rattle.rules.proofs.Put.{put, put-at, Where, here, away}
 use Rattle.laws.proofs.Booleans.{cond-elim}
 use Rattle.record.specs.Stages.{seekPart}
 use Rattle.rules.proofs.View.{Pr, View, Info, info, claim, key, tail}
 use Rattle.rules.proofs.Assemble.{ticked}
-use Rattle.rules.proofs.Machine.{effected, prAfter, carried, decision, sight, relevel}
+use Rattle.rules.proofs.Machine.{effected, prAfter, carried, decision, view, relevel}
 use Rattle.rules.proofs.Facts.{info-any}
 use Rattle.rules.proofs.Inv.{NodeHeld}
 use Rattle.rules.proofs.Rel.{pr-same}
@@ -58,7 +58,7 @@ abbrev pub Takes : Effect → Lock → Type 0
 Takes eff.Keep l = ⊥
 Takes (eff.HoldLevel a) l = l ≡ level (a .node) (a .level)
 Takes (eff.FreeLevel a) l = ⊥
-Takes (eff.Lead a x) l = ⊥
+Takes (eff.SetForward a x) l = ⊥
 Takes (eff.HoldNode x) l = l ≡ node x
 Takes (eff.FreeNode x) l = ⊥
 Takes (eff.Mark x) l = ⊥
@@ -70,7 +70,7 @@ abbrev pub Frees : Effect → Lock → Type 0
 Frees eff.Keep l = ⊥
 Frees (eff.HoldLevel a) l = ⊥
 Frees (eff.FreeLevel a) l = l ≡ level (a .node) (a .level)
-Frees (eff.Lead a x) l = ⊥
+Frees (eff.SetForward a x) l = ⊥
 Frees (eff.HoldNode x) l = ⊥
 Frees (eff.FreeNode x) l = l ≡ node x
 Frees (eff.Mark x) l = ⊥
@@ -104,20 +104,20 @@ then-of v (eff.FreeLevel a) p (level n i) = go (put-at (v .lk) (a .node) (a .lev
     go (here x y w) = free w
     go (away d w) = same w (λ f. d (cc) (cc))
 then-of v (eff.FreeLevel a) p (node n) = same refl (λ f. differ n (a .level) (a .node) f)
-then-of v (eff.Lead a x) p (level n i) = same refl (λ f. f)
-then-of v (eff.Lead a x) p (node n) = same refl (λ f. f)
+then-of v (eff.SetForward a x) p (level n i) = same refl (λ f. f)
+then-of v (eff.SetForward a x) p (node n) = same refl (λ f. f)
 then-of v (eff.HoldNode x) p (level n i) = same refl (λ f. f)
 then-of v (eff.HoldNode x) p (node n) = go (ℕ-discrete n x)
   where
     go : Dec (n ≡ x) → Then v (eff.HoldNode x) p (node n)
-    go (yes e) = taken (ap node e) (rw e (upd-same (v .nl) x (suc p)))
-    go (no d) = same (upd-other (v .nl) x (suc p) n d) (λ f. f)
+    go (yes e) = taken (ap node e) (rw e (changed-same (v .nl) x (suc p)))
+    go (no d) = same (changed-other (v .nl) x (suc p) n d) (λ f. f)
 then-of v (eff.FreeNode x) p (level n i) = same refl (λ f. differ′ n i x f)
 then-of v (eff.FreeNode x) p (node n) = go (ℕ-discrete n x)
   where
     go : Dec (n ≡ x) → Then v (eff.FreeNode x) p (node n)
-    go (yes e) = free (rw e (upd-same (v .nl) x 0))
-    go (no d) = same (upd-other (v .nl) x 0 n d) (λ f. d (cc))
+    go (yes e) = free (rw e (changed-same (v .nl) x 0))
+    go (no d) = same (changed-other (v .nl) x 0 n d) (λ f. d (cc))
 then-of v (eff.Mark x) p (level n i) = same refl (λ f. f)
 then-of v (eff.Mark x) p (node n) = same refl (λ f. f)
 then-of v (eff.Stamp x) p (level n i) = same refl (λ f. f)
@@ -127,17 +127,17 @@ then-of v (eff.Retire x) p (node n) = same refl (λ f. f)
 then-of v (eff.Fill x d j h) p (level n i) = go (ℕ-discrete n x) (ltb 0 i && leb i (v .top)) refl
   where
     level-of : relevel (v .lk) x (v .top) 0 x i ≡ cond (ltb 0 i && leb i (v .top)) 0 (v .lk x i)
-    level-of = ap (λ (f : ℕ → ℕ). f i) (upd-same (v .lk) x _)
+    level-of = ap (λ (f : ℕ → ℕ). f i) (changed-same (v .lk) x _)
 
     go : Dec (n ≡ x) → (t : Bool) → (ltb 0 i && leb i (v .top)) ≡ t → Then v (eff.Fill x d j h) p (level n i)
     go (yes e) true g = free (rw e (level-of ∙ rw g refl))
     go (yes e) false g = same (rw e (level-of ∙ rw g refl)) (λ f. f)
-    go (no ne) t g = same (ap (λ (f : ℕ → ℕ). f i) (upd-other (v .lk) x _ n ne)) (λ f. f)
+    go (no ne) t g = same (ap (λ (f : ℕ → ℕ). f i) (changed-other (v .lk) x _ n ne)) (λ f. f)
 then-of v (eff.Fill x d j h) p (node n) = go (ℕ-discrete n x)
   where
     go : Dec (n ≡ x) → Then v (eff.Fill x d j h) p (node n)
-    go (yes e) = taken (ap node e) (rw e (upd-same (v .nl) x (suc p)))
-    go (no ne) = same (upd-other (v .nl) x (suc p) n ne) (λ f. f)
+    go (yes e) = taken (ap node e) (rw e (changed-same (v .nl) x (suc p)))
+    go (no ne) = same (changed-other (v .nl) x (suc p) n ne) (λ f. f)
 
 -- a decision frees or goes on claiming what its processor claimed, and claims what it takes
 pub record Passes (f : Info) (own : ℕ) (d : Decision) : Type 0 where
@@ -167,10 +167,10 @@ held-carried v p H d P q l held = go (ℕ-discrete q p) (then-of v (d .effect) p
     e = sym (holder-ticked (effected v (d .effect) p) p (prAfter (v .top) (v .clock + 1) (v .pr p) d) l) ∙ held
 
     mine : Holds (info (effected v (d .effect) p .ht (d .own)) (d .stage)) (d .own) l → q ≡ p → Holds (claim (carried v p d) q) (carried v p d .pr q .own) l
-    mine h f = rw (f, upd-same (w .pr) p c) h
+    mine h f = rw (f, changed-same (w .pr) p c) h
 
     others : Holds (claim v q) (v .pr q .own) l → (q ≡ p → ⊥) → Holds (claim (carried v p d) q) (carried v p d .pr q .own) l
-    others h ne = rw (upd-other (w .pr) p c q ne, pr-same v p (d .effect)) (holds-any _ _ (v .pr q .stage) (v .pr q .own) l h)
+    others h ne = rw (changed-other (w .pr) p c q ne, pr-same v p (d .effect)) (holds-any _ _ (v .pr q .stage) (v .pr q .own) l h)
 
     was : holder v l ≡ suc q → q ≡ p → (Frees (d .effect) l → ⊥) → Holds (info (effected v (d .effect) p .ht (d .own)) (d .stage)) (d .own) l
     was g f kept = ⊎-elim (λ x. absurd (kept x)) (λ x. x) (P .keeps _ l (rw f at (H q l g)))
@@ -197,39 +197,39 @@ held-by a b c (by-place x e) = a x e
 held-by a b c (by-own x e) = b x e
 held-by a b c (by-node x e) = c x e
 
-insert-searched : (h : ℕ) (s : Sight) (a : Place) (r : Searched) → Passes (info h (stage.Insert (ins.Search a))) (s .own) (insertSearched s a r)
+insert-searched : (h : ℕ) (s : StepView) (a : Place) (r : Searched) → Passes (info h (stage.Insert (ins.Search a))) (s .own) (insertSearched s a r)
 insert-searched h s a (srch.Ahead b) = (record { keeps = λ h l H. held-by (λ x e. absurd (omega arith)) (λ x e. absurd (omega arith)) (λ x e. inr (by-node refl e)) H; gains = (λ h l t. absurd t) })
 insert-searched h s a (srch.Down b) = (record { keeps = λ h l H. held-by (λ x e. absurd (omega arith)) (λ x e. absurd (omega arith)) (λ x e. inr (by-node refl e)) H; gains = (λ h l t. absurd t) })
-insert-searched h s a (srch.Left b) = (record { keeps = λ h l H. held-by (λ x e. absurd (omega arith)) (λ x e. absurd (omega arith)) (λ x e. inr (by-node refl e)) H; gains = (λ h l t. absurd t) })
+insert-searched h s a (srch.Done b) = (record { keeps = λ h l H. held-by (λ x e. absurd (omega arith)) (λ x e. absurd (omega arith)) (λ x e. inr (by-node refl e)) H; gains = (λ h l t. absurd t) })
 
-removal-searched : (job : Job) (h : ℕ) (s : Sight) (a : Place) (r : Searched) →
+removal-searched : (job : Job) (h : ℕ) (s : StepView) (a : Place) (r : Searched) →
     Passes (info h (stage.Removal job (rem.Search a))) (s .own) (removalSearched job s a r)
 removal-searched job h s a (srch.Ahead b) = (record { keeps = λ h l H. held-by (λ x e. absurd (omega arith)) (λ x e. absurd (omega arith)) (λ x e. absurd (omega arith)) H; gains = (λ h l t. absurd t) })
 removal-searched job h s a (srch.Down b) = (record { keeps = λ h l H. held-by (λ x e. absurd (omega arith)) (λ x e. absurd (omega arith)) (λ x e. absurd (omega arith)) H; gains = (λ h l t. absurd t) })
-removal-searched job h s a (srch.Left b) = (record { keeps = λ h l H. held-by (λ x e. absurd (omega arith)) (λ x e. absurd (omega arith)) (λ x e. absurd (omega arith)) H; gains = (λ h l t. absurd t) })
+removal-searched job h s a (srch.Done b) = (record { keeps = λ h l H. held-by (λ x e. absurd (omega arith)) (λ x e. absurd (omega arith)) (λ x e. absurd (omega arith)) H; gains = (λ h l t. absurd t) })
 
-insert-seek : (h : ℕ) (s : Sight) (k : Seek) → Passes (info h (stage.Insert (ins.Seek k))) (s .own) (insertSought s (seekStep s k))
-insert-seek h s (seek.Approach a) = cond-elim (λ r. Passes (info h (stage.Insert (ins.Seek (seek.Approach a)))) (s .own) (insertSought s r)) (s .before)
+insert-seek : (h : ℕ) (s : StepView) (k : Seek) → Passes (info h (stage.Insert (ins.Seek k))) (s .own) (insertSought s (seekStep s k))
+insert-seek h s (seek.Approach a) = cond-elim (λ r. Passes (info h (stage.Insert (ins.Seek (seek.Approach a)))) (s .own) (insertSought s r)) (s .nextBeforeKey)
     (sght.Goes eff.Keep (seek.Approach (place (s .next) (a .level)))) (sght.Goes eff.Keep (seek.Take a)) (record { keeps = λ h l H. held-by (λ x e. absurd (omega arith)) (λ x e. absurd (omega arith)) (λ x e. inr (by-node refl e)) H; gains = (λ h l t. absurd t) }) (record { keeps = λ h l H. held-by (λ x e. absurd (omega arith)) (λ x e. absurd (omega arith)) (λ x e. inr (by-node refl e)) H; gains = (λ h l t. absurd t) })
-insert-seek h s (seek.Take a) = cond-elim (λ r. Passes (info h (stage.Insert (ins.Seek (seek.Take a)))) (s .own) (insertSought s r)) (eqb (s .guard) 0)
+insert-seek h s (seek.Take a) = cond-elim (λ r. Passes (info h (stage.Insert (ins.Seek (seek.Take a)))) (s .own) (insertSought s r)) (eqb (s .placeLock) 0)
     (sght.Goes (eff.HoldLevel a) (seek.Confirm a)) (sght.Waits (seek.Take a)) (record { keeps = λ h l H. held-by (λ x e. absurd (omega arith)) (λ x e. absurd (omega arith)) (λ x e. inr (by-node refl e)) H; gains = (λ h l t. by-place refl t) }) (record { keeps = λ h l H. held-by (λ x e. absurd (omega arith)) (λ x e. absurd (omega arith)) (λ x e. inr (by-node refl e)) H; gains = (λ h l t. absurd t) })
-insert-seek h s (seek.Confirm a) = cond-elim (λ r. Passes (info h (stage.Insert (ins.Seek (seek.Confirm a)))) (s .own) (insertSought s r)) (s .before)
+insert-seek h s (seek.Confirm a) = cond-elim (λ r. Passes (info h (stage.Insert (ins.Seek (seek.Confirm a)))) (s .own) (insertSought s r)) (s .nextBeforeKey)
     (sght.Goes eff.Keep (seek.Release a (s .next))) (sght.Done a) (record { keeps = λ h l H. held-by (λ x e. inr (by-place refl e)) (λ x e. absurd (omega arith)) (λ x e. inr (by-node refl e)) H; gains = (λ h l t. absurd t) }) (record { keeps = λ h l H. held-by (λ x e. inr (by-place refl e)) (λ x e. absurd (omega arith)) (λ x e. inr (by-node refl e)) H; gains = (λ h l t. absurd t) })
 insert-seek h s (seek.Release a b) = (record { keeps = λ h l H. held-by (λ x e. inl e) (λ x e. absurd (omega arith)) (λ x e. inr (by-node refl e)) H; gains = (λ h l t. absurd t) })
 
-removal-seek : (job : Job) (h : ℕ) (s : Sight) (k : Seek) →
+removal-seek : (job : Job) (h : ℕ) (s : StepView) (k : Seek) →
     Passes (info h (stage.Removal job (rem.Seek k))) (s .own) (removalSought job s (seekStep s k))
 removal-seek job h s (seek.Approach a) =
     cond-elim (λ r. Passes (info h (stage.Removal job (rem.Seek (seek.Approach a)))) (s .own)
-    (removalSought job s r)) (s .before)
+    (removalSought job s r)) (s .nextBeforeKey)
     (sght.Goes eff.Keep (seek.Approach (place (s .next) (a .level)))) (sght.Goes eff.Keep (seek.Take a)) (record { keeps = λ h l H. held-by (λ x e. absurd (omega arith)) (λ x e. absurd (omega arith)) (λ x e. inr (by-node refl e)) H; gains = (λ h l t. absurd t) }) (record { keeps = λ h l H. held-by (λ x e. absurd (omega arith)) (λ x e. absurd (omega arith)) (λ x e. inr (by-node refl e)) H; gains = (λ h l t. absurd t) })
 removal-seek job h s (seek.Take a) =
     cond-elim (λ r. Passes (info h (stage.Removal job (rem.Seek (seek.Take a)))) (s .own)
-    (removalSought job s r)) (eqb (s .guard) 0)
+    (removalSought job s r)) (eqb (s .placeLock) 0)
     (sght.Goes (eff.HoldLevel a) (seek.Confirm a)) (sght.Waits (seek.Take a)) (record { keeps = λ h l H. held-by (λ x e. absurd (omega arith)) (λ x e. absurd (omega arith)) (λ x e. inr (by-node refl e)) H; gains = (λ h l t. by-place refl t) }) (record { keeps = λ h l H. held-by (λ x e. absurd (omega arith)) (λ x e. absurd (omega arith)) (λ x e. inr (by-node refl e)) H; gains = (λ h l t. absurd t) })
 removal-seek job h s (seek.Confirm a) =
     cond-elim (λ r. Passes (info h (stage.Removal job (rem.Seek (seek.Confirm a)))) (s .own)
-    (removalSought job s r)) (s .before)
+    (removalSought job s r)) (s .nextBeforeKey)
     (sght.Goes eff.Keep (seek.Release a (s .next))) (sght.Done a) (record { keeps = λ h l H. held-by (λ x e. inr (by-place refl e)) (λ x e. absurd (omega arith)) (λ x e. inr (by-node refl e)) H; gains = (λ h l t. absurd t) }) (record { keeps = λ h l H. held-by (λ x e. inr (by-place refl e)) (λ x e. absurd (omega arith)) (λ x e. inr (by-node refl e)) H; gains = (λ h l t. absurd t) })
 removal-seek job h s (seek.Release a b) = (record { keeps = λ h l H. held-by (λ x e. inl e) (λ x e. absurd (omega arith)) (λ x e. inr (by-node refl e)) H; gains = (λ h l t. absurd t) })
 
@@ -237,33 +237,33 @@ removal-seek job h s (seek.Release a b) = (record { keeps = λ h l H. held-by (�
 pub passes : (v : View) (p h : ℕ) (s : Stage) → Passes (info h s) (v .pr p .own) (decision v p s)
 passes v p h stage.Idle = (record { keeps = λ h l H. held-by (λ x e. absurd (omega arith)) (λ x e. absurd (omega arith)) (λ x e. absurd (omega arith)) H; gains = (λ h l t. absurd t) })
 passes v p h (stage.Insert (ins.Search a)) =
-    insert-searched h (sight v (v .pr p) (key v (v .pr p .own)) a) a
-    (searchStep (sight v (v .pr p) (key v (v .pr p .own)) a) a)
+    insert-searched h (view v (v .pr p) (key v (v .pr p .own)) a) a
+    (searchStep (view v (v .pr p) (key v (v .pr p .own)) a) a)
 passes v p h (stage.Insert (ins.Seek k)) =
-    insert-seek h (sight v (v .pr p) (key v (v .pr p .own)) (seekPart k .place)) k
+    insert-seek h (view v (v .pr p) (key v (v .pr p .own)) (seekPart k .place)) k
 passes v p h (stage.Insert (ins.Copy a)) = (record { keeps = λ h l H. held-by (λ x e. inr (by-place refl e)) (λ x e. absurd (omega arith)) (λ x e. inr (by-node refl e)) H; gains = (λ h l t. absurd t) })
 passes v p h (stage.Insert (ins.Link a)) = (record { keeps = λ h l H. held-by (λ x e. inr (by-place refl e)) (λ x e. absurd (omega arith)) (λ x e. inr (by-node refl e)) H; gains = (λ h l t. absurd t) })
 passes v p h (stage.Insert (ins.FreeLevel a)) = cond-elim (Passes (info h (stage.Insert (ins.FreeLevel a))) (v .pr p .own)) (ltb (a .level) (v .ht (v .pr p .own))) _ _ (record { keeps = λ h l H. held-by (λ x e. inl e) (λ x e. absurd (omega arith)) (λ x e. inr (by-node refl e)) H; gains = (λ h l t. absurd t) }) (record { keeps = λ h l H. held-by (λ x e. inl e) (λ x e. absurd (omega arith)) (λ x e. inr (by-node refl e)) H; gains = (λ h l t. absurd t) })
 passes v p h (stage.Insert ins.FreeNode) = (record { keeps = λ h l H. held-by (λ x e. absurd (omega arith)) (λ x e. absurd (omega arith)) (λ x e. inl e) H; gains = (λ h l t. absurd t) })
 passes v p h (stage.Insert ins.Stamp) = (record { keeps = λ h l H. held-by (λ x e. absurd (omega arith)) (λ x e. absurd (omega arith)) (λ x e. absurd (omega arith)) H; gains = (λ h l t. absurd t) })
-passes v p h (stage.Delete (del.Next a)) = cond-elim (Passes (info h (stage.Delete (del.Next a))) (v .pr p .own)) (eqb (v .fwd (a .node) 1) (tail v)) _ _ (record { keeps = λ h l H. held-by (λ x e. absurd (omega arith)) (λ x e. absurd (omega arith)) (λ x e. absurd (omega arith)) H; gains = (λ h l t. absurd t) }) (record { keeps = λ h l H. held-by (λ x e. absurd (omega arith)) (λ x e. absurd (omega arith)) (λ x e. absurd (omega arith)) H; gains = (λ h l t. absurd t) })
-passes v p h (stage.Delete (del.Stamped a)) = cond-elim (Passes (info h (stage.Delete (del.Stamped a))) (v .pr p .own)) (ltb (v .st (a .node)) (v .pr p .begin)) _ _ (record { keeps = λ h l H. held-by (λ x e. absurd (omega arith)) (λ x e. absurd (omega arith)) (λ x e. absurd (omega arith)) H; gains = (λ h l t. absurd t) }) (record { keeps = λ h l H. held-by (λ x e. absurd (omega arith)) (λ x e. absurd (omega arith)) (λ x e. absurd (omega arith)) H; gains = (λ h l t. absurd t) })
-passes v p h (stage.Delete (del.Mark a)) = cond-elim (Passes (info h (stage.Delete (del.Mark a))) (v .pr p .own)) (ltb 0 (v .mk (a .node))) _ _ (record { keeps = λ h l H. held-by (λ x e. absurd (omega arith)) (λ x e. absurd (omega arith)) (λ x e. absurd (omega arith)) H; gains = (λ h l t. absurd t) }) (record { keeps = λ h l H. held-by (λ x e. absurd (omega arith)) (λ x e. absurd (omega arith)) (λ x e. absurd (omega arith)) H; gains = (λ h l t. absurd t) })
+passes v p h (stage.Delete (del.ReadNext a)) = cond-elim (Passes (info h (stage.Delete (del.ReadNext a))) (v .pr p .own)) (eqb (v .fwd (a .node) 1) (tail v)) _ _ (record { keeps = λ h l H. held-by (λ x e. absurd (omega arith)) (λ x e. absurd (omega arith)) (λ x e. absurd (omega arith)) H; gains = (λ h l t. absurd t) }) (record { keeps = λ h l H. held-by (λ x e. absurd (omega arith)) (λ x e. absurd (omega arith)) (λ x e. absurd (omega arith)) H; gains = (λ h l t. absurd t) })
+passes v p h (stage.Delete (del.TestStamp a)) = cond-elim (Passes (info h (stage.Delete (del.TestStamp a))) (v .pr p .own)) (ltb (v .st (a .node)) (v .pr p .begin)) _ _ (record { keeps = λ h l H. held-by (λ x e. absurd (omega arith)) (λ x e. absurd (omega arith)) (λ x e. absurd (omega arith)) H; gains = (λ h l t. absurd t) }) (record { keeps = λ h l H. held-by (λ x e. absurd (omega arith)) (λ x e. absurd (omega arith)) (λ x e. absurd (omega arith)) H; gains = (λ h l t. absurd t) })
+passes v p h (stage.Delete (del.SetMark a)) = cond-elim (Passes (info h (stage.Delete (del.SetMark a))) (v .pr p .own)) (ltb 0 (v .mk (a .node))) _ _ (record { keeps = λ h l H. held-by (λ x e. absurd (omega arith)) (λ x e. absurd (omega arith)) (λ x e. absurd (omega arith)) H; gains = (λ h l t. absurd t) }) (record { keeps = λ h l H. held-by (λ x e. absurd (omega arith)) (λ x e. absurd (omega arith)) (λ x e. absurd (omega arith)) H; gains = (λ h l t. absurd t) })
 passes v p h (stage.Removal job (rem.Search a)) =
-    removal-searched job h (sight v (v .pr p) (key v (v .pr p .own)) a) a
-    (searchStep (sight v (v .pr p) (key v (v .pr p .own)) a) a)
+    removal-searched job h (view v (v .pr p) (key v (v .pr p .own)) a) a
+    (searchStep (view v (v .pr p) (key v (v .pr p .own)) a) a)
 passes v p h (stage.Removal job rem.HoldNode) =
     cond-elim (Passes (info h (stage.Removal job rem.HoldNode)) (v .pr p .own))
     (eqb (v .nl (v .pr p .own)) 0) _ _
     (record { keeps = λ h l H. held-by (λ x e. absurd (omega arith)) (λ x e. absurd (omega arith)) (λ x e. absurd (omega arith)) H; gains = (λ h l t. by-node refl t) }) (record { keeps = λ h l H. held-by (λ x e. absurd (omega arith)) (λ x e. absurd (omega arith)) (λ x e. absurd (omega arith)) H; gains = (λ h l t. absurd t) })
 passes v p h (stage.Removal job (rem.Seek k)) =
-    removal-seek job h (sight v (v .pr p) (key v (v .pr p .own)) (seekPart k .place)) k
+    removal-seek job h (view v (v .pr p) (key v (v .pr p .own)) (seekPart k .place)) k
 passes v p h (stage.Removal job (rem.HoldOwn a)) =
     cond-elim (Passes (info h (stage.Removal job (rem.HoldOwn a))) (v .pr p .own))
     (eqb (v .lk (v .pr p .own) (a .level)) 0) _ _
     (record { keeps = λ h l H. held-by (λ x e. inr (by-place refl e)) (λ x e. absurd (omega arith)) (λ x e. inr (by-node refl e)) H; gains = (λ h l t. by-own refl t) }) (record { keeps = λ h l H. held-by (λ x e. inr (by-place refl e)) (λ x e. absurd (omega arith)) (λ x e. inr (by-node refl e)) H; gains = (λ h l t. absurd t) })
 passes v p h (stage.Removal job (rem.Unlink a)) = (record { keeps = λ h l H. held-by (λ x e. inr (by-place refl e)) (λ x e. inr (by-own refl e)) (λ x e. inr (by-node refl e)) H; gains = (λ h l t. absurd t) })
-passes v p h (stage.Removal job (rem.Back a)) = (record { keeps = λ h l H. held-by (λ x e. inr (by-place refl e)) (λ x e. inr (by-own refl e)) (λ x e. inr (by-node refl e)) H; gains = (λ h l t. absurd t) })
+passes v p h (stage.Removal job (rem.LeadBack a)) = (record { keeps = λ h l H. held-by (λ x e. inr (by-place refl e)) (λ x e. inr (by-own refl e)) (λ x e. inr (by-node refl e)) H; gains = (λ h l t. absurd t) })
 passes v p h (stage.Removal job (rem.FreeOwn a)) = (record { keeps = λ h l H. held-by (λ x e. inr (by-place refl e)) (λ x e. inl e) (λ x e. inr (by-node refl e)) H; gains = (λ h l t. absurd t) })
 passes v p h (stage.Removal job (rem.FreeLevel a)) = cond-elim (Passes (info h (stage.Removal job (rem.FreeLevel a))) (v .pr p .own)) (leb (a .level) 1) _ _ (record { keeps = λ h l H. held-by (λ x e. inl e) (λ x e. absurd (omega arith)) (λ x e. inr (by-node refl e)) H; gains = (λ h l t. absurd t) }) (record { keeps = λ h l H. held-by (λ x e. inl e) (λ x e. absurd (omega arith)) (λ x e. inr (by-node refl e)) H; gains = (λ h l t. absurd t) })
 passes v p h (stage.Removal job rem.FreeNode) = (record { keeps = λ h l H. held-by (λ x e. absurd (omega arith)) (λ x e. absurd (omega arith)) (λ x e. inl e) H; gains = (λ h l t. absurd t) })

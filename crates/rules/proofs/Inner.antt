@@ -7,7 +7,7 @@ use native.Mathlib.Omega.{arith}
 use lib.Dec.{eqb}
 use borrow.Author.Tests.{lt-leb, eq-eqb, ne-eqb}
 use Rattle.record.specs.declared.queues.Queue.{Queue}
-use Rattle.checks.specs.Check.{valid}
+use Rattle.record_check.specs.Check.{valid}
 use Rattle.record.specs.Limits.{maxNumber}
 use Rattle.record.specs.Queues.{processorAt}
 use Rattle.record.specs.Stages.{isIdle}
@@ -15,7 +15,7 @@ use Rattle.rules.specs.declared.answers.Outcome.{Outcome}
 use Rattle.rules.specs.declared.calls.Call.{Call}
 use Rattle.rules.specs.declared.calls.Call.the-variants as call
 use Rattle.rules.specs.Answers.{refused}
-use Rattle.rules.specs.Calls.{deleteDecision, stepDecision, decisionOf, processorOf}
+use Rattle.rules.specs.Calls.{stepDecision, decisionOf, processorOf}
 use Rattle.rules.specs.Calls.{refusalOf, calledValid, called}
 use Rattle.rules.specs.Effects.{accepted}
 use Rattle.rules.specs.Runs.{calls}
@@ -47,11 +47,7 @@ module _ (q : Queue) (c : Call) where
     ap (λ (o : Outcome). valid (o .queue)) (e ∙ sym (call-inner v)) ∙ kept-valid q (calls c) v,
   )
 
-module _ (q : Queue) (p : ℕ) (ticks : q .clock < maxNumber) (here : p < q .processors) where
+module _ (q : Queue) (p : ℕ) (ticks : q .clock < maxNumber) (here : p < q .processorCount) where
   pub step-accepted : isIdle (processorAt q p .stage) ≡ false → calledValid q (call.Step p)
       ≡ accepted q p (stepDecision q (processorAt q p))
   step-accepted b = simp (lt-leb _ _ ticks, lt-leb _ _ here, b)
-
-  pub delete-accepted : isIdle (processorAt q p .stage) ≡ true → calledValid q (call.DeleteMin p)
-      ≡ accepted q p (deleteDecision q)
-  delete-accepted b = simp (lt-leb _ _ ticks, lt-leb _ _ here, b)

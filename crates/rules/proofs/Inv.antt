@@ -46,7 +46,7 @@ pub record Entered (until : ℕ → ℕ → ℕ) (us mk nl ht tick due : ℕ →
   pub full : us n ≡ 1 → mk n ≡ 0 → nl n ≡ 0 → (j : ℕ) → 1 ≤ j → j ≤ ht n → ever ≤ until n j
 
 pub record Core (v : View) (until : ℕ → ℕ → ℕ) : Type 0 where
-  pub levels : 1 ≤ v .top
+  pub levelCount : 1 ≤ v .top
   pub levels-high : v .top ≤ 8
   pub size : v .nodes ≤ 200
   pub clock : v .clock < ever
@@ -152,7 +152,7 @@ pub record Unlinking (v : View) (q n i : ℕ) : Type 0 where
 
 pub data Led (v : View) (until : ℕ → ℕ → ℕ) (T n i : ℕ) : Type 0 where
   back : Back (v .fwd) until (key v) (tail v) T n i → Led v until T n i
-  unlinking : (q : ℕ) → Unlinking v q n i → Led v until T n i
+  unlinker : (q : ℕ) → Unlinking v q n i → Led v until T n i
 
 -- S4: at most one Insert and at most one remover own a node
 abbrev pub One : (ℕ → Info) → (ℕ → Pr) → Type 0

@@ -13,9 +13,9 @@ use Rattle.laws.proofs.Booleans.{cond-elim}
 use Rattle.laws.proofs.HowMany.{many-same}
 use Rattle.laws.specs.Every.{everyBelow}
 use Rattle.laws.specs.HowMany.{howMany}
-use Rattle.checks.specs.Backlog.{holdsPending, pendingAt, backlogOf}
-use Rattle.checks.specs.Check.{valid, sizesOf, nodeValid}
-use Rattle.checks.specs.Making.{outside}
+use Rattle.record_check.specs.Backlog.{holdsPending, pendingAt, backlogOf}
+use Rattle.record_check.specs.Check.{valid, sizesOf, nodeValid}
+use Rattle.record_check.specs.Making.{outside}
 use Rattle.record.specs.declared.nodes.Node.{Node}
 use Rattle.record.specs.declared.queues.Processor.{Processor}
 use Rattle.record.specs.declared.queues.Queue.{Queue}
@@ -41,13 +41,13 @@ use Rattle.rules.specs.declared.decisions.Effect.the-variants as eff
 use Rattle.rules.specs.declared.decisions.Decision.{Decision}
 use Rattle.rules.specs.declared.decisions.Searched.{Searched}
 use Rattle.rules.specs.declared.decisions.Searched.the-variants as srch
-use Rattle.rules.specs.declared.decisions.Sight.{Sight}
+use Rattle.rules.specs.declared.decisions.StepView.{StepView}
 use Rattle.rules.specs.declared.decisions.Sought.{Sought}
 use Rattle.rules.specs.declared.decisions.Sought.the-variants as sght
 use Rattle.rules.specs.Answers.{refused}
 use Rattle.rules.specs.declared.calls.Call.{Call}
 use Rattle.rules.specs.declared.calls.Call.the-variants as call
-use Rattle.rules.specs.Calls.{sightOf, nextOf, readingPlace, insertDecision, decisionOf}
+use Rattle.rules.specs.Calls.{stepViewOf, nextOf, readingPlace, insertDecision, decisionOf}
 use Rattle.rules.specs.Calls.{processorOf, refusalOf, called}
 use Rattle.rules.specs.Choice.{chosen}
 use Rattle.rules.specs.Decide.{decide, searchStep, seekStep}
@@ -57,7 +57,7 @@ use Rattle.rules.specs.Effects.{changed, nodeOf, applied, accepted}
 use Rattle.rules.specs.Items.{Renaming, renamedNode, renamed, renamedEntry, renamedAnswer}
 use Rattle.rules.specs.Items.{renamedCall, itemOf}
 use Rattle.rules.specs.Items.{zeroFor, CheckSeesNoItem, NoRuleSeesAnItem, ItemZeroGoesOn}
-use Rattle.rules.specs.Runs.{calls, deleteMin, steps, backlog, Reply, answered, counted}
+use Rattle.rules.specs.Runs.{calls, deleteMin, stepBy, backlog, Reply, answered, counted}
 
 -- a choice of images is the image of the choice
 cond-pair :
@@ -82,32 +82,32 @@ every-same : (f g : ℕ → Bool) (n : ℕ) → ((k : ℕ) → f k ≡ g k) → 
 every-same f g n h = ap (λ (t : ℕ → Bool). everyBelow t n) (fun-ext h)
 
 module _ (f : ℕ → ℕ) where
-  abbrev renamedSight : Sight → Sight
-  renamedSight s = record {
+  abbrev renamedView : StepView → StepView
+  renamedView s = record {
     own = s .own;
     height = s .height;
-    holder = s .holder;
+    ownNodeLock = s .ownNodeLock;
     next = s .next;
-    before = s .before;
-    tail = s .tail;
-    guard = s .guard;
-    onward = s .onward;
-    latch = s .latch;
-    levels = s .levels;
+    nextBeforeKey = s .nextBeforeKey;
+    nextIsTail = s .nextIsTail;
+    placeLock = s .placeLock;
+    ownNext = s .ownNext;
+    ownLock = s .ownLock;
+    levelCount = s .levelCount;
     marked = s .marked;
     stamped = s .stamped;
-    up = s .up;
-    down = s .down;
-    top = s .top;
-    seen = renamedEntry f (s .seen);
-    mine = renamedEntry f (s .mine);
+    savedAbove = s .savedAbove;
+    savedBelow = s .savedBelow;
+    savedAtHeight = s .savedAtHeight;
+    placeEntry = renamedEntry f (s .placeEntry);
+    ownEntry = renamedEntry f (s .ownEntry);
   }
 
   abbrev renamedEffect : Effect → Effect
   renamedEffect eff.Keep = eff.Keep
   renamedEffect (eff.HoldLevel a) = eff.HoldLevel a
   renamedEffect (eff.FreeLevel a) = eff.FreeLevel a
-  renamedEffect (eff.Lead a x) = eff.Lead a x
+  renamedEffect (eff.SetForward a x) = eff.SetForward a x
   renamedEffect (eff.HoldNode x) = eff.HoldNode x
   renamedEffect (eff.FreeNode x) = eff.FreeNode x
   renamedEffect (eff.Mark x) = eff.Mark x
@@ -120,7 +120,7 @@ module _ (f : ℕ → ℕ) where
     effect = renamedEffect (d .effect);
     stage = d .stage;
     own = d .own;
-    carry = d .carry;
+    change = d .change;
     answer = renamedAnswer f (d .answer);
   }
 
@@ -133,31 +133,31 @@ module _ (f : ℕ → ℕ) where
   renamedSought (sght.Done a) = sght.Done a
 
   -- what is decided
-  seeking : (s : Sight) (k : Seek) → seekStep (renamedSight s) k ≡ renamedSought (seekStep s k)
-  seeking s (seek.Approach a) = cond-image renamedSought (s .before) _ _
-  seeking s (seek.Take a) = cond-image renamedSought (eqb (s .guard) 0) _ _
-  seeking s (seek.Confirm a) = cond-image renamedSought (s .before) _ _
+  seeking : (s : StepView) (k : Seek) → seekStep (renamedView s) k ≡ renamedSought (seekStep s k)
+  seeking s (seek.Approach a) = cond-image renamedSought (s .nextBeforeKey) _ _
+  seeking s (seek.Take a) = cond-image renamedSought (eqb (s .placeLock) 0) _ _
+  seeking s (seek.Confirm a) = cond-image renamedSought (s .nextBeforeKey) _ _
   seeking s (seek.Release a b) = refl
 
   insert-searched :
-      (s : Sight) (a : Place) (r : Searched) →
-      insertSearched (renamedSight s) a r ≡ renamedDecision (insertSearched s a r)
+      (s : StepView) (a : Place) (r : Searched) →
+      insertSearched (renamedView s) a r ≡ renamedDecision (insertSearched s a r)
   insert-searched s a (srch.Ahead b) = refl
   insert-searched s a (srch.Down b) = refl
-  insert-searched s a (srch.Left b) = refl
+  insert-searched s a (srch.Done b) = refl
 
   insert-sought :
-      (s : Sight) (r : Sought) →
-      insertSought (renamedSight s) (renamedSought r) ≡ renamedDecision (insertSought s r)
+      (s : StepView) (r : Sought) →
+      insertSought (renamedView s) (renamedSought r) ≡ renamedDecision (insertSought s r)
   insert-sought s (sght.Goes e k) = refl
   insert-sought s (sght.Waits k) = refl
   insert-sought s (sght.Done a) = refl
 
   insert-decides :
-      (s : Sight) (i : Insert) → insertStep (renamedSight s) i ≡ renamedDecision (insertStep s i)
+      (s : StepView) (i : Insert) → insertStep (renamedView s) i ≡ renamedDecision (insertStep s i)
   insert-decides s (ins.Search a) = insert-searched s a (searchStep s a)
   insert-decides s (ins.Seek k) =
-      ap (insertSought (renamedSight s)) (seeking s k) ∙ insert-sought s (seekStep s k)
+      ap (insertSought (renamedView s)) (seeking s k) ∙ insert-sought s (seekStep s k)
   insert-decides s (ins.Copy a) = refl
   insert-decides s (ins.Link a) = refl
   insert-decides s (ins.FreeLevel a) = cond-image renamedDecision (ltb (a .level) (s .height)) _ _
@@ -165,41 +165,41 @@ module _ (f : ℕ → ℕ) where
   insert-decides s ins.Stamp = refl
 
   removal-searched :
-      (job : Job) (s : Sight) (a : Place) (r : Searched) →
-      removalSearched job (renamedSight s) a r ≡ renamedDecision (removalSearched job s a r)
+      (job : Job) (s : StepView) (a : Place) (r : Searched) →
+      removalSearched job (renamedView s) a r ≡ renamedDecision (removalSearched job s a r)
   removal-searched job s a (srch.Ahead b) = refl
   removal-searched job s a (srch.Down b) = refl
-  removal-searched job s a (srch.Left b) = refl
+  removal-searched job s a (srch.Done b) = refl
 
   removal-sought :
-      (job : Job) (s : Sight) (r : Sought) →
-      removalSought job (renamedSight s) (renamedSought r) ≡ renamedDecision (removalSought job s r)
+      (job : Job) (s : StepView) (r : Sought) →
+      removalSought job (renamedView s) (renamedSought r) ≡ renamedDecision (removalSought job s r)
   removal-sought job s (sght.Goes e k) = refl
   removal-sought job s (sght.Waits k) = refl
   removal-sought job s (sght.Done a) = refl
 
   removal-decides :
-      (job : Job) (s : Sight) (r : Removal) →
-      removalStep job (renamedSight s) r ≡ renamedDecision (removalStep job s r)
+      (job : Job) (s : StepView) (r : Removal) →
+      removalStep job (renamedView s) r ≡ renamedDecision (removalStep job s r)
   removal-decides job s (rem.Search a) = removal-searched job s a (searchStep s a)
-  removal-decides job s rem.HoldNode = cond-image renamedDecision (eqb (s .holder) 0) _ _
+  removal-decides job s rem.HoldNode = cond-image renamedDecision (eqb (s .ownNodeLock) 0) _ _
   removal-decides job s (rem.Seek k) =
-      ap (removalSought job (renamedSight s)) (seeking s k) ∙ removal-sought job s (seekStep s k)
-  removal-decides job s (rem.HoldOwn a) = cond-image renamedDecision (eqb (s .latch) 0) _ _
+      ap (removalSought job (renamedView s)) (seeking s k) ∙ removal-sought job s (seekStep s k)
+  removal-decides job s (rem.HoldOwn a) = cond-image renamedDecision (eqb (s .ownLock) 0) _ _
   removal-decides job s (rem.Unlink a) = refl
-  removal-decides job s (rem.Back a) = refl
+  removal-decides job s (rem.LeadBack a) = refl
   removal-decides job s (rem.FreeOwn a) = refl
   removal-decides job s (rem.FreeLevel a) = cond-image renamedDecision (leb (a .level) 1) _ _
   removal-decides job s rem.FreeNode = refl
   removal-decides jobs.Deliver s rem.Retire = refl
 
   delete-decides :
-      (s : Sight) (d : Delete) → deleteStep (renamedSight s) d ≡ renamedDecision (deleteStep s d)
-  delete-decides s (del.Next a) = cond-image renamedDecision (s .tail) _ _
-  delete-decides s (del.Stamped a) = cond-image renamedDecision (s .stamped) _ _
-  delete-decides s (del.Mark a) = cond-image renamedDecision (s .marked) _ _
+      (s : StepView) (d : Delete) → deleteStep (renamedView s) d ≡ renamedDecision (deleteStep s d)
+  delete-decides s (del.ReadNext a) = cond-image renamedDecision (s .nextIsTail) _ _
+  delete-decides s (del.TestStamp a) = cond-image renamedDecision (s .stamped) _ _
+  delete-decides s (del.SetMark a) = cond-image renamedDecision (s .marked) _ _
 
-  decides : (s : Sight) (g : Stage) → decide (renamedSight s) g ≡ renamedDecision (decide s g)
+  decides : (s : StepView) (g : Stage) → decide (renamedView s) g ≡ renamedDecision (decide s g)
   decides s stage.Idle = refl
   decides s (stage.Insert i) = insert-decides s i
   decides s (stage.Delete d) = delete-decides s d
@@ -213,7 +213,7 @@ module _ (f : ℕ → ℕ) where
   changes l tail h t eff.Keep n = refl
   changes l tail h t (eff.HoldLevel a) n = refl
   changes l tail h t (eff.FreeLevel a) n = refl
-  changes l tail h t (eff.Lead a x) n = refl
+  changes l tail h t (eff.SetForward a x) n = refl
   changes l tail h t (eff.HoldNode x) n = refl
   changes l tail h t (eff.FreeNode x) n = refl
   changes l tail h t (eff.Mark x) n = refl
@@ -225,7 +225,7 @@ module _ (f : ℕ → ℕ) where
   same-node eff.Keep = refl
   same-node (eff.HoldLevel a) = refl
   same-node (eff.FreeLevel a) = refl
-  same-node (eff.Lead a x) = refl
+  same-node (eff.SetForward a x) = refl
   same-node (eff.HoldNode x) = refl
   same-node (eff.FreeNode x) = refl
   same-node (eff.Mark x) = refl
@@ -259,10 +259,10 @@ module _ (f : ℕ → ℕ) where
             let above : maxNumber < n = omega arith in
             lt-ltb _ _ (R .outside n above) ∙ sym (lt-ltb _ _ above)
 
-    sights :
+    step-views :
         (q : Queue) (c : Processor) (a : Place) →
-        sightOf (renamed f q) c a ≡ renamedSight (sightOf q c a)
-    sights q c a = rw (node-read q (a .node), node-read q (c .own), node-read q (nextOf q a)) refl
+        stepViewOf (renamed f q) c a ≡ renamedView (stepViewOf q c a)
+    step-views q c a = rw (node-read q (a .node), node-read q (c .own), node-read q (nextOf q a)) refl
 
     applies :
         (q : Queue) (p : ℕ) (d : Decision) →
@@ -270,8 +270,8 @@ module _ (f : ℕ → ℕ) where
     applies q p d =
         let e = d .effect in
         let x = nodeOf e in
-        let l = q .levels in
-        let tail = q .entries + 1 in
+        let l = q .levelCount in
+        let tail = q .nodeCount + 1 in
         let t = q .clock + 1 in
         let g = renamedNode f in
         let after = changed l tail (p + 1) t e (nodeAt q x) in
@@ -292,10 +292,10 @@ module _ (f : ℕ → ℕ) where
         node-valid x n = rw (in-range (n .item)) refl
 
         nodes :
-            everyBelow (λ x. nodeValid (sizesOf q) x (nodeAt (renamed f q) x)) (q .entries + 2)
-            ≡ everyBelow (λ x. nodeValid (sizesOf q) x (nodeAt q x)) (q .entries + 2)
+            everyBelow (λ x. nodeValid (sizesOf q) x (nodeAt (renamed f q) x)) (q .nodeCount + 2)
+            ≡ everyBelow (λ x. nodeValid (sizesOf q) x (nodeAt q x)) (q .nodeCount + 2)
         nodes =
-            every-same _ _ (q .entries + 2)
+            every-same _ _ (q .nodeCount + 2)
             (λ x. ap (nodeValid (sizesOf q) x) (node-read q x) ∙ node-valid x (nodeAt q x))
 
     chosen-same : (q : Queue) → chosen (renamed f q) ≡ chosen q
@@ -338,7 +338,7 @@ module _ (f : ℕ → ℕ) where
     decision-same q (call.Step p) =
         let c = processorAt q p in
         let g = c .stage in
-        ap (λ (s : Sight). decide s g) (sights q c (readingPlace g)) ∙ decides _ g
+        ap (λ (s : StepView). decide s g) (step-views q c (readingPlace g)) ∙ decides _ g
 
     processor-same : (c : Call) → processorOf (renamedCall f c) ≡ processorOf c
     processor-same (call.Insert p due item height) = refl
@@ -357,7 +357,7 @@ module _ (f : ℕ → ℕ) where
         (ap (refused (renamed f q)) same)) refl
 
     backlog-same : (q : Queue) → backlogOf (renamed f q) ≡ backlogOf q
-    backlog-same q = rw (valid-same q, pending-same q (q .entries)) refl
+    backlog-same q = rw (valid-same q, pending-same q (q .nodeCount)) refl
 
 pub check-sees-no-item : CheckSeesNoItem
 check-sees-no-item f R q = valid-same f R q
@@ -391,5 +391,5 @@ item-zero-goes-on k h q =
     record {
       taken = check-sees-no-item (zeroFor k) R q;
       begun = λ p. no-rule-sees-an-item (zeroFor k) R q (deleteMin p) (λ _. refl);
-      stepped = λ p. no-rule-sees-an-item (zeroFor k) R q (steps p) (λ _. refl);
+      stepped = λ p. no-rule-sees-an-item (zeroFor k) R q (stepBy p) (λ _. refl);
     }

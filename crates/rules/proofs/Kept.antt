@@ -22,9 +22,9 @@ use Rattle.record.specs.Stages.{place}
 use Rattle.record.specs.declared.stages.Stage.the-variants as stage
 use Rattle.laws.proofs.Booleans.{cond-cases}
 use Rattle.rules.proofs.Put.{ever, put}
-use Rattle.rules.proofs.View.{View, Info, info, walking, key, tail, last}
+use Rattle.rules.proofs.View.{View, Info, info, walkInfo, key, tail, last}
 use Rattle.rules.proofs.Inv.{Inv, NodeHeld}
-use Rattle.rules.proofs.Machine.{decision, carried, sight}
+use Rattle.rules.proofs.Machine.{decision, carried, view}
 use Rattle.rules.specs.Decide.{moved, marking, insertSearched, insertSought, removalSearched}
 use Rattle.rules.specs.Decide.{removalSought}
 use Rattle.rules.proofs.Move.{busy-at, approach-ahead, approach-take, take-waits, take-confirm, confirm-release, release-take}
@@ -43,15 +43,15 @@ untilAfter v u p (stage.Insert (ins.Link a)) = put u (v .pr p .own) (a .level) e
 untilAfter v u p (stage.Insert (ins.FreeLevel a)) = u
 untilAfter v u p (stage.Insert ins.FreeNode) = u
 untilAfter v u p (stage.Insert ins.Stamp) = u
-untilAfter v u p (stage.Delete (del.Next a)) = u
-untilAfter v u p (stage.Delete (del.Stamped a)) = u
-untilAfter v u p (stage.Delete (del.Mark a)) = u
+untilAfter v u p (stage.Delete (del.ReadNext a)) = u
+untilAfter v u p (stage.Delete (del.TestStamp a)) = u
+untilAfter v u p (stage.Delete (del.SetMark a)) = u
 untilAfter v u p (stage.Removal job (rem.Search a)) = u
 untilAfter v u p (stage.Removal job rem.HoldNode) = u
 untilAfter v u p (stage.Removal job (rem.Seek k)) = u
 untilAfter v u p (stage.Removal job (rem.HoldOwn a)) = u
 untilAfter v u p (stage.Removal job (rem.Unlink a)) = put u (v .pr p .own) (a .level) (v .clock + 1)
-untilAfter v u p (stage.Removal job (rem.Back a)) = u
+untilAfter v u p (stage.Removal job (rem.LeadBack a)) = u
 untilAfter v u p (stage.Removal job (rem.FreeOwn a)) = u
 untilAfter v u p (stage.Removal job (rem.FreeLevel a)) = u
 untilAfter v u p (stage.Removal job rem.FreeNode) = u
@@ -81,13 +81,13 @@ module _ (v : View) (u : ℕ → ℕ → ℕ) (I : Inv v u) (H : NodeHeld v) (ro
   insert-search a e =
       let own = insert-own (ins.Search a) e (omega arith) refl in
       cond-cases (λ r. Inv
-      (carried v p (insertSearched (sight v (v .pr p) (key v (v .pr p .own)) a) a r)) u)
+      (carried v p (insertSearched (view v (v .pr p) (key v (v .pr p .own)) a) a r)) u)
       (before a) _ _
       (λ x. search-ahead v u I room p (λ b. stage.Insert (ins.Search b)) 1 1 0 0
       (key v (v .pr p .own)) (λ b. refl) (omega arith) (λ h. absurd (omega arith))
       (own-high (own .0) (own .1)) refl a e (ltb-true _ _ x))
       (λ x. cond-cases
-      (λ r. Inv (carried v p (insertSearched (sight v (v .pr p) (key v (v .pr p .own)) a) a r)) u)
+      (λ r. Inv (carried v p (insertSearched (view v (v .pr p) (key v (v .pr p .own)) a) a r)) u)
       (leb (a .level) 1) _ _
       (λ y. InsertSteps.insert-left v u I room p a e (leb-true _ _ y))
       (λ y. search-down v u I room p (λ b. stage.Insert (ins.Search b)) 1 1 0 0
@@ -98,7 +98,7 @@ module _ (v : View) (u : ℕ → ℕ → ℕ) (I : Inv v u) (H : NodeHeld v) (ro
   insert-seek (seek.Approach a) e =
       let own = insert-own (ins.Seek (seek.Approach a)) e (omega arith) refl in
       cond-cases (λ r. Inv
-      (carried v p (insertSought (sight v (v .pr p) (key v (v .pr p .own)) a) r)) u) (before a) _ _
+      (carried v p (insertSought (view v (v .pr p) (key v (v .pr p .own)) a) r)) u) (before a) _ _
       (λ x. approach-ahead v u I room p (λ b. stage.Insert (ins.Seek b)) 1 1 0 (λ h b. refl)
       (omega arith) (λ h. omega arith) (own .0) (own .1) refl a e (ltb-true _ _ x))
       (λ x. approach-take v u I room p (λ b. stage.Insert (ins.Seek b)) 1 1 0 (λ h b. refl)
@@ -106,7 +106,7 @@ module _ (v : View) (u : ℕ → ℕ → ℕ) (I : Inv v u) (H : NodeHeld v) (ro
   insert-seek (seek.Take a) e =
       let own = insert-own (ins.Seek (seek.Take a)) e (omega arith) refl in
       cond-cases (λ r. Inv
-      (carried v p (insertSought (sight v (v .pr p) (key v (v .pr p .own)) a) r)) u)
+      (carried v p (insertSought (view v (v .pr p) (key v (v .pr p .own)) a) r)) u)
       (eqb (v .lk (a .node) (a .level)) 0) _ _
       (λ x. take-confirm v u I room p (λ b. stage.Insert (ins.Seek b)) 1 1 0 (λ h b. refl)
       (omega arith) (λ h. omega arith) (own .0) (own .1) refl a e (eqb-true _ _ x))
@@ -115,7 +115,7 @@ module _ (v : View) (u : ℕ → ℕ → ℕ) (I : Inv v u) (H : NodeHeld v) (ro
   insert-seek (seek.Confirm a) e =
       let own = insert-own (ins.Seek (seek.Confirm a)) e (omega arith) refl in
       cond-cases (λ r. Inv
-      (carried v p (insertSought (sight v (v .pr p) (key v (v .pr p .own)) a) r)) u) (before a) _ _
+      (carried v p (insertSought (view v (v .pr p) (key v (v .pr p .own)) a) r)) u) (before a) _ _
       (λ x. confirm-release v u I room p (λ b. stage.Insert (ins.Seek b)) 1 1 0 (λ h b. refl)
       (omega arith) (λ h. omega arith) (own .0) (own .1) refl a e (ltb-true _ _ x))
       (λ x. InsertSteps.insert-done v u I room p a e (ltb-false _ _ x))
@@ -128,13 +128,13 @@ module _ (v : View) (u : ℕ → ℕ → ℕ) (I : Inv v u) (H : NodeHeld v) (ro
   delete-search job a e =
       let own = remove-own job (rem.Search a) e (omega arith) refl in
       cond-cases (λ r. Inv
-      (carried v p (removalSearched job (sight v (v .pr p) (key v (v .pr p .own)) a) a r)) u)
+      (carried v p (removalSearched job (view v (v .pr p) (key v (v .pr p .own)) a) a r)) u)
       (before a) _ _
       (λ x. search-ahead v u I room p (λ b. stage.Removal job (rem.Search b)) 3 0
       (v .ht (v .pr p .own)) 0 (key v (v .pr p .own)) (λ b. refl) (omega arith)
       (λ h. absurd (omega arith)) (own-high (own .0) (own .1)) refl a e (ltb-true _ _ x))
       (λ x. cond-cases
-      (λ r. Inv (carried v p (removalSearched job (sight v (v .pr p) (key v (v .pr p .own)) a) a r))
+      (λ r. Inv (carried v p (removalSearched job (view v (v .pr p) (key v (v .pr p .own)) a) a r))
       u) (leb (a .level) 1) _ _
       (λ y. RemovalSteps.delete-left v u I room p job a e (leb-true _ _ y))
       (λ y. search-down v u I room p (λ b. stage.Removal job (rem.Search b)) 3 0
@@ -146,7 +146,7 @@ module _ (v : View) (u : ℕ → ℕ → ℕ) (I : Inv v u) (H : NodeHeld v) (ro
   delete-seek job (seek.Approach a) e =
       let own = remove-own job (rem.Seek (seek.Approach a)) e (omega arith) refl in
       cond-cases (λ r. Inv
-      (carried v p (removalSought job (sight v (v .pr p) (key v (v .pr p .own)) a) r)) u)
+      (carried v p (removalSought job (view v (v .pr p) (key v (v .pr p .own)) a) r)) u)
       (before a) _ _
       (λ x. approach-ahead v u I room p (λ b. stage.Removal job (rem.Seek b)) 3 0 1 (λ h b. refl)
       (omega arith) (λ h. omega arith) (own .0) (own .1) refl a e (ltb-true _ _ x))
@@ -155,7 +155,7 @@ module _ (v : View) (u : ℕ → ℕ → ℕ) (I : Inv v u) (H : NodeHeld v) (ro
   delete-seek job (seek.Take a) e =
       let own = remove-own job (rem.Seek (seek.Take a)) e (omega arith) refl in
       cond-cases (λ r. Inv
-      (carried v p (removalSought job (sight v (v .pr p) (key v (v .pr p .own)) a) r)) u)
+      (carried v p (removalSought job (view v (v .pr p) (key v (v .pr p .own)) a) r)) u)
       (eqb (v .lk (a .node) (a .level)) 0) _ _
       (λ x. take-confirm v u I room p (λ b. stage.Removal job (rem.Seek b)) 3 0 1 (λ h b. refl)
       (omega arith) (λ h. omega arith) (own .0) (own .1) refl a e (eqb-true _ _ x))
@@ -164,7 +164,7 @@ module _ (v : View) (u : ℕ → ℕ → ℕ) (I : Inv v u) (H : NodeHeld v) (ro
   delete-seek job (seek.Confirm a) e =
       let own = remove-own job (rem.Seek (seek.Confirm a)) e (omega arith) refl in
       cond-cases (λ r. Inv
-      (carried v p (removalSought job (sight v (v .pr p) (key v (v .pr p .own)) a) r)) u)
+      (carried v p (removalSought job (view v (v .pr p) (key v (v .pr p .own)) a) r)) u)
       (before a) _ _
       (λ x. confirm-release v u I room p (λ b. stage.Removal job (rem.Seek b)) 3 0 1 (λ h b. refl)
       (omega arith) (λ h. omega arith) (own .0) (own .1) refl a e (ltb-true _ _ x))
@@ -177,28 +177,28 @@ module _ (v : View) (u : ℕ → ℕ → ℕ) (I : Inv v u) (H : NodeHeld v) (ro
   insert-freed : (a : Place) → v .pr p .stage ≡ stage.Insert (ins.FreeLevel a) → Kept (stage.Insert (ins.FreeLevel a))
   insert-freed a e = cond-cases (λ d. Inv (carried v p d) u) (ltb (a .level) (v .ht (v .pr p .own))) _ _ (λ x. InsertSteps.insert-up v u I room p a e (ltb-true _ _ x)) (λ x. InsertSteps.insert-top v u I room p a e (ltb-false _ _ x))
 
-  walk : (a : Place) → v .pr p .stage ≡ stage.Delete (del.Next a) → Kept (stage.Delete (del.Next a))
+  walk : (a : Place) → v .pr p .stage ≡ stage.Delete (del.ReadNext a) → Kept (stage.Delete (del.ReadNext a))
   walk a e = cond-cases (λ d. Inv (carried v p d) u) (eqb (v .fwd (a .node) 1) (tail v)) _ _
-      (λ x. WalkSteps.ownless-ends v u I room p (stage.Delete (del.Next a)) e refl refl)
-      (λ x. WalkSteps.walk-on v u I room p (stage.Delete (del.Next a)) e 2 0 a refl H refl
-      (eqb-false _ _ x) (stage.Delete (del.Stamped _)) 0 (omega arith) (λ k. absurd (omega arith))
+      (λ x. WalkSteps.ownless-ends v u I room p (stage.Delete (del.ReadNext a)) e refl refl)
+      (λ x. WalkSteps.walk-on v u I room p (stage.Delete (del.ReadNext a)) e 2 0 a refl H refl
+      (eqb-false _ _ x) (stage.Delete (del.TestStamp _)) 0 (omega arith) (λ k. absurd (omega arith))
       refl)
 
-  stamp : (a : Place) → v .pr p .stage ≡ stage.Delete (del.Stamped a) → Kept (stage.Delete (del.Stamped a))
+  stamp : (a : Place) → v .pr p .stage ≡ stage.Delete (del.TestStamp a) → Kept (stage.Delete (del.TestStamp a))
   stamp a e = cond-cases (λ d. Inv (carried v p d) u) (ltb (v .st (a .node)) (v .pr p .begin)) _ _
-      (λ x. WalkSteps.stamp-early v u I room p (stage.Delete (del.Stamped a)) e 1 0 a refl refl
-      (ltb-true _ _ x) (stage.Delete (del.Mark a)) refl)
-      (λ x. WalkSteps.stamp-late v u I room p (stage.Delete (del.Stamped a)) e 1 0 a refl
-      (omega arith) (ltb-false _ _ x) (stage.Delete (del.Next a)) refl)
+      (λ x. WalkSteps.stamp-early v u I room p (stage.Delete (del.TestStamp a)) e 1 0 a refl refl
+      (ltb-true _ _ x) (stage.Delete (del.SetMark a)) refl)
+      (λ x. WalkSteps.stamp-late v u I room p (stage.Delete (del.TestStamp a)) e 1 0 a refl
+      (omega arith) (ltb-false _ _ x) (stage.Delete (del.ReadNext a)) refl)
 
   -- W3 of a walk
   mark : (s : Stage) → v .pr p .stage ≡ s →
-      (y : ℕ) (a : Place) → info (v .ht (v .pr p .own)) s ≡ walking 1 y a → 1 ≤ y →
-      (back : Stage) → info (v .ht (v .pr p .own)) back ≡ walking 2 0 a →
+      (y : ℕ) (a : Place) → info (v .ht (v .pr p .own)) s ≡ walkInfo 1 y a → 1 ≤ y →
+      (back : Stage) → info (v .ht (v .pr p .own)) back ≡ walkInfo 2 0 a →
       Inv (carried v p
       (cond (ltb 0 (v .mk (a .node)))
-      (moved (sight v (v .pr p) (key v (v .pr p .own)) (place (a .node) 1)) eff.Keep back)
-      (marking jobs.Deliver (sight v (v .pr p) (key v (v .pr p .own)) (place (a .node) 1)) a))) u
+      (moved (view v (v .pr p) (key v (v .pr p .own)) (place (a .node) 1)) eff.Keep back)
+      (marking jobs.Deliver (view v (v .pr p) (key v (v .pr p .own)) (place (a .node) 1)) a))) u
   mark s e y a is y≥ back to = cond-cases (λ d. Inv (carried v p d) u) (ltb 0 (v .mk (a .node))) _ _
       (λ x. WalkSteps.mark-set v u I room p s e 1 y a is (omega arith)
       (λ h. omega (arith, ltb-true 0 (v .mk (a .node)) x)) back to)
@@ -235,16 +235,16 @@ module _ (v : View) (u : ℕ → ℕ → ℕ) (I : Inv v u) (H : NodeHeld v) (ro
   kept (stage.Insert (ins.FreeLevel a)) e b = insert-freed a e
   kept (stage.Insert ins.FreeNode) e b = InsertSteps.insert-free v u I room p e
   kept (stage.Insert ins.Stamp) e b = InsertSteps.insert-stamp v u I room p e
-  kept (stage.Delete (del.Next a)) e b = walk a e
-  kept (stage.Delete (del.Stamped a)) e b = stamp a e
-  kept (stage.Delete (del.Mark a)) e b = mark (stage.Delete (del.Mark a)) e 2 a refl (omega arith)
-      (stage.Delete (del.Next a)) refl
+  kept (stage.Delete (del.ReadNext a)) e b = walk a e
+  kept (stage.Delete (del.TestStamp a)) e b = stamp a e
+  kept (stage.Delete (del.SetMark a)) e b = mark (stage.Delete (del.SetMark a)) e 2 a refl (omega arith)
+      (stage.Delete (del.ReadNext a)) refl
   kept (stage.Removal job (rem.Search a)) e b = delete-search job a e
   kept (stage.Removal job rem.HoldNode) e b = hold-node job e
   kept (stage.Removal job (rem.Seek k)) e b = delete-seek job k e
   kept (stage.Removal job (rem.HoldOwn a)) e b = hold-own job a e
   kept (stage.Removal job (rem.Unlink a)) e b = RemovalSteps.delete-unlink v u I room p job a e
-  kept (stage.Removal job (rem.Back a)) e b = RemovalSteps.delete-back v u I room p job a e
+  kept (stage.Removal job (rem.LeadBack a)) e b = RemovalSteps.delete-back v u I room p job a e
   kept (stage.Removal job (rem.FreeOwn a)) e b = RemovalSteps.delete-free-own v u I room p job a e
   kept (stage.Removal job (rem.FreeLevel a)) e b = delete-freed job a e
   kept (stage.Removal job rem.FreeNode) e b = RemovalSteps.delete-free v u I room p job e

@@ -29,6 +29,7 @@ pub mod Concrete
 pub mod Applied
 pub mod Refine
 pub mod Choose
+pub mod Chosen
 pub mod Sound
 pub mod Backlog
 pub mod Fresh

@@ -58,9 +58,9 @@ says h (stage.Insert (ins.Link a)) = omega arith
 says h (stage.Insert (ins.FreeLevel a)) = omega arith
 says h (stage.Insert ins.FreeNode) = omega arith
 says h (stage.Insert ins.Stamp) = omega arith
-says h (stage.Delete (del.Next a)) = omega arith
-says h (stage.Delete (del.Stamped a)) = omega arith
-says h (stage.Delete (del.Mark a)) = omega arith
+says h (stage.Delete (del.ReadNext a)) = omega arith
+says h (stage.Delete (del.TestStamp a)) = omega arith
+says h (stage.Delete (del.SetMark a)) = omega arith
 says h (stage.Removal job (rem.Search a)) = omega arith
 says h (stage.Removal job rem.HoldNode) = omega arith
 says h (stage.Removal job (rem.Seek (seek.Approach a))) = omega arith
@@ -69,7 +69,7 @@ says h (stage.Removal job (rem.Seek (seek.Confirm a))) = omega arith
 says h (stage.Removal job (rem.Seek (seek.Release a b))) = omega arith
 says h (stage.Removal job (rem.HoldOwn a)) = omega arith
 says h (stage.Removal job (rem.Unlink a)) = omega arith
-says h (stage.Removal job (rem.Back a)) = omega arith
+says h (stage.Removal job (rem.LeadBack a)) = omega arith
 says h (stage.Removal job (rem.FreeOwn a)) = omega arith
 says h (stage.Removal job (rem.FreeLevel a)) = omega arith
 says h (stage.Removal job rem.FreeNode) = omega arith
@@ -79,9 +79,9 @@ says h (stage.Removal job rem.Retire) = omega arith
 carried-read : (h : ℕ) (s : Stage) → (info h s .kind ≡ 2 → ⊥) → carried s .place ≡ readingPlace s
 carried-read h stage.Idle k = refl
 carried-read h (stage.Insert i) k = insert-reads i
-carried-read h (stage.Delete (del.Next a)) k = absurd (k refl)
-carried-read h (stage.Delete (del.Stamped a)) k = absurd (k refl)
-carried-read h (stage.Delete (del.Mark a)) k = absurd (k refl)
+carried-read h (stage.Delete (del.ReadNext a)) k = absurd (k refl)
+carried-read h (stage.Delete (del.TestStamp a)) k = absurd (k refl)
+carried-read h (stage.Delete (del.SetMark a)) k = absurd (k refl)
 carried-read h (stage.Removal job r) k = removal-reads job r
 
 -- a record with a book for which all of it holds
@@ -110,7 +110,7 @@ module _ (q : Queue) (b : Book) (S : Sound q b) (p : ℕ) where
 
   -- the view's level lock is the record's
   lock-held : (n i : ℕ) → 1 ≤ i → v .lk n i ≡ suc p → holderOf q (level n i) ≡ suc p
-  lock-held n i i≥ e = level-pos (nodeAt q n .locks) i i≥ ∙ e
+  lock-held n i i≥ e = level-pos (nodeAt q n .levelLocks) i i≥ ∙ e
 
   claimed-held : (l : Lock) → Claims c l → holderOf q l ≡ suc p
   claimed-held l (of-place x) =
@@ -135,7 +135,7 @@ module _ (q : Queue) (b : Book) (S : Sound q b) (p : ℕ) where
 locks-agree : (q : Queue) (b : Book) → Sound q b → LocksAgree q
 locks-agree q b S = record {
   claimed-is-held = claimed-held q b S;
-  held-is-claimed = λ p n i i≥ e. holds-claims q b S p (level n i) (S .held p (level n i) (sym (level-pos (nodeAt q n .locks) i i≥) ∙ e));
+  held-is-claimed = λ p n i i≥ e. holds-claims q b S p (level n i) (S .held p (level n i) (sym (level-pos (nodeAt q n .levelLocks) i i≥) ∙ e));
   node-held-is-claimed = λ p n e. holds-claims q b S p (node n) (S .held p (node n) e);
 }
 

@@ -8,14 +8,14 @@ use Rattle.record.specs.declared.stages.Stage.{Stage}
 use Rattle.rules.specs.declared.answers.Entry.{Entry}
 use Rattle.rules.specs.declared.decisions.Effect.{Effect}
 use Rattle.rules.specs.declared.decisions.Effect.the-variants as eff
-use Rattle.rules.specs.declared.decisions.Carry.{Carry}
-use Rattle.rules.specs.declared.decisions.Carry.the-variants as carry
+use Rattle.rules.specs.declared.decisions.ProcessorChange.{ProcessorChange}
+use Rattle.rules.specs.declared.decisions.ProcessorChange.the-variants as change
 use Rattle.rules.specs.declared.decisions.Decision.{Decision}
-use Rattle.rules.specs.declared.decisions.Sight.{Sight}
+use Rattle.rules.specs.declared.decisions.StepView.{StepView}
 use Rattle.rules.specs.Decide.{decide}
 use Rattle.rules.specs.Calls.{readingPlace}
 use Rattle.rules.specs.Effects.{beginAfter}
-use Rattle.laws.specs.Update.{upd}
+use Rattle.laws.specs.Update.{changedAt}
 use Rattle.rules.proofs.Put.{ever, put, save-at, clear-to}
 use Rattle.rules.proofs.View.{Pr, View, rankFor, key, tail}
 use Rattle.rules.proofs.Assemble.{ticked}
@@ -24,25 +24,25 @@ abbrev pub entryAt : View → ℕ → Entry
 entryAt v n = record { due = v .due n; item = v .item n; ticket = v .tick n }
 
 -- what a step of c at the place a reads, k being the operation's key
-abbrev pub sight : View → Pr → ℕ → Place → Sight
-sight v c k a = record {
+abbrev pub view : View → Pr → ℕ → Place → StepView
+view v c k a = record {
   own = c .own;
   height = v .ht (c .own);
-  holder = v .nl (c .own);
+  ownNodeLock = v .nl (c .own);
   next = v .fwd (a .node) (a .level);
-  before = ltb (key v (v .fwd (a .node) (a .level))) k;
-  guard = v .lk (a .node) (a .level);
-  onward = v .fwd (c .own) (a .level);
-  latch = v .lk (c .own) (a .level);
-  tail = eqb (v .fwd (a .node) (a .level)) (tail v);
-  levels = v .top;
+  nextBeforeKey = ltb (key v (v .fwd (a .node) (a .level))) k;
+  placeLock = v .lk (a .node) (a .level);
+  ownNext = v .fwd (c .own) (a .level);
+  ownLock = v .lk (c .own) (a .level);
+  nextIsTail = eqb (v .fwd (a .node) (a .level)) (tail v);
+  levelCount = v .top;
   marked = ltb 0 (v .mk (a .node));
   stamped = ltb (v .st (a .node)) (c .begin);
-  up = c .saved (a .level + 1);
-  down = c .saved (a .level - 1);
-  top = c .saved (v .ht (c .own));
-  seen = entryAt v (a .node);
-  mine = entryAt v (c .own);
+  savedAbove = c .saved (a .level + 1);
+  savedBelow = c .saved (a .level - 1);
+  savedAtHeight = c .saved (v .ht (c .own));
+  placeEntry = entryAt v (a .node);
+  ownEntry = entryAt v (c .own);
 }
 
 abbrev pub withLocks : View → (ℕ → ℕ → ℕ) → (ℕ → ℕ) → View
@@ -56,7 +56,7 @@ withStatus w mk st us = record { procs = w .procs; nodes = w .nodes; top = w .to
 
 -- the levels 1 to l of node x made w
 abbrev pub relevel : (ℕ → ℕ → ℕ) → ℕ → ℕ → ℕ → ℕ → ℕ → ℕ
-relevel f x l w = upd f x (λ i. cond (ltb 0 i && leb i l) w (f x i))
+relevel f x l w = changedAt f x (λ i. cond (ltb 0 i && leb i l) w (f x i))
 
 -- node x filled in for an Insert of processor p
 abbrev pub filled : View → ℕ → ℕ → ℕ → ℕ → ℕ → (ℕ → ℕ → ℕ) → (ℕ → ℕ → ℕ) → View
@@ -67,14 +67,14 @@ filled v p x d t h fwd lk = record {
   clock = v .clock;
   fwd = fwd;
   lk = lk;
-  nl = upd (v .nl) x (suc p);
-  mk = upd (v .mk) x 0;
-  st = upd (v .st) x ever;
-  us = upd (v .us) x 1;
-  ht = upd (v .ht) x h;
-  due = upd (v .due) x d;
-  tick = upd (v .tick) x (v .clock + 1);
-  item = upd (v .item) x t;
+  nl = changedAt (v .nl) x (suc p);
+  mk = changedAt (v .mk) x 0;
+  st = changedAt (v .st) x ever;
+  us = changedAt (v .us) x 1;
+  ht = changedAt (v .ht) x h;
+  due = changedAt (v .due) x d;
+  tick = changedAt (v .tick) x (v .clock + 1);
+  item = changedAt (v .item) x t;
   pr = v .pr;
 }
 
@@ -82,25 +82,25 @@ abbrev pub effected : View → Effect → ℕ → View
 effected v eff.Keep p = v
 effected v (eff.HoldLevel a) p = withLocks v (put (v .lk) (a .node) (a .level) (suc p)) (v .nl)
 effected v (eff.FreeLevel a) p = withLocks v (put (v .lk) (a .node) (a .level) 0) (v .nl)
-effected v (eff.Lead a x) p = withFwd v (put (v .fwd) (a .node) (a .level) x)
-effected v (eff.HoldNode x) p = withLocks v (v .lk) (upd (v .nl) x (suc p))
-effected v (eff.FreeNode x) p = withLocks v (v .lk) (upd (v .nl) x 0)
-effected v (eff.Mark x) p = withStatus v (upd (v .mk) x 1) (v .st) (v .us)
-effected v (eff.Stamp x) p = withStatus v (v .mk) (upd (v .st) x (v .clock + 1)) (v .us)
-effected v (eff.Retire x) p = withStatus v (v .mk) (v .st) (upd (v .us) x (v .clock + 1 + 2))
+effected v (eff.SetForward a x) p = withFwd v (put (v .fwd) (a .node) (a .level) x)
+effected v (eff.HoldNode x) p = withLocks v (v .lk) (changedAt (v .nl) x (suc p))
+effected v (eff.FreeNode x) p = withLocks v (v .lk) (changedAt (v .nl) x 0)
+effected v (eff.Mark x) p = withStatus v (changedAt (v .mk) x 1) (v .st) (v .us)
+effected v (eff.Stamp x) p = withStatus v (v .mk) (changedAt (v .st) x (v .clock + 1)) (v .us)
+effected v (eff.Retire x) p = withStatus v (v .mk) (v .st) (changedAt (v .us) x (v .clock + 1 + 2))
 effected v (eff.Fill x d i h) p = filled v p x d i h (relevel (v .fwd) x (v .top) (tail v)) (relevel (v .lk) x (v .top) 0)
 
-abbrev pub savedAfter : ℕ → (ℕ → ℕ) → Carry → ℕ → ℕ
-savedAfter l s carry.Keep = s
-savedAfter l s (carry.Save a) = save-at s (a .level) (a .node)
-savedAfter l s carry.Clear = clear-to l s
-savedAfter l s carry.Begin = s
+abbrev pub savedAfter : ℕ → (ℕ → ℕ) → ProcessorChange → ℕ → ℕ
+savedAfter l s change.Keep = s
+savedAfter l s (change.Save a) = save-at s (a .level) (a .node)
+savedAfter l s change.Clear = clear-to l s
+savedAfter l s change.Begin = s
 
 abbrev pub prAfter : ℕ → ℕ → Pr → Decision → Pr
-prAfter l t c d = record { begin = beginAfter t (c .begin) (d .carry); own = d .own; stage = d .stage; saved = savedAfter l (c .saved) (d .carry) }
+prAfter l t c d = record { begin = beginAfter t (c .begin) (d .change); own = d .own; stage = d .stage; saved = savedAfter l (c .saved) (d .change) }
 
 abbrev pub decision : View → ℕ → Stage → Decision
-decision v p s = decide (sight v (v .pr p) (rankFor s (key v (v .pr p .own))) (readingPlace s)) s
+decision v p s = decide (view v (v .pr p) (rankFor s (key v (v .pr p .own))) (readingPlace s)) s
 
 -- a decision applied
 abbrev pub carried : View → ℕ → Decision → View

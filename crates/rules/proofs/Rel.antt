@@ -14,24 +14,24 @@ use Rattle.rules.specs.declared.answers.Answer.the-variants as ans
 use Rattle.rules.specs.declared.decisions.Effect.{Effect}
 use Rattle.rules.specs.declared.decisions.Effect.the-variants as eff
 use Rattle.rules.specs.declared.decisions.Decision.{Decision}
-use Rattle.laws.specs.Update.{upd}
-use Rattle.laws.proofs.Updating.{upd-same, upd-other}
+use Rattle.laws.specs.Update.{changedAt}
+use Rattle.laws.proofs.Updating.{changed-same, changed-other}
 use Rattle.rules.specs.Effects.{beginAfter}
 use Rattle.rules.proofs.View.{Pr, View, info, claim}
 use Rattle.rules.proofs.Facts.{kind-any}
 use Rattle.rules.proofs.StageKinds.{kind-busy}
 use Rattle.rules.proofs.Assemble.{ticked}
 use Rattle.rules.proofs.Machine.{effected, prAfter, carried}
-use Rattle.rules.specs.Book.{Line, Open, nothing, inserting, deleting, delivering, Book, agrees, moves, feedStep}
+use Rattle.rules.specs.Book.{BookEntry, Open, nothing, inserting, walking, unlinking, Book, agrees, moves, feedStep}
 
 -- B1: what a processor has open, by its stage, its begin and its own node's ticket
 abbrev pub opensFor : Job → ℕ → Open
-opensFor jobs.Deliver t = delivering t
+opensFor jobs.Deliver t = unlinking t
 
 abbrev pub opens : Stage → ℕ → ℕ → Open
 opens stage.Idle T t = nothing
 opens (stage.Insert i) T t = inserting t
-opens (stage.Delete d) T t = deleting T
+opens (stage.Delete d) T t = walking T
 opens (stage.Removal job r) T t = opensFor job t
 
 pub opens-idle : (h : ℕ) (s : Stage) → info h s .kind ≡ 0 → (T t : ℕ) → opens s T t ≡ nothing
@@ -41,7 +41,7 @@ opens-idle h (stage.Delete d) k T t = absurd (omega (arith, kind-busy h (stage.D
 opens-idle h (stage.Removal job r) k T t =
     absurd (omega (arith, kind-busy h (stage.Removal job r) refl))
 
-abbrev pub lineOf : (ℕ → ℕ) → (ℕ → ℕ) → (ℕ → ℕ) → (ℕ → ℕ) → ℕ → Line
+abbrev pub lineOf : (ℕ → ℕ) → (ℕ → ℕ) → (ℕ → ℕ) → (ℕ → ℕ) → ℕ → BookEntry
 lineOf due item st mk n = record { written = true; due = due n; item = item n; answeredAt = st n; marked = ltb 0 (mk n); handedOut = false }
 
 -- a call that moves or waits
@@ -56,7 +56,7 @@ pub record Found (us tick : ℕ → ℕ) (nodes t : ℕ) : Type 0 where
   pub ticket : tick node ≡ t
 
 -- the book has an entry with the node's ticket, due and item
-pub record Filed (entry : ℕ → Line) (tick dues items : ℕ → ℕ) (n : ℕ) : Type 0 where
+pub record Filed (entry : ℕ → BookEntry) (tick dues items : ℕ → ℕ) (n : ℕ) : Type 0 where
   pub written : entry (tick n) .written ≡ true
   pub due : entry (tick n) .due ≡ dues n
   pub item : entry (tick n) .item ≡ items n
@@ -85,15 +85,13 @@ moving (ans.Began t) = ⊥
 moving ans.Moved = Unit {0}
 moving ans.Waits = Unit {0}
 moving ans.Empty = ⊥
-moving (ans.Marked e) = ⊥
-moving (ans.Inserted e) = ⊥
-moving (ans.HandedOut e) = ⊥
+moving (ans.Did d e) = ⊥
 
 abbrev pub quiet : Effect → Type 0
 quiet eff.Keep = Unit {0}
 quiet (eff.HoldLevel a) = Unit {0}
 quiet (eff.FreeLevel a) = Unit {0}
-quiet (eff.Lead a x) = Unit {0}
+quiet (eff.SetForward a x) = Unit {0}
 quiet (eff.HoldNode x) = Unit {0}
 quiet (eff.FreeNode x) = Unit {0}
 quiet (eff.Mark x) = ⊥
@@ -105,7 +103,7 @@ pub record Quiet (own : ℕ) (s : Stage) (d : Decision) : Type 0 where
   pub answer : moving (d .answer)
   pub effect : quiet (d .effect)
   pub own-same : d .own ≡ own
-  pub begin-same : (t begin : ℕ) → beginAfter t begin (d .carry) ≡ begin
+  pub begin-same : (t begin : ℕ) → beginAfter t begin (d .change) ≡ begin
   pub kind-same : (h : ℕ) → info h (d .stage) .kind ≡ info h s .kind
   pub opens-same : (T t : ℕ) → opens (d .stage) T t ≡ opens s T t
 
@@ -113,7 +111,7 @@ rel-effected : (v : View) (p : ℕ) (b : Book) (e : Effect) → quiet e → Rel 
 rel-effected v p b eff.Keep q R = R
 rel-effected v p b (eff.HoldLevel a) q R = record { count = R .count; opened = R .opened; kept = R .kept; found = R .found; filed = R .filed; late = R .late }
 rel-effected v p b (eff.FreeLevel a) q R = record { count = R .count; opened = R .opened; kept = R .kept; found = R .found; filed = R .filed; late = R .late }
-rel-effected v p b (eff.Lead a x) q R = record { count = R .count; opened = R .opened; kept = R .kept; found = R .found; filed = R .filed; late = R .late }
+rel-effected v p b (eff.SetForward a x) q R = record { count = R .count; opened = R .opened; kept = R .kept; found = R .found; filed = R .filed; late = R .late }
 rel-effected v p b (eff.HoldNode x) q R = record { count = R .count; opened = R .opened; kept = R .kept; found = R .found; filed = R .filed; late = R .late }
 rel-effected v p b (eff.FreeNode x) q R = record { count = R .count; opened = R .opened; kept = R .kept; found = R .found; filed = R .filed; late = R .late }
 rel-effected v p b (eff.Mark x) q R = absurd q
@@ -125,7 +123,7 @@ pub pr-same : (v : View) (p : ℕ) (e : Effect) → effected v e p .pr ≡ v .pr
 pr-same v p eff.Keep = refl
 pr-same v p (eff.HoldLevel a) = refl
 pr-same v p (eff.FreeLevel a) = refl
-pr-same v p (eff.Lead a x) = refl
+pr-same v p (eff.SetForward a x) = refl
 pr-same v p (eff.HoldNode x) = refl
 pr-same v p (eff.FreeNode x) = refl
 pr-same v p (eff.Mark x) = refl
@@ -137,7 +135,7 @@ pub procs-same : (v : View) (p : ℕ) (e : Effect) → effected v e p .procs ≡
 procs-same v p eff.Keep = refl
 procs-same v p (eff.HoldLevel a) = refl
 procs-same v p (eff.FreeLevel a) = refl
-procs-same v p (eff.Lead a x) = refl
+procs-same v p (eff.SetForward a x) = refl
 procs-same v p (eff.HoldNode x) = refl
 procs-same v p (eff.FreeNode x) = refl
 procs-same v p (eff.Mark x) = refl
@@ -156,20 +154,20 @@ rel-ticked : (w : View) (b : Book) (p : ℕ) (c : Pr) → Rel w b → c .begin �
 rel-ticked w b p c R began own kind same =
     record { count = omega (arith, R .count); opened = λ q. opened q (ℕ-discrete q p); kept = R .kept; found = R .found; filed = λ q. filed q (ℕ-discrete q p); late = λ t w. still-past (R .late t w) }
   where
-    filed : (q : ℕ) → Dec (q ≡ p) → claim (ticked w p c) q .kind ≡ 1 → Filed (b .entry) (w .tick) (w .due) (w .item) (upd (w .pr) p c q .own)
-    filed q (yes e) = rw (e, upd-same (w .pr) p c) λ k. subst (λ (n : ℕ). Filed (b .entry) (w .tick) (w .due) (w .item) n) (sym own) (R .filed p (sym kind ∙ k))
-    filed q (no d) = rw (upd-other (w .pr) p c q d) (R .filed q)
+    filed : (q : ℕ) → Dec (q ≡ p) → claim (ticked w p c) q .kind ≡ 1 → Filed (b .entry) (w .tick) (w .due) (w .item) (changedAt (w .pr) p c q .own)
+    filed q (yes e) = rw (e, changed-same (w .pr) p c) λ k. subst (λ (n : ℕ). Filed (b .entry) (w .tick) (w .due) (w .item) n) (sym own) (R .filed p (sym kind ∙ k))
+    filed q (no d) = rw (changed-other (w .pr) p c q d) (R .filed q)
 
     opened : (q : ℕ) → Dec (q ≡ p) →
-        b .opened q ≡ opens (upd (w .pr) p c q .stage) (upd (w .pr) p c q .begin)
-        (w .tick (upd (w .pr) p c q .own))
+        b .opened q ≡ opens (changedAt (w .pr) p c q .stage) (changedAt (w .pr) p c q .begin)
+        (w .tick (changedAt (w .pr) p c q .own))
     opened q (yes e) =
-        rw (e, upd-same (w .pr) p c)
+        rw (e, changed-same (w .pr) p c)
         (R .opened p
         ∙ sym (same (c .begin) (w .tick (c .own))
         ∙ ap (λ (k : ℕ). opens (w .pr p .stage) k (w .tick (c .own))) began
         ∙ ap (λ (k : ℕ). opens (w .pr p .stage) (w .pr p .begin) (w .tick k)) own))
-    opened q (no d) = rw (upd-other (w .pr) p c q d) (R .opened q)
+    opened q (no d) = rw (changed-other (w .pr) p c q d) (R .opened q)
 
 moves-busy : (b : Book) (h : ℕ) (k : Stage) (T t : ℕ) → 1 ≤ info h k .kind →
     moves b (opens k T t) ≡ agrees (counted b)
@@ -185,9 +183,7 @@ fed-moving b p h k T t k≥ e (ans.Began n) m = absurd m
 fed-moving b p h k T t k≥ e ans.Moved m = rw e (moves-busy b h k T t k≥)
 fed-moving b p h k T t k≥ e ans.Waits m = rw e (moves-busy b h k T t k≥)
 fed-moving b p h k T t k≥ e ans.Empty m = absurd m
-fed-moving b p h k T t k≥ e (ans.Marked x) m = absurd m
-fed-moving b p h k T t k≥ e (ans.Inserted x) m = absurd m
-fed-moving b p h k T t k≥ e (ans.HandedOut x) m = absurd m
+fed-moving b p h k T t k≥ e (ans.Did d x) m = absurd m
 
 pub quiet-booked : (v : View) (p : ℕ) (b : Book) (d : Decision) → Rel v b → 1 ≤ claim v p .kind →
     Quiet (v .pr p .own) (v .pr p .stage) d → Booked v p b d

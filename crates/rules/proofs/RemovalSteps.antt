@@ -11,8 +11,8 @@ use Rattle.record.specs.declared.stages.Removal.the-variants as rem
 use Rattle.record.specs.declared.stages.Job.{Job}
 use Rattle.record.specs.declared.stages.Stage.the-variants as stage
 use Rattle.record.specs.Stages.{place}
-use Rattle.laws.specs.Update.{upd}
-use Rattle.laws.proofs.Updating.{upd-same, upd-other}
+use Rattle.laws.specs.Update.{changedAt}
+use Rattle.laws.proofs.Updating.{changed-same, changed-other}
 use Rattle.rules.proofs.Put.{ever, put, put-same, put-other, save-at}
 use Rattle.rules.proofs.View.{View, claim, key, tail}
 use Rattle.rules.proofs.Inv.{Back, Inv, removing}
@@ -38,7 +38,7 @@ module _ (v : View) (u : ℕ → ℕ → ℕ) (I : Inv v u) (room : v .clock + 1
       let s = stage.Removal job (rem.Search a) in
       let B = busy-at v u I p s e (omega arith) in
       let S = B .removes refl in
-      let G = head-readable v u I (v .pr p .begin) (key v (v .pr p .own)) 1 (I .core .levels) (omega (arith, B .begun-by)) (I .core .ends .keys (v .pr p .own) (S .low) (omega (arith, S .high)) .0) in
+      let G = head-readable v u I (v .pr p .begin) (key v (v .pr p .own)) 1 (I .core .levelCount) (omega (arith, B .begun-by)) (I .core .ends .keys (v .pr p .own) (S .low) (omega (arith, S .high)) .0) in
       lock-step v u I room p s e (omega arith) (stage.Removal job rem.HoldNode) (v .lk)
       (save-at (v .pr p .saved) (a .level) (a .node))
       (λ h. omega arith) (λ q n i ne h. h) refl (λ h. omega arith) (λ k h. omega arith)
@@ -46,7 +46,7 @@ module _ (v : View) (u : ℕ → ℕ → ℕ) (I : Inv v u) (room : v .clock + 1
         begun = B .begun;
         begun-by = omega (arith, B .begun-by);
         low = omega arith;
-        high = I .core .levels;
+        high = I .core .levelCount;
         place = G;
         read = G;
         saved = λ j f j≥ j≤. saved-more u (key v) (tail v) (v .top) (v .pr p .begin) _ (v .pr p .saved) (a .node) (a .level) (B .low) (B .place) (B .saved) j (omega arith) j≥ j≤;
@@ -86,7 +86,7 @@ module _ (v : View) (u : ℕ → ℕ → ℕ) (I : Inv v u) (room : v .clock + 1
       })
 
   pub node-held : v .pr p .stage ≡ stage.Removal job rem.HoldNode → v .nl (v .pr p .own) ≡ 0 →
-      Inv (ticked (withLocks v (v .lk) (upd (v .nl) (v .pr p .own) (suc p))) p
+      Inv (ticked (withLocks v (v .lk) (changedAt (v .nl) (v .pr p .own) (suc p))) p
       (staged (v .pr p)
       (stage.Removal job
       (rem.Seek (seek.Approach
@@ -102,9 +102,9 @@ module _ (v : View) (u : ℕ → ℕ → ℕ) (I : Inv v u) (room : v .clock + 1
       (stage.Removal job
       (rem.Seek (seek.Approach
       (place (v .pr p .saved (v .ht (v .pr p .own))) (v .ht (v .pr p .own))))))) (v .lk)
-      (upd (v .nl) (v .pr p .own) (suc p))
+      (changedAt (v .nl) (v .pr p .own) (suc p))
       (λ n n≥ n< z f. absurd (f (taken n z (ℕ-discrete n (v .pr p .own))))) (omega (arith, kind-at v u I p s e)) (λ b. refl)
-      (λ h. omega (arith, nx-at v u I p s e)) (λ q n i ne h. h) (λ q n ne h. rw (upd-other (v .nl) (v .pr p .own) (suc p) n (λ f. omega (arith, (rw f at h)))) h)
+      (λ h. omega (arith, nx-at v u I p s e)) (λ q n i ne h. h) (λ q n ne h. rw (changed-other (v .nl) (v .pr p .own) (suc p) n (λ f. omega (arith, (rw f at h)))) h)
       (λ q ne k t z f. absurd (f (taken (v .pr q .own) z (ℕ-discrete (v .pr q .own) (v .pr p .own)))))
       (λ b. record {
         begun = B .begun;
@@ -116,7 +116,7 @@ module _ (v : View) (u : ℕ → ℕ → ℕ) (I : Inv v u) (room : v .clock + 1
         saved = B .saved;
         holds-place = λ h. absurd (omega arith);
         holds-own = λ h. absurd (omega arith);
-        holds-node = λ h. upd-same (v .nl) (v .pr p .own) (suc p);
+        holds-node = λ h. changed-same (v .nl) (v .pr p .own) (suc p);
         near = near-none _ _ _ _ _ _;
         inserts = λ h. absurd (omega arith);
         within = λ h. omega arith;
@@ -125,16 +125,16 @@ module _ (v : View) (u : ℕ → ℕ → ℕ) (I : Inv v u) (room : v .clock + 1
       })
       (λ x. (sym (kind-at v u I p s e), refl))
       -- an Insert of the same node that still held its node lock would hold this one
-      (yields-new (withLocks v (v .lk) (upd (v .nl) (v .pr p .own) (suc p))) u p
+      (yields-new (withLocks v (v .lk) (changedAt (v .nl) (v .pr p .own) (suc p))) u p
       (staged (v .pr p)
       (stage.Removal job
       (rem.Seek (seek.Approach
       (place (v .pr p .saved (v .ht (v .pr p .own))) (v .ht (v .pr p .own))))))) (I .yields)
       (λ h t q ne k o. unheld q k o (ℕ-discrete (claim v q .hn) 1)) (λ h. absurd (omega arith)))
     where
-      taken : (n : ℕ) → upd (v .nl) (v .pr p .own) (suc p) n ≡ 0 → Dec (n ≡ v .pr p .own) → v .nl n ≡ 0
-      taken n z (yes g) = absurd (omega (arith, upd-same (v .nl) (v .pr p .own) (suc p), (rw g at z)))
-      taken n z (no d) = sym (upd-other (v .nl) (v .pr p .own) (suc p) n d) ∙ z
+      taken : (n : ℕ) → changedAt (v .nl) (v .pr p .own) (suc p) n ≡ 0 → Dec (n ≡ v .pr p .own) → v .nl n ≡ 0
+      taken n z (yes g) = absurd (omega (arith, changed-same (v .nl) (v .pr p .own) (suc p), (rw g at z)))
+      taken n z (no d) = sym (changed-other (v .nl) (v .pr p .own) (suc p) n d) ∙ z
 
       unheld : (q : ℕ) → claim v q .kind ≡ 1 → v .pr p .own ≡ v .pr q .own → Dec (claim v q .hn ≡ 1) → claim v q .hn ≡ 0
       unheld q k o (yes h) = absurd (omega (arith, free, (rw (sym o) at (I .busy q (omega arith) .holds-node h))))
@@ -231,7 +231,7 @@ module _ (v : View) (u : ℕ → ℕ → ℕ) (I : Inv v u) (room : v .clock + 1
   -- L3
   pub delete-unlink : (a : Place) → v .pr p .stage ≡ stage.Removal job (rem.Unlink a) →
       Inv (ticked (withFwd v (put (v .fwd) (a .node) (a .level) (v .fwd (v .pr p .own) (a .level))))
-      p (staged (v .pr p) (stage.Removal job (rem.Back a))))
+      p (staged (v .pr p) (stage.Removal job (rem.LeadBack a))))
       (put u (v .pr p .own) (a .level) (v .clock + 1))
   delete-unlink a e =
       let s = stage.Removal job (rem.Unlink a) in
@@ -239,7 +239,7 @@ module _ (v : View) (u : ℕ → ℕ → ℕ) (I : Inv v u) (room : v .clock + 1
       let i = a .level in
       let x = v .fwd o i in
       let t = v .clock + 1 in
-      let c′ = staged (v .pr p) (stage.Removal job (rem.Back a)) in
+      let c′ = staged (v .pr p) (stage.Removal job (rem.LeadBack a)) in
       let B = busy-at v u I p s e (omega arith) in
       let S = B .removes refl in
       let on = B .near .on (omega arith) in
@@ -249,7 +249,7 @@ module _ (v : View) (u : ℕ → ℕ → ℕ) (I : Inv v u) (room : v .clock + 1
       let o≢a : (o ≡ a .node → ⊥) = λ f. omega (arith, B .place .before, (rw f at (B .place .before))) in
       let at-a = put-same (v .fwd) (a .node) i x in
       let at-o = put-other (v .fwd) (a .node) i x o i (λ f g. o≢a f) in
-      let is = upd-same (v .pr) p c′ in
+      let is = changed-same (v .pr) p c′ in
       place-lead v u I room p c′ (a .node) o i x t
       (B .low) (S .low) (S .high) (S .used) (omega (arith, kind-at v u I p s e)) (removing (kind-at v u I p s e) (past-at v u I p s e)) refl on
       (λ h. omega (arith, nx-at v u I p s e)) (B .holds-place refl) (B .within refl) (λ j j≥ lt. S .linked refl j j≥ (omega arith))
@@ -291,7 +291,7 @@ module _ (v : View) (u : ℕ → ℕ → ℕ) (I : Inv v u) (room : v .clock + 1
         walks = λ h. absurd (omega arith);
       })
       (λ b. (sym (kind-at v u I p s e), refl))
-      (yielding v u I room p s e (omega arith) (stage.Removal job (rem.Back a)) (v .lk) (v .nl)
+      (yielding v u I room p s e (omega arith) (stage.Removal job (rem.LeadBack a)) (v .lk) (v .nl)
       (v .pr p .saved) refl (λ h. omega arith) (λ k h. omega arith))
     where
       off-from : (j : ℕ) → Dec (j ≡ a .level) → ((j ≡ a .level → ⊥) → u (v .pr p .own) j < ever) → put u (v .pr p .own) (a .level) (v .clock + 1) (v .pr p .own) j < ever
@@ -299,11 +299,11 @@ module _ (v : View) (u : ℕ → ℕ → ℕ) (I : Inv v u) (room : v .clock + 1
       off-from j (no d) k = rw (put-other u (v .pr p .own) (a .level) (v .clock + 1) (v .pr p .own) j (λ f g. d g)) (k d)
 
   -- L4
-  pub delete-back : (a : Place) → v .pr p .stage ≡ stage.Removal job (rem.Back a) →
+  pub delete-back : (a : Place) → v .pr p .stage ≡ stage.Removal job (rem.LeadBack a) →
       Inv (ticked (withFwd v (put (v .fwd) (v .pr p .own) (a .level) (a .node))) p
       (staged (v .pr p) (stage.Removal job (rem.FreeOwn a)))) u
   delete-back a e =
-      let s = stage.Removal job (rem.Back a) in
+      let s = stage.Removal job (rem.LeadBack a) in
       let o = v .pr p .own in
       let B = busy-at v u I p s e (omega arith) in
       let S = B .removes refl in
@@ -404,7 +404,7 @@ module _ (v : View) (u : ℕ → ℕ → ℕ) (I : Inv v u) (room : v .clock + 1
       let s = stage.Removal job (rem.FreeLevel a) in
       let B = busy-at v u I p s e (omega arith) in
       let S = B .removes refl in
-      let G = head-readable v u I (v .pr p .begin) (key v (v .pr p .own)) 1 (I .core .levels) (omega (arith, B .begun-by)) (I .core .ends .keys (v .pr p .own) (S .low) (omega (arith, S .high)) .0) in
+      let G = head-readable v u I (v .pr p .begin) (key v (v .pr p .own)) 1 (I .core .levelCount) (omega (arith, B .begun-by)) (I .core .ends .keys (v .pr p .own) (S .low) (omega (arith, S .high)) .0) in
       lock-step v u I room p s e (omega arith) (stage.Removal job rem.FreeNode) _ (v .pr p .saved)
       (λ h. omega arith)
       (lock-kept (v .lk) p (a .node) (a .level) 0 (B .holds-place refl)) refl (λ h. omega arith) (λ k h. omega arith)
@@ -412,7 +412,7 @@ module _ (v : View) (u : ℕ → ℕ → ℕ) (I : Inv v u) (room : v .clock + 1
         begun = B .begun;
         begun-by = omega (arith, B .begun-by);
         low = omega arith;
-        high = I .core .levels;
+        high = I .core .levelCount;
         place = G;
         read = G;
         saved = λ j f j≥ j≤. absurd (omega (arith, I .core .levels-high));
@@ -428,7 +428,7 @@ module _ (v : View) (u : ℕ → ℕ → ℕ) (I : Inv v u) (room : v .clock + 1
 
   -- L7
   pub delete-free : v .pr p .stage ≡ stage.Removal job rem.FreeNode →
-      Inv (ticked (withLocks v (v .lk) (upd (v .nl) (v .pr p .own) 0)) p
+      Inv (ticked (withLocks v (v .lk) (changedAt (v .nl) (v .pr p .own) 0)) p
       (staged (v .pr p) (stage.Removal job rem.Retire))) u
   delete-free e =
       let s = stage.Removal job rem.FreeNode in
@@ -437,9 +437,9 @@ module _ (v : View) (u : ℕ → ℕ → ℕ) (I : Inv v u) (room : v .clock + 1
       let held = B .holds-node refl in
       let k = kind-at v u I p s e in
       locked v u I room p (staged (v .pr p) (stage.Removal job rem.Retire)) (v .lk)
-      (upd (v .nl) (v .pr p .own) 0)
+      (changedAt (v .nl) (v .pr p .own) 0)
       (λ n n≥ n< z f x y. absurd (freed-marked (S .marked) n z f y (ℕ-discrete n (v .pr p .own)))) (omega (arith, kind-at v u I p s e)) (λ b. refl)
-      (λ h. omega (arith, nx-at v u I p s e)) (λ q n i ne h. h) (λ q n ne h. rw (upd-other (v .nl) (v .pr p .own) 0 n (λ f. ne (omega (arith, (rw f at h))))) h)
+      (λ h. omega (arith, nx-at v u I p s e)) (λ q n i ne h. h) (λ q n ne h. rw (changed-other (v .nl) (v .pr p .own) 0 n (λ f. ne (omega (arith, (rw f at h))))) h)
       (λ q ne kq t z f. absurd (freed-own q z f (λ o. ne (I .one q p (omega arith) (omega arith) (λ x. omega arith) o)) (ℕ-discrete (v .pr q .own) (v .pr p .own))))
       (λ b. record {
         begun = B .begun;
@@ -460,22 +460,22 @@ module _ (v : View) (u : ℕ → ℕ → ℕ) (I : Inv v u) (room : v .clock + 1
       })
       (λ x. (sym (kind-at v u I p s e), refl))
       (yielding v u I room p s e (omega arith) (stage.Removal job rem.Retire) (v .lk)
-      (upd (v .nl) (v .pr p .own) 0) (v .pr p .saved) refl (λ h. omega arith) (λ k h. omega arith))
+      (changedAt (v .nl) (v .pr p .own) 0) (v .pr p .saved) refl (λ h. omega arith) (λ k h. omega arith))
     where
-      was-free : (n : ℕ) → upd (v .nl) (v .pr p .own) 0 n ≡ 0 → (n ≡ v .pr p .own → ⊥) → v .nl n ≡ 0
-      was-free n z d = sym (upd-other (v .nl) (v .pr p .own) 0 n d) ∙ z
+      was-free : (n : ℕ) → changedAt (v .nl) (v .pr p .own) 0 n ≡ 0 → (n ≡ v .pr p .own → ⊥) → v .nl n ≡ 0
+      was-free n z d = sym (changed-other (v .nl) (v .pr p .own) 0 n d) ∙ z
 
-      freed-marked : 1 ≤ v .mk (v .pr p .own) → (n : ℕ) → upd (v .nl) (v .pr p .own) 0 n ≡ 0 → (v .nl n ≡ 0 → ⊥) → v .mk n ≡ 0 → Dec (n ≡ v .pr p .own) → ⊥
+      freed-marked : 1 ≤ v .mk (v .pr p .own) → (n : ℕ) → changedAt (v .nl) (v .pr p .own) 0 n ≡ 0 → (v .nl n ≡ 0 → ⊥) → v .mk n ≡ 0 → Dec (n ≡ v .pr p .own) → ⊥
       freed-marked m n z f y (yes g) = omega (arith, (rw g at y))
       freed-marked m n z f y (no d) = f (was-free n z d)
 
-      freed-own : (q : ℕ) → upd (v .nl) (v .pr p .own) 0 (v .pr q .own) ≡ 0 → (v .nl (v .pr q .own) ≡ 0 → ⊥) → (v .pr q .own ≡ v .pr p .own → ⊥) → Dec (v .pr q .own ≡ v .pr p .own) → ⊥
+      freed-own : (q : ℕ) → changedAt (v .nl) (v .pr p .own) 0 (v .pr q .own) ≡ 0 → (v .nl (v .pr q .own) ≡ 0 → ⊥) → (v .pr q .own ≡ v .pr p .own → ⊥) → Dec (v .pr q .own ≡ v .pr p .own) → ⊥
       freed-own q z f g (yes o) = g o
       freed-own q z f g (no d) = f (was-free (v .pr q .own) z d)
 
   -- L8
   pub delete-retire : v .pr p .stage ≡ stage.Removal job rem.Retire →
-      Inv (ticked (withStatus v (v .mk) (v .st) (upd (v .us) (v .pr p .own) (v .clock + 1 + 2))) p (idle (v .top) (v .pr p))) u
+      Inv (ticked (withStatus v (v .mk) (v .st) (changedAt (v .us) (v .pr p .own) (v .clock + 1 + 2))) p (idle (v .top) (v .pr p))) u
   delete-retire e =
       let s = stage.Removal job rem.Retire in
       let o = v .pr p .own in
@@ -483,10 +483,10 @@ module _ (v : View) (u : ℕ → ℕ → ℕ) (I : Inv v u) (room : v .clock + 1
       let S = B .removes refl in
       let E = I .core .entered o (S .low) (omega (arith, S .high)) in
       let k = kind-at v u I p s e in
-      let same = upd-same (v .us) o (v .clock + 1 + 2) in
-      restate v u I room p (idle (v .top) (v .pr p)) (v .mk) (v .st) (upd (v .us) o (v .clock + 1 + 2)) o
+      let same = changed-same (v .us) o (v .clock + 1 + 2) in
+      restate v u I room p (idle (v .top) (v .pr p)) (v .mk) (v .st) (changedAt (v .us) o (v .clock + 1 + 2)) o
       (omega arith) (λ b. absurd (omega arith)) (λ h. omega (arith, nx-at v u I p s e)) (S .low) (S .high)
-      (λ n d. refl) (λ n d. refl) (λ n d. upd-other (v .us) o (v .clock + 1 + 2) n d) (λ h. omega (arith, S .used))
+      (λ n d. refl) (λ n d. refl) (λ n d. changed-other (v .us) o (v .clock + 1 + 2) n d) (λ h. omega (arith, S .used))
       (record {
         low-height = E .low-height;
         high-height = E .high-height;
@@ -505,5 +505,5 @@ module _ (v : View) (u : ℕ → ℕ → ℕ) (I : Inv v u) (room : v .clock + 1
       (λ q b L. absurd (omega (arith, S .marked, L .unmarked)))
       (λ q b lt. lt)
       (λ b. absurd (omega arith))
-      (one-kept (withStatus v (v .mk) (v .st) (upd (v .us) o (v .clock + 1 + 2))) u p (idle (v .top) (v .pr p)) (I .one) (λ b. absurd (omega arith)))
-      (yields-kept (withStatus v (v .mk) (v .st) (upd (v .us) o (v .clock + 1 + 2))) u p (idle (v .top) (v .pr p)) (I .yields) (λ b. absurd (omega arith)) (λ h. absurd (omega arith)) (λ x h. absurd (omega arith)))
+      (one-kept (withStatus v (v .mk) (v .st) (changedAt (v .us) o (v .clock + 1 + 2))) u p (idle (v .top) (v .pr p)) (I .one) (λ b. absurd (omega arith)))
+      (yields-kept (withStatus v (v .mk) (v .st) (changedAt (v .us) o (v .clock + 1 + 2))) u p (idle (v .top) (v .pr p)) (I .yields) (λ b. absurd (omega arith)) (λ h. absurd (omega arith)) (λ x h. absurd (omega arith)))

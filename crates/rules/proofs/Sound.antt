@@ -7,8 +7,8 @@ use native.Mathlib.Decide.{decLe, decLt, ℕ-discrete}
 use lib.Dec.{ltb}
 use lib.Seq.{getD-set-other}
 use borrow.Author.Tests.{ltb-false, eqb-false, eq-eqb}
-use Rattle.laws.specs.Update.{upd}
-use Rattle.laws.proofs.Updating.{upd-other}
+use Rattle.laws.specs.Update.{changedAt}
+use Rattle.laws.proofs.Updating.{changed-other}
 use Rattle.record.specs.declared.queues.Queue.{Queue}
 use Rattle.record.specs.Queues.{processorAt, freshProcessor}
 use Rattle.record.specs.Stages.{place, isIdle}
@@ -16,24 +16,24 @@ use Rattle.record.specs.declared.stages.Delete.the-variants as del
 use Rattle.record.specs.declared.stages.Stage.{Stage}
 use Rattle.record.specs.declared.stages.Stage.the-variants as stage
 use Rattle.rules.specs.declared.decisions.Effect.the-variants as eff
-use Rattle.rules.specs.declared.decisions.Carry.the-variants as carry
+use Rattle.rules.specs.declared.decisions.ProcessorChange.the-variants as change
 use Rattle.rules.specs.declared.answers.Answer.{Answer}
 use Rattle.rules.specs.declared.answers.Answer.the-variants as ans
 use Rattle.rules.specs.declared.answers.Outcome.{Outcome}
 use Rattle.rules.specs.declared.decisions.Decision.{Decision}
 use Rattle.rules.specs.Answers.{refused}
-use Rattle.rules.specs.Book.{Book, Open, nothing, inserting, deleting, Verdict, agrees}
-use Rattle.rules.specs.Book.{turned, feedInsert, feedDelete, feedStep}
+use Rattle.rules.specs.Book.{Book, Open, nothing, inserting, walking, Verdict, agrees}
+use Rattle.rules.specs.Book.{afterCall, feedInsert, feedDelete, feedStep}
 use Rattle.rules.specs.declared.calls.Call.{Call}
 use Rattle.rules.specs.declared.calls.Call.the-variants as call
 use Rattle.rules.specs.Calls.{stepDecision, insertDecision, decisionOf, processorOf}
-use Rattle.rules.specs.Calls.{called, beginInsert, beginDelete, step}
+use Rattle.rules.specs.Calls.{called, beginInsert, beginDeleteMin, step}
 use Rattle.rules.proofs.Allowed.{Allowed, of-call, idle-begins, busy-steps, Numbers, numbers}
 use Rattle.rules.specs.Choice.{chosen}
 use Rattle.rules.specs.Effects.{accepted, processorAfter}
 use Rattle.rules.specs.Runs.{after}
 use Rattle.rules.proofs.Put.{ever}
-use Rattle.rules.proofs.View.{View, Info, info, walking, claim, tail}
+use Rattle.rules.proofs.View.{View, Info, info, walkInfo, claim, tail}
 use Rattle.rules.proofs.Inv.{Inv}
 use Rattle.rules.proofs.Machine.{carried, decision, relevel}
 use Rattle.laws.proofs.Booleans.{or-left, or-right}
@@ -59,7 +59,7 @@ pub record Sound (q : Queue) (b : Book) : Type 0 where
   pub held : Held (viewOf q)
   pub rel : Rel (viewOf q) b
   -- the processors from P on are idle
-  pub confined : (r : ℕ) → q .processors ≤ r → isIdle (processorAt q r .stage) ≡ true
+  pub confined : (r : ℕ) → q .processorCount ≤ r → isIdle (processorAt q r .stage) ≡ true
 
 -- the book agrees with the answer of an outcome, and what is kept is kept
 pub record Agrees (feeds : Answer → Verdict) (o : Outcome) : Type 0 where
@@ -75,7 +75,7 @@ module _ (q : Queue) (b : Book) (S : Sound q b) where
   refused-agrees feeds n e = record { book = b; fed = e; sound = S }
 
   -- an accepted call, by what its decision does to the view
-  accepted-agrees : (feeds : Answer → Verdict) (p : ℕ) (d : Decision) (b′ : Book) (u : ℕ → ℕ → ℕ) → p < q .processors → q .clock + 1 ≤ 999999 → Reach (q .entries) d →
+  accepted-agrees : (feeds : Answer → Verdict) (p : ℕ) (d : Decision) (b′ : Book) (u : ℕ → ℕ → ℕ) → p < q .processorCount → q .clock + 1 ≤ 999999 → Reach (q .nodeCount) d →
       Passes (claim v p) (v .pr p .own) d → feeds (d .answer) ≡ agrees b′ → Inv (carried v p d) u → Rel (carried v p d) b′ → Agrees feeds (accepted q p d)
   accepted-agrees feeds p d b′ u p< t≤ R P e I rel =
       let p16 : p < 16 = omega (arith, S .sized .procs) in
@@ -89,7 +89,7 @@ module _ (q : Queue) (b : Book) (S : Sound q b) where
           inv = subst (λ (w : View). Inv w u) (sym same) I;
           held = subst Held (sym same) (held-carried v p (S .held) d P);
           rel = subst (λ (w : View). Rel w b′) (sym same) rel;
-          confined = λ r h. rw (getD-set-other (q .callers) p r (processorAfter (q .levels) (q .clock + 1) (processorAt q p) d) freshProcessor (λ g. omega arith)) (S .confined r h);
+          confined = λ r h. rw (getD-set-other (q .processors) p r (processorAfter (q .levelCount) (q .clock + 1) (processorAt q p) d) freshProcessor (λ g. omega arith)) (S .confined r h);
         };
       }
 
@@ -120,7 +120,7 @@ module _ (q : Queue) (b : Book) (S : Sound q b) where
     step-agrees = of (call.Step p) (feedStep b p) (λ n. refl)
         (λ A. busy (omega (arith, A .ticks)) (A .here) (busy-steps _ (A .turn)))
       where
-        busy : q .clock + 1 ≤ 999999 → p < q .processors → isIdle (processorAt q p .stage) ≡ false → Agrees (feedStep b p) (accepted q p (stepDecision q (processorAt q p)))
+        busy : q .clock + 1 ≤ 999999 → p < q .processorCount → isIdle (processorAt q p .stage) ≡ false → Agrees (feedStep b p) (accepted q p (stepDecision q (processorAt q p)))
         busy t≤ p< i =
             let s = processorAt q p .stage in
             let k = kind-busy (v .ht (v .pr p .own)) s i in
@@ -132,15 +132,15 @@ module _ (q : Queue) (b : Book) (S : Sound q b) where
 
     -- the begin of a walk at the stage s, after which o is open
     walk-begun : (feeds : Answer → Verdict) (s : Stage) (o : Open) →
-        info (v .ht 0) s ≡ walking 2 0 (place 0 1) → o ≡ opens s (q .clock + 1) (v .tick 0) →
+        info (v .ht 0) s ≡ walkInfo 2 0 (place 0 1) → o ≡ opens s (q .clock + 1) (v .tick 0) →
         (b .opened p ≡ nothing → b .count ≡ q .clock →
-        feeds (ans.Began (q .clock + 1)) ≡ agrees (turned b (b .entry) p o)) →
-        q .clock + 1 ≤ 999999 → p < q .processors → isIdle (processorAt q p .stage) ≡ true →
-        Agrees feeds (accepted q p (record { effect = eff.Keep; stage = s; own = 0; carry = carry.Begin; answer = ans.Began (q .clock + 1) }))
+        feeds (ans.Began (q .clock + 1)) ≡ agrees (afterCall b (b .entry) p o)) →
+        q .clock + 1 ≤ 999999 → p < q .processorCount → isIdle (processorAt q p .stage) ≡ true →
+        Agrees feeds (accepted q p (record { effect = eff.Keep; stage = s; own = 0; change = change.Begin; answer = ans.Began (q .clock + 1) }))
     walk-begun feeds s o is same fed t≤ p< i =
         let K = kind-idle (v .ht (v .pr p .own)) (processorAt q p .stage) i in
-        let d : Decision = record { effect = eff.Keep; stage = s; own = 0; carry = carry.Begin; answer = ans.Began (q .clock + 1) } in
-        accepted-agrees feeds p d (turned b (b .entry) p o) (S .until) p< t≤
+        let d : Decision = record { effect = eff.Keep; stage = s; own = 0; change = change.Begin; answer = ans.Began (q .clock + 1) } in
+        accepted-agrees feeds p d (afterCall b (b .entry) p o) (S .until) p< t≤
         (record { effect = tt; saves = tt; due-small = tt })
         (idle-passes p K d (λ h l t. absurd t))
         (fed (open-idle i) (S .rel .count))
@@ -148,21 +148,21 @@ module _ (q : Queue) (b : Book) (S : Sound q b) where
         (rel-open v b (S .rel) p (walker v p s) o same
         (λ k. omega (arith, ap (λ (f : Info). f .kind) is)))
 
-    pub delete-agrees : Agrees (feedDelete b p) (beginDelete q p)
+    pub delete-agrees : Agrees (feedDelete b p) (beginDeleteMin q p)
     delete-agrees = of (call.DeleteMin p) (feedDelete b p) (λ n. refl)
-        (λ A. walk-begun (feedDelete b p) (stage.Delete (del.Next (place 0 1)))
-        (deleting (q .clock + 1)) refl refl
+        (λ A. walk-begun (feedDelete b p) (stage.Delete (del.ReadNext (place 0 1)))
+        (walking (q .clock + 1)) refl refl
         (λ i c. rw (i, eq-eqb (q .clock + 1) (b .count + 1) (omega arith)))
         (omega (arith, A .ticks)) (A .here) (idle-begins _ (A .turn)))
 
     module _ (due item height : ℕ) where
-      insert-begun : q .clock + 1 ≤ 999999 → p < q .processors → isIdle (processorAt q p .stage) ≡ true → due ≤ 999999 → 1 ≤ height → height ≤ q .levels → (x : ℕ) → Free q x →
+      insert-begun : q .clock + 1 ≤ 999999 → p < q .processorCount → isIdle (processorAt q p .stage) ≡ true → due ≤ 999999 → 1 ≤ height → height ≤ q .levelCount → (x : ℕ) → Free q x →
           Agrees (feedInsert b p due item) (accepted q p (insertDecision q x due item height))
       insert-begun t≤ p< i due≤ h≥ h≤ x F =
           let room : v .clock + 1 < ever = omega arith in
           let K = kind-idle (v .ht (v .pr p .own)) (processorAt q p .stage) i in
           accepted-agrees (feedInsert b p due item) p (insertDecision q x due item height)
-          (turned b (upd (b .entry) (q .clock + 1) (record { written = true; due = due; item = item; answeredAt = ever; marked = false; handedOut = false })) p (inserting (q .clock + 1)))
+          (afterCall b (changedAt (b .entry) (q .clock + 1) (record { written = true; due = due; item = item; answeredAt = ever; marked = false; handedOut = false })) p (inserting (q .clock + 1)))
           (cleared (S .until) x) p< t≤ (record { effect = (F .low, F .high); saves = tt; due-small = due≤ }) (idle-passes p K (insertDecision q x due item height) (λ h l t. by-node refl t))
           (rw (open-idle i, eq-eqb (q .clock + 1) (b .count + 1) (omega (arith, S .rel .count))))
           (begin-insert v (S .until) (S .inv) room p K x due item height fw lw (F .low) (F .high) due≤ h≥ h≤ (F .unused) older unseen fw-same lw-same)
@@ -176,13 +176,13 @@ module _ (q : Queue) (b : Book) (S : Sound q b) where
           lw = relevel (v .lk) x (v .top) 0
 
           fw-same : (n j : ℕ) → (n ≡ x → ⊥) → fw n j ≡ v .fwd n j
-          fw-same n j ne = ap (λ (f : ℕ → ℕ). f j) (upd-other (v .fwd) x _ n ne)
+          fw-same n j ne = ap (λ (f : ℕ → ℕ). f j) (changed-other (v .fwd) x _ n ne)
 
           lw-same : (n j : ℕ) → (n ≡ x → ⊥) → lw n j ≡ v .lk n j
-          lw-same n j ne = ap (λ (f : ℕ → ℕ). f j) (upd-other (v .lk) x _ n ne)
+          lw-same n j ne = ap (λ (f : ℕ → ℕ). f j) (changed-other (v .lk) x _ n ne)
 
-          below : (r : ℕ) → 1 ≤ claim v r .kind → r < q .processors
-          below r k = elim (decLt r (q .processors)) [ yes lt ↦ lt | no ge ↦ absurd (omega (arith, kind-idle (v .ht (v .pr r .own)) (v .pr r .stage) (S .confined r (omega arith)))) ]
+          below : (r : ℕ) → 1 ≤ claim v r .kind → r < q .processorCount
+          below r k = elim (decLt r (q .processorCount)) [ yes lt ↦ lt | no ge ↦ absurd (omega (arith, kind-idle (v .ht (v .pr r .own)) (v .pr r .stage) (S .confined r (omega arith)))) ]
 
           -- a node that may be taken was retired before every busy processor began
           older : (r : ℕ) → 1 ≤ claim v r .kind → v .us x < v .pr r .begin + 2
@@ -203,17 +203,17 @@ module _ (q : Queue) (b : Book) (S : Sound q b) where
 
       pub insert-agrees : Agrees (feedInsert b p due item) (beginInsert q p due item height)
       insert-agrees = of (call.Insert p due item height) (feedInsert b p due item) (λ n. refl)
-          (λ A. begun A (numbers p due item height (q .levels) (chosen q) (A .numbers) (A .node)))
+          (λ A. begun A (numbers p due item height (q .levelCount) (chosen q) (A .numbers) (A .node)))
         where
           begun : Allowed q (call.Insert p due item height) →
-              Numbers due item height (q .levels) (chosen q) →
+              Numbers due item height (q .levelCount) (chosen q) →
               Agrees (feedInsert b p due item) (accepted q p (insertDecision q (chosen q) due item height))
           begun A n =
               let x≥ : 1 ≤ chosen q =
               let ne : (chosen q ≡ 0 → ⊥) = eqb-false (chosen q) 0 (n .node-there) in omega arith in
               insert-begun (omega (arith, A .ticks)) (A .here) (idle-begins _ (A .turn))
               (ltb-false 999999 due (or-left (ltb 999999 due) (ltb 999999 item) (n .small)))
-              (ltb-false height 1 (or-left (ltb height 1) (ltb (q .levels) height) (n .height-within)))
-              (ltb-false (q .levels) height
-              (or-right (ltb height 1) (ltb (q .levels) height) (n .height-within)))
+              (ltb-false height 1 (or-left (ltb height 1) (ltb (q .levelCount) height) (n .height-within)))
+              (ltb-false (q .levelCount) height
+              (or-right (ltb height 1) (ltb (q .levelCount) height) (n .height-within)))
               (chosen q) (chosen-free q x≥)

@@ -36,9 +36,9 @@ kind-insert h ins.FreeNode = omega arith
 kind-insert h ins.Stamp = omega arith
 
 kind-delete : (h : ℕ) (i : Delete) → 1 ≤ info h (stage.Delete i) .kind
-kind-delete h (del.Next a) = omega arith
-kind-delete h (del.Stamped a) = omega arith
-kind-delete h (del.Mark a) = omega arith
+kind-delete h (del.ReadNext a) = omega arith
+kind-delete h (del.TestStamp a) = omega arith
+kind-delete h (del.SetMark a) = omega arith
 
 pub removal-kind : (job : Job) (h : ℕ) (r : Removal) → info h (stage.Removal job r) .kind ≡ 3
 removal-kind job h (rem.Search a) = refl
@@ -49,7 +49,7 @@ removal-kind job h (rem.Seek (seek.Confirm a)) = refl
 removal-kind job h (rem.Seek (seek.Release a b)) = refl
 removal-kind job h (rem.HoldOwn a) = refl
 removal-kind job h (rem.Unlink a) = refl
-removal-kind job h (rem.Back a) = refl
+removal-kind job h (rem.LeadBack a) = refl
 removal-kind job h (rem.FreeOwn a) = refl
 removal-kind job h (rem.FreeLevel a) = refl
 removal-kind job h rem.FreeNode = refl

@@ -9,7 +9,7 @@ use lib.ListN.{getD}
 use borrow.Author.Tests.{leb-true, le-leb}
 use Rattle.laws.specs.Every.{allAtMost}
 use Rattle.laws.proofs.Counting.{and-left, and-right, and-both, every-at, every-of}
-use Rattle.checks.specs.declared.check.Sizes.{Sizes}
+use Rattle.record_check.specs.declared.check.Sizes.{Sizes}
 use Rattle.record.specs.declared.nodes.Node.{Node}
 use Rattle.record.specs.declared.nodes.Stamp.{Stamp}
 use Rattle.record.specs.declared.nodes.Stamp.the-variants as stamp
@@ -19,8 +19,8 @@ use Rattle.record.specs.declared.queues.Processor.{Processor}
 use Rattle.record.specs.declared.queues.Queue.{Queue}
 use Rattle.record.specs.declared.stages.Carried.{Carried}
 use Rattle.record.specs.declared.stages.Place.{Place}
-use Rattle.checks.specs.Check.{within, sizesOf, sizesValid, stampValid, useValid, nodeValid, placeValid, ownValid, markingValid, carriedValid, processorValid, valid}
-use Rattle.record.specs.Limits.{maxProcessors, maxEntries, maxLevels, maxNumber}
+use Rattle.record_check.specs.Check.{within, sizesOf, sizesValid, stampValid, useValid, nodeValid, placeValid, ownValid, markingValid, carriedValid, processorValid, valid}
+use Rattle.record.specs.Limits.{maxProcessors, maxNodes, maxLevels, maxNumber}
 use Rattle.record.specs.Queues.{nodeAt, processorAt}
 use Rattle.record.specs.Stages.{carried}
 
@@ -30,48 +30,48 @@ pub record Within (x top : ℕ) : Type 0 where
   pub high : x ≤ top
 
 pub record ValidSizes (s : Sizes) : Type 0 where
-  pub processors : Within (s .processors) maxProcessors
-  pub entries : Within (s .entries) maxEntries
-  pub levels : Within (s .levels) maxLevels
+  pub processorCount : Within (s .processorCount) maxProcessors
+  pub nodeCount : Within (s .nodeCount) maxNodes
+  pub levelCount : Within (s .levelCount) maxLevels
   pub clock : s .clock ≤ maxNumber
 
 -- node x; slot k is level k + 1
 pub record ValidNode (s : Sizes) (x : ℕ) (n : Node) : Type 0 where
-  pub forward : (k : ℕ) → k < s .levels → getD (n .forward) k 0 ≤ s .entries + 1
-  pub locks : (k : ℕ) → k < s .levels → getD (n .locks) k 0 ≤ s .processors
-  pub lock : n .lock ≤ s .processors
+  pub forward : (k : ℕ) → k < s .levelCount → getD (n .forward) k 0 ≤ s .nodeCount + 1
+  pub levelLocks : (k : ℕ) → k < s .levelCount → getD (n .levelLocks) k 0 ≤ s .processorCount
+  pub nodeLock : n .nodeLock ≤ s .processorCount
   pub due : n .due ≤ maxNumber
   pub item : n .item ≤ maxNumber
   pub ticket : n .ticket ≤ s .clock
-  pub height : Within (n .height) (s .levels)
+  pub height : Within (n .height) (s .levelCount)
   -- only an entry's node is stamped
-  pub stamped : (t : ℕ) → n .stamp ≡ stamp.At t → Within x (s .entries)
+  pub stamped : (t : ℕ) → n .stamp ≡ stamp.At t → Within x (s .nodeCount)
   pub stamp-time : (t : ℕ) → n .stamp ≡ stamp.At t → t ≤ s .clock
   pub retired : (t : ℕ) → n .state ≡ use′.Retired t → t ≤ s .clock
 
 pub record ValidPlace (s : Sizes) (a : Place) : Type 0 where
-  pub node : a .node ≤ s .entries + 1
-  pub level : Within (a .level) (s .levels)
+  pub node : a .node ≤ s .nodeCount + 1
+  pub level : Within (a .level) (s .levelCount)
 
 -- what a stage carries, and the own node's number
 pub record ValidCarried (s : Sizes) (g : Carried) (own : ℕ) : Type 0 where
-  pub own-high : own ≤ s .entries + 1
+  pub own-high : own ≤ s .nodeCount + 1
   -- an own node is an entry's
-  pub has-own : g .own ≡ true → Within own (s .entries)
+  pub has-own : g .own ≡ true → Within own (s .nodeCount)
   pub place : ValidPlace s (g .place)
-  pub ahead : g .ahead ≤ s .entries + 1
+  pub ahead : g .ahead ≤ s .nodeCount + 1
   -- the place at W3 is an entry's node
-  pub marks : g .marking ≡ true → Within (g .place .node) (s .entries)
+  pub marks : g .marking ≡ true → Within (g .place .node) (s .nodeCount)
 
 pub record ValidProcessor (s : Sizes) (c : Processor) : Type 0 where
   pub begin : c .begin ≤ s .clock
-  pub saved : (k : ℕ) → k < s .levels → getD (c .saved) k 0 ≤ s .entries + 1
+  pub saved : (k : ℕ) → k < s .levelCount → getD (c .saved) k 0 ≤ s .nodeCount + 1
   pub carries : ValidCarried s (carried (c .stage)) (c .own)
 
 pub record ValidQueue (q : Queue) : Type 0 where
   pub sizes : ValidSizes (sizesOf q)
-  pub nodes : (x : ℕ) → x ≤ q .entries + 1 → ValidNode (sizesOf q) x (nodeAt q x)
-  pub callers : (p : ℕ) → p < q .processors → ValidProcessor (sizesOf q) (processorAt q p)
+  pub nodes : (x : ℕ) → x ≤ q .nodeCount + 1 → ValidNode (sizesOf q) x (nodeAt q x)
+  pub processors : (p : ℕ) → p < q .processorCount → ValidProcessor (sizesOf q) (processorAt q p)
 
 -- the parts of a test that passes, and a test from its parts
 and-three : (a b c : Bool) → (a && b && c) ≡ true → (a ≡ true) × (b ≡ true) × (c ≡ true)
@@ -104,10 +104,10 @@ facts-most l n top h = every-of (λ k. leb (getD l k 0) top) n (λ k k<. le-leb 
 pub sizes-facts : (s : Sizes) → sizesValid s ≡ true → ValidSizes s
 sizes-facts s h =
     let t = and-four _ _ _ _ h in
-    record { processors = within-facts _ _ (t .0); entries = within-facts _ _ (t .1); levels = within-facts _ _ (t .2); clock = leb-true _ _ (t .3) }
+    record { processorCount = within-facts _ _ (t .0); nodeCount = within-facts _ _ (t .1); levelCount = within-facts _ _ (t .2); clock = leb-true _ _ (t .3) }
 
 pub facts-sizes : (s : Sizes) → ValidSizes s → sizesValid s ≡ true
-facts-sizes s v = and-all-four _ _ _ _ (facts-within _ _ (v .processors)) (facts-within _ _ (v .entries)) (facts-within _ _ (v .levels)) (le-leb _ _ (v .clock))
+facts-sizes s v = and-all-four _ _ _ _ (facts-within _ _ (v .processorCount)) (facts-within _ _ (v .nodeCount)) (facts-within _ _ (v .levelCount)) (le-leb _ _ (v .clock))
 
 -- a stamp on a node that is for an entry (e) or is the head or the tail
 stamp-entry : (u : Stamp) (e : Bool) (clock t : ℕ) → stampValid u e clock ≡ true → u ≡ stamp.At t → e ≡ true
@@ -139,44 +139,44 @@ node-facts s x n h =
     let entry = and-four _ _ _ _ (t .1) in
     record {
       forward = most-facts (n .forward) _ _ (links .0);
-      locks = most-facts (n .locks) _ _ (links .1);
-      lock = leb-true _ _ (links .2);
+      levelLocks = most-facts (n .levelLocks) _ _ (links .1);
+      nodeLock = leb-true _ _ (links .2);
       due = leb-true _ _ (entry .0);
       item = leb-true _ _ (entry .1);
       ticket = leb-true _ _ (entry .2);
       height = within-facts _ _ (entry .3);
-      stamped = λ u f. within-facts _ _ (stamp-entry (n .stamp) (within x (s .entries)) (s .clock) u (t .2) f);
-      stamp-time = λ u f. stamp-late (n .stamp) (within x (s .entries)) (s .clock) u (t .2) f;
+      stamped = λ u f. within-facts _ _ (stamp-entry (n .stamp) (within x (s .nodeCount)) (s .clock) u (t .2) f);
+      stamp-time = λ u f. stamp-late (n .stamp) (within x (s .nodeCount)) (s .clock) u (t .2) f;
       retired = λ u f. use-facts (n .state) (s .clock) u (t .3) f;
     }
 
 pub facts-node : (s : Sizes) (x : ℕ) (n : Node) → ValidNode s x n → nodeValid s x n ≡ true
 facts-node s x n v =
     and-all-four _ _ _ _
-    (and-all-three _ _ _ (facts-most (n .forward) _ _ (v .forward)) (facts-most (n .locks) _ _ (v .locks)) (le-leb _ _ (v .lock)))
+    (and-all-three _ _ _ (facts-most (n .forward) _ _ (v .forward)) (facts-most (n .levelLocks) _ _ (v .levelLocks)) (le-leb _ _ (v .nodeLock)))
     (and-all-four _ _ _ _ (le-leb _ _ (v .due)) (le-leb _ _ (v .item)) (le-leb _ _ (v .ticket)) (facts-within _ _ (v .height)))
     (facts-stamp (n .stamp) _ _ (λ t f. facts-within _ _ (v .stamped t f)) (v .stamp-time))
     (facts-use (n .state) _ (v .retired))
 
 pub place-facts : (s : Sizes) (a : Place) → placeValid s a ≡ true → ValidPlace s a
-place-facts s a h = record { node = leb-true _ _ (and-left _ _ h); level = within-facts _ _ (and-right (leb (a .node) (s .entries + 1)) (within (a .level) (s .levels)) h) }
+place-facts s a h = record { node = leb-true _ _ (and-left _ _ h); level = within-facts _ _ (and-right (leb (a .node) (s .nodeCount + 1)) (within (a .level) (s .levelCount)) h) }
 
 pub facts-place : (s : Sizes) (a : Place) → ValidPlace s a → placeValid s a ≡ true
 facts-place s a v = and-both _ _ (le-leb _ _ (v .node)) (facts-within _ _ (v .level))
 
-own-facts : (s : Sizes) (has : Bool) (x : ℕ) → ownValid s has x ≡ true → (x ≤ s .entries + 1) × (has ≡ true → Within x (s .entries))
-own-facts s true x h = let w = within-facts x (s .entries) h in (omega arith, λ e. w)
+own-facts : (s : Sizes) (has : Bool) (x : ℕ) → ownValid s has x ≡ true → (x ≤ s .nodeCount + 1) × (has ≡ true → Within x (s .nodeCount))
+own-facts s true x h = let w = within-facts x (s .nodeCount) h in (omega arith, λ e. w)
 own-facts s false x h = (leb-true _ _ h, λ e. absurd (true≢false (sym e)))
 
-facts-own : (s : Sizes) (has : Bool) (x : ℕ) → x ≤ s .entries + 1 → (has ≡ true → Within x (s .entries)) → ownValid s has x ≡ true
+facts-own : (s : Sizes) (has : Bool) (x : ℕ) → x ≤ s .nodeCount + 1 → (has ≡ true → Within x (s .nodeCount)) → ownValid s has x ≡ true
 facts-own s true x h k = facts-within _ _ (k refl)
 facts-own s false x h k = le-leb _ _ h
 
-marking-facts : (s : Sizes) (marking : Bool) (x : ℕ) → markingValid s marking x ≡ true → marking ≡ true → Within x (s .entries)
+marking-facts : (s : Sizes) (marking : Bool) (x : ℕ) → markingValid s marking x ≡ true → marking ≡ true → Within x (s .nodeCount)
 marking-facts s true x h e = within-facts _ _ h
 marking-facts s false x h e = absurd (true≢false (sym e))
 
-facts-marking : (s : Sizes) (marking : Bool) (x : ℕ) → (marking ≡ true → Within x (s .entries)) → markingValid s marking x ≡ true
+facts-marking : (s : Sizes) (marking : Bool) (x : ℕ) → (marking ≡ true → Within x (s .nodeCount)) → markingValid s marking x ≡ true
 facts-marking s true x h = facts-within _ _ (h refl)
 facts-marking s false x h = refl
 
@@ -203,12 +203,12 @@ valid-facts q h =
     let t = and-three _ _ _ h in
     record {
       sizes = sizes-facts (sizesOf q) (t .0);
-      nodes = λ x x≤. node-facts (sizesOf q) x (nodeAt q x) (every-at (λ x. nodeValid (sizesOf q) x (nodeAt q x)) (q .entries + 2) x (t .1) (omega arith));
-      callers = λ p p<. processor-facts (sizesOf q) (processorAt q p) (every-at (λ p. processorValid (sizesOf q) (processorAt q p)) (q .processors) p (t .2) p<);
+      nodes = λ x x≤. node-facts (sizesOf q) x (nodeAt q x) (every-at (λ x. nodeValid (sizesOf q) x (nodeAt q x)) (q .nodeCount + 2) x (t .1) (omega arith));
+      processors = λ p p<. processor-facts (sizesOf q) (processorAt q p) (every-at (λ p. processorValid (sizesOf q) (processorAt q p)) (q .processorCount) p (t .2) p<);
     }
 
 pub facts-valid : (q : Queue) → ValidQueue q → valid q ≡ true
 facts-valid q v =
     and-all-three _ _ _ (facts-sizes (sizesOf q) (v .sizes))
-    (every-of (λ x. nodeValid (sizesOf q) x (nodeAt q x)) (q .entries + 2) (λ x x<. facts-node (sizesOf q) x (nodeAt q x) (v .nodes x (omega arith))))
-    (every-of (λ p. processorValid (sizesOf q) (processorAt q p)) (q .processors) (λ p p<. facts-processor (sizesOf q) (processorAt q p) (v .callers p p<)))
+    (every-of (λ x. nodeValid (sizesOf q) x (nodeAt q x)) (q .nodeCount + 2) (λ x x<. facts-node (sizesOf q) x (nodeAt q x) (v .nodes x (omega arith))))
+    (every-of (λ p. processorValid (sizesOf q) (processorAt q p)) (q .processorCount) (λ p p<. facts-processor (sizesOf q) (processorAt q p) (v .processors p p<)))

@@ -106,13 +106,13 @@ abbrev pub standing : ℕ → ℕ → ℕ → ℕ → ℕ → Place → Info
 standing strict early goal found from a = record { kind = 2; node = a .node; level = a .level; b = a .node; hp = 0; ho = 0; hn = 0; nx = 0; lo = 0; from = from; strict = strict; early = early; past = 0; goal = goal; found = found }
 
 -- a walk at the node of a: it seeks no key
-abbrev pub walking : ℕ → ℕ → Place → Info
-walking strict early a = standing strict early last 0 9 (place (a .node) 1)
+abbrev pub walkInfo : ℕ → ℕ → Place → Info
+walkInfo strict early a = standing strict early last 0 9 (place (a .node) 1)
 
 abbrev pub walks : Delete → Info
-walks (del.Next a) = walking 2 0 a
-walks (del.Stamped a) = walking 1 0 a
-walks (del.Mark a) = walking 1 2 a
+walks (del.ReadNext a) = walkInfo 2 0 a
+walks (del.TestStamp a) = walkInfo 1 0 a
+walks (del.SetMark a) = walkInfo 1 2 a
 
 abbrev pub removals : ℕ → Removal → Info
 removals h (rem.Search a) = record { kind = 3; node = a .node; level = a .level; b = a .node; hp = 0; ho = 0; hn = 0; nx = 0; lo = h; from = a .level + 1; strict = 0; early = 0; past = 0; goal = 0; found = 0 }
@@ -120,7 +120,7 @@ removals h rem.HoldNode = record { kind = 3; node = 0; level = 1; b = 0; hp = 0;
 removals h (rem.Seek k) = seeks 3 0 1 k
 removals h (rem.HoldOwn a) = record { kind = 3; node = a .node; level = a .level; b = a .node; hp = 1; ho = 0; hn = 1; nx = 3; lo = a .level - 0; from = 1; strict = 0; early = 0; past = 1; goal = 0; found = 0 }
 removals h (rem.Unlink a) = record { kind = 3; node = a .node; level = a .level; b = a .node; hp = 1; ho = 1; hn = 1; nx = 3; lo = a .level - 0; from = 1; strict = 0; early = 0; past = 1; goal = 0; found = 0 }
-removals h (rem.Back a) = record { kind = 3; node = a .node; level = a .level; b = a .node; hp = 1; ho = 1; hn = 1; nx = 4; lo = a .level - 1; from = 1; strict = 0; early = 0; past = 1; goal = 0; found = 0 }
+removals h (rem.LeadBack a) = record { kind = 3; node = a .node; level = a .level; b = a .node; hp = 1; ho = 1; hn = 1; nx = 4; lo = a .level - 1; from = 1; strict = 0; early = 0; past = 1; goal = 0; found = 0 }
 removals h (rem.FreeOwn a) = record { kind = 3; node = a .node; level = a .level; b = a .node; hp = 1; ho = 1; hn = 1; nx = 0; lo = a .level - 1; from = 1; strict = 0; early = 0; past = 1; goal = 0; found = 0 }
 removals h (rem.FreeLevel a) = record { kind = 3; node = a .node; level = a .level; b = a .node; hp = 1; ho = 0; hn = 1; nx = 0; lo = a .level - 1; from = 1; strict = 0; early = 0; past = 1; goal = 0; found = 0 }
 removals h rem.FreeNode = record { kind = 3; node = 0; level = 1; b = 0; hp = 0; ho = 0; hn = 1; nx = 0; lo = 0; from = 9; strict = 0; early = 0; past = 1; goal = 0; found = 0 }

@@ -11,10 +11,10 @@ use Rattle.record.specs.declared.stages.Stage.{Stage}
 use Rattle.record.specs.declared.stages.Job.{Job}
 use Rattle.record.specs.declared.stages.Stage.the-variants as stage
 use Rattle.record.specs.Stages.{place}
-use Rattle.laws.specs.Update.{upd}
-use Rattle.laws.proofs.Updating.{upd-same, upd-other}
+use Rattle.laws.specs.Update.{changedAt}
+use Rattle.laws.proofs.Updating.{changed-same, changed-other}
 use Rattle.rules.proofs.Put.{ever}
-use Rattle.rules.proofs.View.{Pr, View, Info, info, standing, walking, claim, key, tail}
+use Rattle.rules.proofs.View.{Pr, View, Info, info, standing, walkInfo, claim, key, tail}
 use Rattle.rules.proofs.View.{last}
 use Rattle.rules.proofs.Inv.{Busy, Readable, Walks, Eligible, Inv, NodeHeld}
 use Rattle.rules.proofs.Read.{on-used, Reads, onward, backward, reads, read-seen}
@@ -107,25 +107,25 @@ module _ (v : View) (u : ℕ → ℕ → ℕ) (I : Inv v u) (room : v .clock + 1
         walks = λ h. W;
       }))
 
-  module _ (x y : ℕ) (a : Place) (is : info h s ≡ walking x y a) where
+  module _ (x y : ℕ) (a : Place) (is : info h s ≡ walkInfo x y a) where
     pub walk-kind : claim v p .kind ≡ 2
     walk-kind = ap (λ (t : Stage). info (v .ht (v .pr p .own)) t .kind) e
         ∙ ap (λ (f : Info). f .kind) is
 
-    pub walk-busy : Busy v u p (v .pr p) (walking x y a)
+    pub walk-busy : Busy v u p (v .pr p) (walkInfo x y a)
     walk-busy = subst (λ (f : Info). Busy v u p (v .pr p) f)
         (ap (λ (t : Stage). info (v .ht (v .pr p .own)) t) e ∙ is)
         (I .busy p (omega (arith, walk-kind)))
 
     -- on to another stage of the walk
-    walk-to : (s′ : Stage) (x′ y′ : ℕ) (a′ : Place) → info h s′ ≡ walking x′ y′ a′ →
+    walk-to : (s′ : Stage) (x′ y′ : ℕ) (a′ : Place) → info h s′ ≡ walkInfo x′ y′ a′ →
         Readable u (key v) (tail v) T last (a′ .node) 1 →
         Walks (v .us) (v .st) (v .mk) (key v) (v .nodes) T (v .pr p .own) (a′ .node) 1 x′ y′ 0 →
         Inv (ticked v p (staged (v .pr p) s′)) u
     walk-to s′ x′ y′ a′ to G W =
         stand-to (ap (λ (f : Info). f .kind) is) (ap (λ (f : Info). f .nx) is) s′
         (v .pr p .saved) x′ y′ last 0 (place (a′ .node) 1) to (omega arith)
-        (I .core .levels) G W
+        (I .core .levelCount) G W
 
     -- W1 at the tail: nothing was eligible
     pub empty-right : NodeHeld v → x ≡ 2 → v .fwd (a .node) 1 ≡ tail v → (n : ℕ) → Able n → ⊥
@@ -171,14 +171,14 @@ module _ (v : View) (u : ℕ → ℕ → ℕ) (I : Inv v u) (room : v .clock + 1
     -- W1: on to the node read
     pub walk-on : NodeHeld v → x ≡ 2 → (v .fwd (a .node) 1 ≡ tail v → ⊥) →
         (s′ : Stage) (y′ : ℕ) → y′ ≤ 1 → (1 ≤ y′ → 1 ≤ v .fwd (a .node) 1) →
-        info h s′ ≡ walking 1 y′ (place (v .fwd (a .node) 1) 1) →
+        info h s′ ≡ walkInfo 1 y′ (place (v .fwd (a .node) 1) 1) →
         Inv (ticked v p (staged (v .pr p) s′)) u
     walk-on H two nt s′ y′ y≤ entry to =
         walk-to s′ 1 y′ (place (v .fwd (a .node) 1) 1) to (next-readable nt)
         (record { ownless = walk-busy .walks refl .ownless; entry = entry; named = λ k. absurd (omega arith); stamped = λ k. absurd (omega arith); ahead = λ l n L. omega (arith, next-ahead H two n L) })
 
     -- the place is not eligible: back to W1
-    pub walk-past : 1 ≤ x → (Able (a .node) → ⊥) → (s′ : Stage) → info h s′ ≡ walking 2 0 a →
+    pub walk-past : 1 ≤ x → (Able (a .node) → ⊥) → (s′ : Stage) → info h s′ ≡ walkInfo 2 0 a →
         Inv (ticked v p (staged (v .pr p) s′)) u
     walk-past x≥ no-a s′ to = walk-to s′ 2 0 a to (walk-busy .place)
         (record { ownless = walk-busy .walks refl .ownless; entry = λ k. absurd (omega arith); named = λ k. absurd (omega arith); stamped = λ k. absurd (omega arith); ahead = λ l n L. go n L (ℕ-discrete (key v (a .node)) (key v n)) })
@@ -195,11 +195,11 @@ module _ (v : View) (u : ℕ → ℕ → ℕ) (I : Inv v u) (room : v .clock + 1
 
     -- W2
     pub stamp-late : 1 ≤ x → v .pr p .begin ≤ v .st (a .node) →
-        (s′ : Stage) → info h s′ ≡ walking 2 0 a → Inv (ticked v p (staged (v .pr p) s′)) u
+        (s′ : Stage) → info h s′ ≡ walkInfo 2 0 a → Inv (ticked v p (staged (v .pr p) s′)) u
     stamp-late x≥ le = walk-past x≥ (λ L. omega (arith, L .stamped))
 
     pub stamp-early : x ≡ 1 → v .st (a .node) < v .pr p .begin →
-        (s′ : Stage) → info h s′ ≡ walking 1 2 a → Inv (ticked v p (staged (v .pr p) s′)) u
+        (s′ : Stage) → info h s′ ≡ walkInfo 1 2 a → Inv (ticked v p (staged (v .pr p) s′)) u
     stamp-early one lt s′ to = walk-to s′ 1 2 a to (walk-busy .place)
         (record { ownless = walk-busy .walks refl .ownless; entry = λ k. not-head (ℕ-discrete (a .node) 0); named = λ k. absurd (omega arith); stamped = λ k. lt; ahead = λ l n L. omega (arith, walk-busy .walks refl .ahead (omega arith) n L) })
       where
@@ -209,7 +209,7 @@ module _ (v : View) (u : ℕ → ℕ → ℕ) (I : Inv v u) (room : v .clock + 1
             absurd (omega (arith, I .core .ends .head-stamp, (rw z at lt), walk-busy .begun-by))
 
     -- W3 on a marked node
-    pub mark-set : 1 ≤ x → (v .mk (a .node) ≡ 0 → ⊥) → (s′ : Stage) → info h s′ ≡ walking 2 0 a →
+    pub mark-set : 1 ≤ x → (v .mk (a .node) ≡ 0 → ⊥) → (s′ : Stage) → info h s′ ≡ walkInfo 2 0 a →
         Inv (ticked v p (staged (v .pr p) s′)) u
     mark-set x≥ m = walk-past x≥ (λ L. m (L .unmarked))
 
@@ -246,19 +246,19 @@ module _ (v : View) (u : ℕ → ℕ → ℕ) (I : Inv v u) (room : v .clock + 1
   -- the mark of a node in use
   pub mark-step : info h s .kind ≡ 2 → info h s .nx ≡ 0 → (job : Job) (n : ℕ) → 1 ≤ n →
       n ≤ v .nodes → v .us n ≡ 1 → v .mk n ≡ 0 →
-      Inv (ticked (withStatus v (upd (v .mk) n 1) (v .st) (v .us)) p (marker job n)) u
+      Inv (ticked (withStatus v (changedAt (v .mk) n 1) (v .st) (v .us)) p (marker job n)) u
   mark-step two nx job n low high used m =
       let k : claim v p .kind ≡ 2 = ap (λ (t : Stage). info (v .ht (v .pr p .own)) t .kind) e
       ∙ two in
       let x : claim v p .nx ≡ 0 = ap (λ (t : Stage). info (v .ht (v .pr p .own)) t .nx) e ∙ nx in
       let B = I .busy p (omega arith) in
       let E = I .core .entered n low (omega arith) in
-      let same = upd-same (v .mk) n 1 in
+      let same = changed-same (v .mk) n 1 in
       let G = head-readable v u I (v .pr p .begin) (key v n) (v .top) (omega arith)
       (omega (arith, B .begun-by)) (I .core .ends .keys n low (omega arith) .0) in
-      restate v u I room p (marker job n) (upd (v .mk) n 1) (v .st) (v .us) n
+      restate v u I room p (marker job n) (changedAt (v .mk) n 1) (v .st) (v .us) n
       (omega arith) (λ b. refl) (λ h. omega arith) low high
-      (λ x d. upd-other (v .mk) n 1 x d) (λ x d. refl) (λ x d. refl) (λ h. h)
+      (λ x d. changed-other (v .mk) n 1 x d) (λ x d. refl) (λ x d. refl) (λ h. h)
       (record {
         low-height = E .low-height;
         high-height = E .high-height;
@@ -278,7 +278,7 @@ module _ (v : View) (u : ℕ → ℕ → ℕ) (I : Inv v u) (room : v .clock + 1
       (λ b. record {
         begun = B .begun;
         begun-by = omega (arith, B .begun-by);
-        low = I .core .levels;
+        low = I .core .levelCount;
         high = omega arith;
         place = G;
         read = G;
@@ -288,7 +288,7 @@ module _ (v : View) (u : ℕ → ℕ → ℕ) (I : Inv v u) (room : v .clock + 1
         holds-node = λ h. absurd (omega arith);
         near = near-none _ _ _ _ _ _;
         inserts = λ h. absurd (omega arith);
-        within = λ h. absurd (omega (arith, I .core .levels));
+        within = λ h. absurd (omega (arith, I .core .levelCount));
         removes = λ h. record {
           low = low;
           high = high;
@@ -300,7 +300,7 @@ module _ (v : View) (u : ℕ → ℕ → ℕ) (I : Inv v u) (room : v .clock + 1
         };
         walks = λ h. absurd (omega arith);
       })
-      (one-new (withStatus v (upd (v .mk) n 1) (v .st) (v .us)) u p (marker job n) (I .one)
+      (one-new (withStatus v (changedAt (v .mk) n 1) (v .st) (v .us)) u p (marker job n) (I .one)
       (λ q ne b k d f. omega (arith, (rw f at (I .busy q b .removes k .marked)))))
-      (yields-new (withStatus v (upd (v .mk) n 1) (v .st) (v .us)) u p (marker job n) (I .yields)
+      (yields-new (withStatus v (changedAt (v .mk) n 1) (v .st) (v .us)) u p (marker job n) (I .yields)
       (λ h t. absurd (omega arith)) (λ h. absurd (omega arith)))

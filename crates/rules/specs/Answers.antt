@@ -1,17 +1,27 @@
 -- Answers (01, the steps): a refusal's number; the time of a begin; and what a step reports, with
--- what the entry holds where it reports of one.
+-- what the entry holds where it reports of one. Whatever is told of an answer, to hosts, in lists
+-- and in histories, goes by its report.
 use Prim.Native.Nat.{ℕ}
 use mathlib.Core.Bool.{Bool, true, false}
 use mathlib.Core.List.{List, [], _∷_}
+use lib.ListN.{getD}
 use Rattle.record.specs.declared.queues.Queue.{Queue}
 use Rattle.record.specs.Report.{Report, report}
 use Rattle.rules.specs.declared.answers.Entry.{Entry}
+use Rattle.rules.specs.declared.answers.Deed.{Deed}
+use Rattle.rules.specs.declared.answers.Deed.the-variants as deed
 use Rattle.rules.specs.declared.answers.Answer.{Answer}
 use Rattle.rules.specs.declared.answers.Answer.the-variants as ans
+use Rattle.rules.specs.declared.answers.PlainAnswer.{PlainAnswer}
 use Rattle.rules.specs.declared.answers.Outcome.{Outcome}
 
 abbrev pub entryValues : Entry → List ℕ
 entryValues e = e .due ∷ (e .item ∷ (e .ticket ∷ []))
+
+abbrev pub deedCode : Deed → ℕ
+deedCode deed.Marked = 4
+deedCode deed.Inserted = 5
+deedCode deed.HandedOut = 6
 
 -- an answer in document 01's numbers: of a refusal its number; of the rest 0 for a begin, and 1 to
 -- 6 in the order in which document 01 names a step's reports
@@ -21,9 +31,19 @@ reported (ans.Began t) = report 0 (t ∷ [])
 reported ans.Moved = report 1 []
 reported ans.Waits = report 2 []
 reported ans.Empty = report 3 []
-reported (ans.Marked e) = report 4 (entryValues e)
-reported (ans.Inserted e) = report 5 (entryValues e)
-reported (ans.HandedOut e) = report 6 (entryValues e)
+reported (ans.Did d e) = report (deedCode d) (entryValues e)
+
+abbrev pub plainFrom : ℕ → ℕ → ℕ → ℕ → PlainAnswer
+plainFrom code first second third =
+    record { code = code; first = first; second = second; third = third }
+
+-- a report as four plain numbers: its number, its values, and 0 for a value that it has not
+abbrev pub plainReport : Report → PlainAnswer
+plainReport r =
+    plainFrom (r .number) (getD (r .values) 0 0) (getD (r .values) 1 0) (getD (r .values) 2 0)
+
+abbrev pub plainOf : Answer → PlainAnswer
+plainOf a = plainReport (reported a)
 
 -- a refused call leaves the record as it was, its clock too
 abbrev pub refused : Queue → ℕ → Outcome
@@ -35,6 +55,12 @@ isRefused (ans.Began t) = false
 isRefused ans.Moved = false
 isRefused ans.Waits = false
 isRefused ans.Empty = false
-isRefused (ans.Marked e) = false
-isRefused (ans.Inserted e) = false
-isRefused (ans.HandedOut e) = false
+isRefused (ans.Did d e) = false
+
+abbrev pub isWaits : Answer → Bool
+isWaits (ans.Refused n) = false
+isWaits (ans.Began t) = false
+isWaits ans.Moved = false
+isWaits ans.Waits = true
+isWaits ans.Empty = false
+isWaits (ans.Did d e) = false

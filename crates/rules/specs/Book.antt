@@ -4,14 +4,16 @@ use Prim.Native.Nat.{ℕ, zero, suc, _+_}
 use mathlib.Core.Bool.{Bool, true, false, cond, _&&_, _||_, not}
 use mathlib.Core.List.{List, [], _∷_}
 use lib.Dec.{ltb, eqb}
-use Rattle.checks.specs.declared.counting.Count.{Count}
-use Rattle.checks.specs.declared.counting.Count.the-variants as count
+use Rattle.record_check.specs.declared.counting.Count.{Count}
+use Rattle.record_check.specs.declared.counting.Count.the-variants as count
 use Rattle.laws.specs.HowMany.{howMany}
-use Rattle.laws.specs.Update.{upd}
+use Rattle.laws.specs.Update.{changedAt}
 use Rattle.record.specs.declared.queues.Queue.{Queue}
 use Rattle.record.specs.Keys.{entryKey, keyBefore}
 use Rattle.rules.specs.declared.answers.Answer.{Answer}
 use Rattle.rules.specs.declared.answers.Answer.the-variants as ans
+use Rattle.rules.specs.declared.answers.Deed.{Deed}
+use Rattle.rules.specs.declared.answers.Deed.the-variants as deed
 use Rattle.rules.specs.declared.answers.Entry.{Entry}
 use Rattle.rules.specs.declared.calls.Call.{Call}
 use Rattle.rules.specs.declared.calls.Call.the-variants as call
@@ -22,7 +24,7 @@ abbrev pub never : ℕ
 never = 1000000
 
 -- an entry of the book
-pub record Line : Type 0 where
+pub record BookEntry : Type 0 where
   pub written : Bool
   pub due : ℕ
   pub item : ℕ
@@ -35,16 +37,16 @@ pub record Line : Type 0 where
 pub data Open : Type 0 where
   nothing : Open
   inserting : ℕ → Open
-  deleting : ℕ → Open
-  delivering : ℕ → Open
+  walking : ℕ → Open
+  unlinking : ℕ → Open
 
 -- the entries stand under their tickets
 pub record Book : Type 0 where
   pub count : ℕ
-  pub entry : ℕ → Line
+  pub entry : ℕ → BookEntry
   pub opened : ℕ → Open
 
-abbrev pub unwritten : Line
+abbrev pub unwritten : BookEntry
 unwritten = record {
   written = false;
   due = 0;
@@ -63,16 +65,16 @@ pub data Verdict : Type 0 where
   agrees : Book → Verdict
   differs : Verdict
 
-abbrev pub provided : Bool → Book → Verdict
-provided right b = cond right (agrees b) differs
+abbrev pub agreesIf : Bool → Book → Verdict
+agreesIf right b = cond right (agrees b) differs
 
 -- the time of a call that changes the book
 abbrev pub now : Book → ℕ
 now b = b .count + 1
 
 -- the count goes up, and the entries and what processor p has open become these
-abbrev pub turned : Book → (ℕ → Line) → ℕ → Open → Book
-turned b entry p o = record { count = now b; entry = entry; opened = upd (b .opened) p o }
+abbrev pub afterCall : Book → (ℕ → BookEntry) → ℕ → Open → Book
+afterCall b entry p o = record { count = now b; entry = entry; opened = changedAt (b .opened) p o }
 
 -- the entry t was answered before this time
 abbrev pub answeredBefore : Book → ℕ → ℕ → Bool
@@ -109,7 +111,7 @@ abbrev pub gives : Book → Entry → ℕ → Bool
 gives b e t =
     eqb (e .due) (b .entry t .due) && (eqb (e .item) (b .entry t .item) && eqb (e .ticket) t)
 
-abbrev pub withAnswer : Line → ℕ → Line
+abbrev pub withAnswer : BookEntry → ℕ → BookEntry
 withAnswer l t = record {
   written = l .written;
   due = l .due;
@@ -119,8 +121,8 @@ withAnswer l t = record {
   handedOut = l .handedOut;
 }
 
-abbrev pub withMark : Line → Line
-withMark l = record {
+abbrev pub withMarked : BookEntry → BookEntry
+withMarked l = record {
   written = l .written;
   due = l .due;
   item = l .item;
@@ -129,7 +131,7 @@ withMark l = record {
   handedOut = l .handedOut;
 }
 
-abbrev pub withHandOut : Line → Line
+abbrev pub withHandOut : BookEntry → BookEntry
 withHandOut l = record {
   written = l .written;
   due = l .due;
@@ -140,7 +142,7 @@ withHandOut l = record {
 }
 
 -- an entry that an Insert has just begun to file
-abbrev pub justFiled : ℕ → ℕ → Line
+abbrev pub justFiled : ℕ → ℕ → BookEntry
 justFiled due item = record {
   written = true;
   due = due;
@@ -150,87 +152,101 @@ justFiled due item = record {
   handedOut = false;
 }
 
--- the begin of an Insert, where nothing is open and the time is right: its entry stands under this
--- time, which is its ticket
-abbrev pub beginsInsert : Book → ℕ → ℕ → ℕ → ℕ → Open → Verdict
-beginsInsert b p due item t nothing =
-    provided (eqb t (now b))
-    (turned b
-    (upd (b .entry) t (justFiled due item)) p (inserting t))
-beginsInsert b p due item t (inserting x) = differs
-beginsInsert b p due item t (deleting x) = differs
-beginsInsert b p due item t (delivering x) = differs
+-- what is right by what a processor has open: with anything else open the answer is not
+abbrev pub ifNothing : Verdict → Open → Verdict
+ifNothing v nothing = v
+ifNothing v (inserting t) = differs
+ifNothing v (walking t) = differs
+ifNothing v (unlinking t) = differs
 
--- the begin of a Delete_Min, under the same conditions
+abbrev pub ifInserting : (ℕ → Verdict) → Open → Verdict
+ifInserting v nothing = differs
+ifInserting v (inserting t) = v t
+ifInserting v (walking t) = differs
+ifInserting v (unlinking t) = differs
+
+abbrev pub ifWalking : (ℕ → Verdict) → Open → Verdict
+ifWalking v nothing = differs
+ifWalking v (inserting t) = differs
+ifWalking v (walking t) = v t
+ifWalking v (unlinking t) = differs
+
+abbrev pub ifUnlinking : (ℕ → Verdict) → Open → Verdict
+ifUnlinking v nothing = differs
+ifUnlinking v (inserting t) = differs
+ifUnlinking v (walking t) = differs
+ifUnlinking v (unlinking t) = v t
+
+-- the begin of an operation at the time t, where nothing is open and the time is right: the entries
+-- become these, and this is open
+abbrev pub begins : Book → ℕ → ℕ → (ℕ → BookEntry) → Open → Open → Verdict
+begins b p t entry opened o = ifNothing (agreesIf (eqb t (now b)) (afterCall b entry p opened)) o
+
+-- of an Insert: its entry stands under this time, which is its ticket
+abbrev pub beginsInsert : Book → ℕ → ℕ → ℕ → ℕ → Open → Verdict
+beginsInsert b p due item t o =
+    begins b p t (changedAt (b .entry) t (justFiled due item)) (inserting t) o
+
+-- of a Delete_Min
 abbrev pub beginsDelete : Book → ℕ → ℕ → Open → Verdict
-beginsDelete b p t nothing = provided (eqb t (now b)) (turned b (b .entry) p (deleting t))
-beginsDelete b p t (inserting x) = differs
-beginsDelete b p t (deleting x) = differs
-beginsDelete b p t (delivering x) = differs
+beginsDelete b p t o = begins b p t (b .entry) (walking t) o
 
 -- the answer of the Insert that is open: it tells what the entry holds, and ends the Insert
 abbrev pub inserted : Book → ℕ → Entry → Open → Verdict
-inserted b p e nothing = differs
-inserted b p e (inserting t) =
-    provided (gives b e t) (turned b (upd (b .entry) t (withAnswer (b .entry t) (now b))) p nothing)
-inserted b p e (deleting x) = differs
-inserted b p e (delivering x) = differs
+inserted b p e o =
+    ifInserting (λ t. agreesIf (gives b e t)
+    (afterCall b (changedAt (b .entry) t (withAnswer (b .entry t) (now b))) p nothing)) o
 
 -- a mark, by a Delete_Min that has none yet: it tells what the pick holds, and there has to be one
 abbrev pub marks : Book → ℕ → Entry → Open → Verdict
-marks b p e nothing = differs
-marks b p e (inserting x) = differs
-marks b p e (deleting begin) =
-    provided (ltb 0 (pick b begin) && gives b e (pick b begin))
-    (turned b (upd (b .entry) (pick b begin) (withMark (b .entry (pick b begin)))) p
-    (delivering (pick b begin)))
-marks b p e (delivering x) = differs
+marks b p e o =
+    ifWalking (λ begin. agreesIf (ltb 0 (pick b begin) && gives b e (pick b begin))
+    (afterCall b (changedAt (b .entry) (pick b begin) (withMarked (b .entry (pick b begin)))) p
+    (unlinking (pick b begin)))) o
 
 -- EMPTY, where there is no pick: it ends the Delete_Min
 abbrev pub empties : Book → ℕ → Open → Verdict
-empties b p nothing = differs
-empties b p (inserting x) = differs
-empties b p (deleting begin) = provided (eqb (pick b begin) 0) (turned b (b .entry) p nothing)
-empties b p (delivering x) = differs
+empties b p o =
+    ifWalking (λ begin. agreesIf (eqb (pick b begin) 0) (afterCall b (b .entry) p nothing)) o
 
 -- the hand-out of the entry that the Delete_Min marked, if it was not handed out already: it tells
 -- what the entry holds, and ends the Delete_Min
 abbrev pub handsOut : Book → ℕ → Entry → Open → Verdict
-handsOut b p e nothing = differs
-handsOut b p e (inserting x) = differs
-handsOut b p e (deleting x) = differs
-handsOut b p e (delivering t) =
-    provided (gives b e t && not (b .entry t .handedOut))
-    (turned b (upd (b .entry) t (withHandOut (b .entry t))) p nothing)
+handsOut b p e o =
+    ifUnlinking (λ t. agreesIf (gives b e t && not (b .entry t .handedOut))
+    (afterCall b (changedAt (b .entry) t (withHandOut (b .entry t))) p nothing)) o
 
 -- a move or a wait, of a processor that has something open: the count goes up, and that is all
+abbrev pub ticked : Book → Book
+ticked b = record { count = now b; entry = b .entry; opened = b .opened }
+
 abbrev pub moves : Book → Open → Verdict
 moves b nothing = differs
-moves b (inserting x) = agrees (record { count = now b; entry = b .entry; opened = b .opened })
-moves b (deleting x) = agrees (record { count = now b; entry = b .entry; opened = b .opened })
-moves b (delivering x) = agrees (record { count = now b; entry = b .entry; opened = b .opened })
+moves b (inserting t) = agrees (ticked b)
+moves b (walking t) = agrees (ticked b)
+moves b (unlinking t) = agrees (ticked b)
 
--- the book after a call's answer: a refusal changes nothing, and an answer that is another kind of
--- call's is not right
+-- the book after the answer of a begin: a refusal changes nothing, the time is right where `begun`
+-- says so, and no other answer is
+abbrev pub feedBegin : Book → (ℕ → Verdict) → Answer → Verdict
+feedBegin b begun (ans.Refused n) = agrees b
+feedBegin b begun (ans.Began t) = begun t
+feedBegin b begun ans.Moved = differs
+feedBegin b begun ans.Waits = differs
+feedBegin b begun ans.Empty = differs
+feedBegin b begun (ans.Did d e) = differs
+
 abbrev pub feedInsert : Book → ℕ → ℕ → ℕ → Answer → Verdict
-feedInsert b p due item (ans.Refused n) = agrees b
-feedInsert b p due item (ans.Began t) = beginsInsert b p due item t (b .opened p)
-feedInsert b p due item ans.Moved = differs
-feedInsert b p due item ans.Waits = differs
-feedInsert b p due item ans.Empty = differs
-feedInsert b p due item (ans.Marked e) = differs
-feedInsert b p due item (ans.Inserted e) = differs
-feedInsert b p due item (ans.HandedOut e) = differs
+feedInsert b p due item a = feedBegin b (λ t. beginsInsert b p due item t (b .opened p)) a
 
 abbrev pub feedDelete : Book → ℕ → Answer → Verdict
-feedDelete b p (ans.Refused n) = agrees b
-feedDelete b p (ans.Began t) = beginsDelete b p t (b .opened p)
-feedDelete b p ans.Moved = differs
-feedDelete b p ans.Waits = differs
-feedDelete b p ans.Empty = differs
-feedDelete b p (ans.Marked e) = differs
-feedDelete b p (ans.Inserted e) = differs
-feedDelete b p (ans.HandedOut e) = differs
+feedDelete b p a = feedBegin b (λ t. beginsDelete b p t (b .opened p)) a
+
+-- after the answer of a step that tells of an entry, and of any step
+abbrev pub feedDeed : Book → ℕ → Entry → Deed → Verdict
+feedDeed b p e deed.Marked = marks b p e (b .opened p)
+feedDeed b p e deed.Inserted = inserted b p e (b .opened p)
+feedDeed b p e deed.HandedOut = handsOut b p e (b .opened p)
 
 abbrev pub feedStep : Book → ℕ → Answer → Verdict
 feedStep b p (ans.Refused n) = agrees b
@@ -238,15 +254,13 @@ feedStep b p (ans.Began t) = differs
 feedStep b p ans.Moved = moves b (b .opened p)
 feedStep b p ans.Waits = moves b (b .opened p)
 feedStep b p ans.Empty = empties b p (b .opened p)
-feedStep b p (ans.Marked e) = marks b p e (b .opened p)
-feedStep b p (ans.Inserted e) = inserted b p e (b .opened p)
-feedStep b p (ans.HandedOut e) = handsOut b p e (b .opened p)
+feedStep b p (ans.Did d e) = feedDeed b p e d
 
 -- Backlog gives the number of the entries that are answered and not marked (02, W2), and changes
 -- nothing
 abbrev pub feedBacklog : Book → Count → Verdict
 feedBacklog b (count.Refused n) = agrees b
-feedBacklog b (count.Pending k) = provided (eqb k (howMany (pendingIn b) (b .count))) b
+feedBacklog b (count.Pending k) = agreesIf (eqb k (howMany (pendingIn b) (b .count))) b
 
 -- a call and its answer
 abbrev pub feedCall : Book → Call → Answer → Verdict

@@ -14,11 +14,11 @@ use Rattle.record.specs.declared.stages.Stage.the-variants as stage
 use Rattle.record.specs.declared.nodes.Node.{Node}
 use Rattle.record.specs.declared.queues.Processor.{Processor}
 use Rattle.record.specs.declared.queues.Queue.{Queue}
-use Rattle.checks.specs.Check.{valid}
+use Rattle.record_check.specs.Check.{valid}
 use Rattle.record.specs.declared.keys.Key.{Key}
 use Rattle.record.specs.Keys.{keyBefore}
 use Rattle.record.specs.Limits.{maxNumber}
-use Rattle.checks.specs.Making.{outside}
+use Rattle.record_check.specs.Making.{outside}
 use Rattle.record.specs.Nodes.{forwardAt, lockAt, keyOf, stampedBefore}
 use Rattle.record.specs.Queues.{nodeAt, processorAt, savedAt}
 use Rattle.record.specs.Stages.{place, rowOf, isIdle}
@@ -28,9 +28,9 @@ use Rattle.rules.specs.declared.answers.Outcome.{Outcome}
 use Rattle.rules.specs.declared.calls.Call.{Call}
 use Rattle.rules.specs.declared.calls.Call.the-variants as call
 use Rattle.rules.specs.declared.decisions.Effect.the-variants as eff
-use Rattle.rules.specs.declared.decisions.Carry.the-variants as carry
+use Rattle.rules.specs.declared.decisions.ProcessorChange.the-variants as change
 use Rattle.rules.specs.declared.decisions.Decision.{Decision}
-use Rattle.rules.specs.declared.decisions.Sight.{Sight}
+use Rattle.rules.specs.declared.decisions.StepView.{StepView}
 use Rattle.rules.specs.Answers.{refused}
 use Rattle.rules.specs.Choice.{chosen}
 use Rattle.rules.specs.Decide.{decide}
@@ -54,32 +54,37 @@ entryOf n = record { due = n .due; item = n .item; ticket = n .ticket }
 abbrev pub nextOf : Queue → Place → ℕ
 nextOf q a = forwardAt (nodeAt q (a .node)) (a .level)
 
--- what a step of the processor c at the place a reads
-abbrev pub sightOf : Queue → Processor → Place → Sight
-sightOf q c a = record {
+-- what a step of the processor c at the place a reads, from three nodes: the place's (here), the
+-- operation's own, and the one after the place (ahead, whose number is next)
+abbrev pub stepViewFrom : Node → Node → Node → ℕ → Processor → Place → ℕ → ℕ → StepView
+stepViewFrom here own ahead next c a entries levels = record {
   own = c .own;
-  height = nodeAt q (c .own) .height;
-  holder = nodeAt q (c .own) .lock;
-  next = nextOf q a;
-  before =
-      keyBefore (keyOf (q .entries) (nextOf q a) (nodeAt q (nextOf q a)))
-      (keyFor (c .stage) (keyOf (q .entries) (c .own) (nodeAt q (c .own))));
-  tail = eqb (nextOf q a) (q .entries + 1);
-  guard = lockAt (nodeAt q (a .node)) (a .level);
-  onward = forwardAt (nodeAt q (c .own)) (a .level);
-  latch = lockAt (nodeAt q (c .own)) (a .level);
-  levels = q .levels;
-  marked = nodeAt q (a .node) .mark;
-  stamped = stampedBefore (nodeAt q (a .node) .stamp) (c .begin);
-  up = savedAt c (a .level + 1);
-  down = savedAt c (a .level - 1);
-  top = savedAt c (nodeAt q (c .own) .height);
-  seen = entryOf (nodeAt q (a .node));
-  mine = entryOf (nodeAt q (c .own));
+  height = own .height;
+  ownNodeLock = own .nodeLock;
+  next = next;
+  nextBeforeKey =
+      keyBefore (keyOf entries next ahead) (keyFor (c .stage) (keyOf entries (c .own) own));
+  nextIsTail = eqb next (entries + 1);
+  placeLock = lockAt here (a .level);
+  ownNext = forwardAt own (a .level);
+  ownLock = lockAt own (a .level);
+  levelCount = levels;
+  marked = here .mark;
+  stamped = stampedBefore (here .stamp) (c .begin);
+  savedAbove = savedAt c (a .level + 1);
+  savedBelow = savedAt c (a .level - 1);
+  savedAtHeight = savedAt c (own .height);
+  placeEntry = entryOf here;
+  ownEntry = entryOf own;
 }
 
+abbrev pub stepViewOf : Queue → Processor → Place → StepView
+stepViewOf q c a =
+    stepViewFrom (nodeAt q (a .node)) (nodeAt q (c .own)) (nodeAt q (nextOf q a)) (nextOf q a) c a
+    (q .nodeCount) (q .levelCount)
+
 abbrev pub stepDecision : Queue → Processor → Decision
-stepDecision q c = decide (sightOf q c (readingPlace (c .stage))) (c .stage)
+stepDecision q c = decide (stepViewOf q c (readingPlace (c .stage))) (c .stage)
 
 -- what the begin of an Insert decides at the time t, on so many levels: node x is taken, and the
 -- Search begins at the head, on the highest level
@@ -88,7 +93,7 @@ insertBegins levels t x due item height = record {
   effect = eff.Fill x due item height;
   stage = stage.Insert (ins.Search (place 0 levels));
   own = x;
-  carry = carry.Begin;
+  change = change.Begin;
   answer = ans.Began t;
 }
 
@@ -96,17 +101,23 @@ insertBegins levels t x due item height = record {
 abbrev pub deleteBegins : ℕ → Decision
 deleteBegins t = record {
   effect = eff.Keep;
-  stage = stage.Delete (del.Next (place 0 1));
+  stage = stage.Delete (del.ReadNext (place 0 1));
   own = 0;
-  carry = carry.Begin;
+  change = change.Begin;
   answer = ans.Began t;
 }
 
 abbrev pub insertDecision : Queue → ℕ → ℕ → ℕ → ℕ → Decision
-insertDecision q x due item height = insertBegins (q .levels) (q .clock + 1) x due item height
+insertDecision q x due item height = insertBegins (q .levelCount) (q .clock + 1) x due item height
 
 abbrev pub deleteDecision : Queue → Decision
 deleteDecision q = deleteBegins (q .clock + 1)
+
+-- the node that a call takes: an Insert's, 0 if there is none for it; of the other calls 0
+abbrev pub taken : Queue → Call → ℕ
+taken q (call.Insert p due item height) = chosen q
+taken q (call.DeleteMin p) = 0
+taken q (call.Step p) = 0
 
 -- the decision of a call that is not refused
 abbrev pub decisionOf : Queue → Call → Decision
@@ -160,8 +171,8 @@ idleAt q p = isIdle (processorAt q p .stage)
 
 abbrev pub refusalOf : Queue → Call → ℕ
 refusalOf q c =
-    firstOf (refusalBy c (q .clock) (q .processors) (q .levels) (idleAt q (processorOf c)))
-    (nodeRefusal c (chosen q))
+    firstOf (refusalBy c (q .clock) (q .processorCount) (q .levelCount) (idleAt q (processorOf c)))
+    (nodeRefusal c (taken q c))
 
 -- a call on a record that passes check 21, and on any
 abbrev pub calledValid : Queue → Call → Outcome
@@ -176,8 +187,8 @@ called q c = cond (valid q) (calledValid q c) (refused q 21)
 abbrev pub beginInsert : Queue → ℕ → ℕ → ℕ → ℕ → Outcome
 beginInsert q p due item height = called q (call.Insert p due item height)
 
-abbrev pub beginDelete : Queue → ℕ → Outcome
-beginDelete q p = called q (call.DeleteMin p)
+abbrev pub beginDeleteMin : Queue → ℕ → Outcome
+beginDeleteMin q p = called q (call.DeleteMin p)
 
 abbrev pub step : Queue → ℕ → Outcome
 step q p = called q (call.Step p)

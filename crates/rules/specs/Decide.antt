@@ -18,178 +18,186 @@ use Rattle.record.specs.declared.stages.Stage.{Stage}
 use Rattle.record.specs.declared.stages.Stage.the-variants as stage
 use Rattle.record.specs.Stages.{place}
 use Rattle.rules.specs.declared.answers.Answer.{Answer}
+use Rattle.rules.specs.declared.answers.Deed.the-variants as deed
 use Rattle.rules.specs.declared.answers.Entry.{Entry}
 use Rattle.rules.specs.declared.answers.Answer.the-variants as ans
 use Rattle.rules.specs.declared.decisions.Effect.{Effect}
 use Rattle.rules.specs.declared.decisions.Effect.the-variants as eff
-use Rattle.rules.specs.declared.decisions.Carry.the-variants as carry
+use Rattle.rules.specs.declared.decisions.ProcessorChange.the-variants as change
 use Rattle.rules.specs.declared.decisions.Decision.{Decision}
-use Rattle.rules.specs.declared.decisions.Sight.{Sight}
+use Rattle.rules.specs.declared.decisions.StepView.{StepView}
 use Rattle.rules.specs.declared.decisions.Searched.{Searched}
 use Rattle.rules.specs.declared.decisions.Searched.the-variants as srch
 use Rattle.rules.specs.declared.decisions.Sought.{Sought}
 use Rattle.rules.specs.declared.decisions.Sought.the-variants as sght
 
 -- on to another stage, with an effect on one node
-abbrev pub moved : Sight → Effect → Stage → Decision
-moved s e g = record { effect = e; stage = g; own = s .own; carry = carry.Keep; answer = ans.Moved }
+abbrev pub moved : StepView → Effect → Stage → Decision
+moved s e g =
+    record { effect = e; stage = g; own = s .own; change = change.Keep; answer = ans.Moved }
 
-abbrev pub waits : Sight → Stage → Decision
+abbrev pub waits : StepView → Stage → Decision
 waits s g =
-    record { effect = eff.Keep; stage = g; own = s .own; carry = carry.Keep; answer = ans.Waits }
+    record { effect = eff.Keep; stage = g; own = s .own; change = change.Keep; answer = ans.Waits }
 
 -- on to another stage, a saved for its level
-abbrev pub saving : Sight → Place → Stage → Decision
-saving s a g =
-    record { effect = eff.Keep; stage = g; own = s .own; carry = carry.Save a; answer = ans.Moved }
+abbrev pub saving : StepView → Place → Stage → Decision
+saving s a g = record {
+  effect = eff.Keep;
+  stage = g;
+  own = s .own;
+  change = change.Save a;
+  answer = ans.Moved;
+}
 
 -- an answer: the processor is idle, and nothing is saved
 abbrev pub answers : Effect → Answer → Decision
-answers e r = record { effect = e; stage = stage.Idle; own = 0; carry = carry.Clear; answer = r }
+answers e r = record { effect = e; stage = stage.Idle; own = 0; change = change.Clear; answer = r }
 
 -- Search: on along the level as long as the key ahead is smaller; then the place is saved for its
 -- level, and the level below is searched from it. After level 1 the Search is over.
-abbrev pub searchStep : Sight → Place → Searched
+abbrev pub searchStep : StepView → Place → Searched
 searchStep s a =
-    cond (s .before) (srch.Ahead (place (s .next) (a .level)))
-    (cond (leb (a .level) 1) (srch.Left a) (srch.Down (place (a .node) (a .level - 1))))
+    cond (s .nextBeforeKey) (srch.Ahead (place (s .next) (a .level)))
+    (cond (leb (a .level) 1) (srch.Done a) (srch.Down (place (a .node) (a .level - 1))))
 
 -- Lock-seek, on one level. G1 goes on as long as the key ahead is smaller. G2 takes the lock of the
 -- place, or waits for it. G3 looks whether the key ahead is smaller by now: if so, G4 gives the
 -- lock back and goes on to that node, for G2; if not, the Lock-seek is done.
-abbrev pub seekStep : Sight → Seek → Sought
+abbrev pub seekStep : StepView → Seek → Sought
 seekStep s (seek.Approach a) =
-    cond (s .before) (sght.Goes eff.Keep (seek.Approach (place (s .next) (a .level))))
+    cond (s .nextBeforeKey) (sght.Goes eff.Keep (seek.Approach (place (s .next) (a .level))))
     (sght.Goes eff.Keep (seek.Take a))
 seekStep s (seek.Take a) =
-    cond (eqb (s .guard) 0) (sght.Goes (eff.HoldLevel a) (seek.Confirm a))
+    cond (eqb (s .placeLock) 0) (sght.Goes (eff.HoldLevel a) (seek.Confirm a))
     (sght.Waits (seek.Take a))
 seekStep s (seek.Confirm a) =
-    cond (s .before) (sght.Goes eff.Keep (seek.Release a (s .next))) (sght.Done a)
+    cond (s .nextBeforeKey) (sght.Goes eff.Keep (seek.Release a (s .next))) (sght.Done a)
 seekStep s (seek.Release a b) = sght.Goes (eff.FreeLevel a) (seek.Take (place b (a .level)))
 
 -- an Insert's Search leads to the Lock-seek of level 1, and each Lock-seek to I1
-abbrev pub insertSearched : Sight → Place → Searched → Decision
+abbrev pub insertSearched : StepView → Place → Searched → Decision
 insertSearched s a (srch.Ahead b) = moved s eff.Keep (stage.Insert (ins.Search b))
 insertSearched s a (srch.Down b) = saving s a (stage.Insert (ins.Search b))
-insertSearched s a (srch.Left b) = saving s a (stage.Insert (ins.Seek (seek.Approach b)))
+insertSearched s a (srch.Done b) = saving s a (stage.Insert (ins.Seek (seek.Approach b)))
 
-abbrev pub insertSought : Sight → Sought → Decision
+abbrev pub insertSought : StepView → Sought → Decision
 insertSought s (sght.Goes e k) = moved s e (stage.Insert (ins.Seek k))
 insertSought s (sght.Waits k) = waits s (stage.Insert (ins.Seek k))
 insertSought s (sght.Done a) = moved s eff.Keep (stage.Insert (ins.Copy a))
 
 -- I3: the place's lock is free again; on to the next level or, from the height on, to I4
-abbrev pub insertFreed : Sight → Place → Decision
+abbrev pub insertFreed : StepView → Place → Decision
 insertFreed s a =
     cond (ltb (a .level) (s .height))
     (moved s (eff.FreeLevel a)
-    (stage.Insert (ins.Seek (seek.Approach (place (s .up) (a .level + 1))))))
+    (stage.Insert (ins.Seek (seek.Approach (place (s .savedAbove) (a .level + 1))))))
     (moved s (eff.FreeLevel a) (stage.Insert ins.FreeNode))
 
 -- I1: the own node leads to where the place leads; I2: the place leads to it; I4: its node lock is
 -- free; I5: its stamp, and the answer
-abbrev pub insertStep : Sight → Insert → Decision
+abbrev pub insertStep : StepView → Insert → Decision
 insertStep s (ins.Search a) = insertSearched s a (searchStep s a)
 insertStep s (ins.Seek k) = insertSought s (seekStep s k)
 insertStep s (ins.Copy a) =
-    moved s (eff.Lead (place (s .own) (a .level)) (s .next)) (stage.Insert (ins.Link a))
-insertStep s (ins.Link a) = moved s (eff.Lead a (s .own)) (stage.Insert (ins.FreeLevel a))
+    moved s (eff.SetForward (place (s .own) (a .level)) (s .next)) (stage.Insert (ins.Link a))
+insertStep s (ins.Link a) = moved s (eff.SetForward a (s .own)) (stage.Insert (ins.FreeLevel a))
 insertStep s (ins.FreeLevel a) = insertFreed s a
 insertStep s ins.FreeNode = moved s (eff.FreeNode (s .own)) (stage.Insert ins.Stamp)
-insertStep s ins.Stamp = answers (eff.Stamp (s .own)) (ans.Inserted (s .mine))
+insertStep s ins.Stamp = answers (eff.Stamp (s .own)) (ans.Did deed.Inserted (s .ownEntry))
 
 -- the removal of a marked node, and its job
 abbrev pub removing : Job → Removal → Stage
 removing job r = stage.Removal job r
 
 -- the Search, L1, and the Lock-seek of each level from the height down
-abbrev pub removalSearched : Job → Sight → Place → Searched → Decision
+abbrev pub removalSearched : Job → StepView → Place → Searched → Decision
 removalSearched job s a (srch.Ahead b) = moved s eff.Keep (removing job (rem.Search b))
 removalSearched job s a (srch.Down b) = saving s a (removing job (rem.Search b))
-removalSearched job s a (srch.Left b) = saving s a (removing job rem.HoldNode)
+removalSearched job s a (srch.Done b) = saving s a (removing job rem.HoldNode)
 
-abbrev pub holdNode : Job → Sight → Decision
+abbrev pub holdNode : Job → StepView → Decision
 holdNode job s =
-    cond (eqb (s .holder) 0)
+    cond (eqb (s .ownNodeLock) 0)
     (moved s (eff.HoldNode (s .own))
-    (removing job (rem.Seek (seek.Approach (place (s .top) (s .height))))))
+    (removing job (rem.Seek (seek.Approach (place (s .savedAtHeight) (s .height))))))
     (waits s (removing job rem.HoldNode))
 
-abbrev pub removalSought : Job → Sight → Sought → Decision
+abbrev pub removalSought : Job → StepView → Sought → Decision
 removalSought job s (sght.Goes e k) = moved s e (removing job (rem.Seek k))
 removalSought job s (sght.Waits k) = waits s (removing job (rem.Seek k))
 removalSought job s (sght.Done a) = moved s eff.Keep (removing job (rem.HoldOwn a))
 
 -- L2: the own node's lock at the level, or wait for it
-abbrev pub holdOwn : Job → Sight → Place → Decision
+abbrev pub holdOwn : Job → StepView → Place → Decision
 holdOwn job s a =
-    cond (eqb (s .latch) 0)
+    cond (eqb (s .ownLock) 0)
     (moved s (eff.HoldLevel (place (s .own) (a .level))) (removing job (rem.Unlink a)))
     (waits s (removing job (rem.HoldOwn a)))
 
 -- L6: the place's lock is free; on to the level below or, after level 1, to L7
-abbrev pub removalFreed : Job → Sight → Place → Decision
+abbrev pub removalFreed : Job → StepView → Place → Decision
 removalFreed job s a =
     cond (leb (a .level) 1) (moved s (eff.FreeLevel a) (removing job rem.FreeNode))
     (moved s (eff.FreeLevel a)
-    (removing job (rem.Seek (seek.Approach (place (s .down) (a .level - 1))))))
+    (removing job (rem.Seek (seek.Approach (place (s .savedBelow) (a .level - 1))))))
 
 -- what L8 answers, by the removal's job
 abbrev pub handing : Job → Entry → Answer
-handing jobs.Deliver e = ans.HandedOut e
+handing jobs.Deliver e = ans.Did deed.HandedOut e
 
 -- L3: the place leads past the own node; L4: that one leads back to the place; L5: its lock is
 -- free; L7: and its node lock; L8: it is retired, and the job tells the answer
-abbrev pub removalStep : Job → Sight → Removal → Decision
+abbrev pub removalStep : Job → StepView → Removal → Decision
 removalStep job s (rem.Search a) = removalSearched job s a (searchStep s a)
 removalStep job s rem.HoldNode = holdNode job s
 removalStep job s (rem.Seek k) = removalSought job s (seekStep s k)
 removalStep job s (rem.HoldOwn a) = holdOwn job s a
-removalStep job s (rem.Unlink a) = moved s (eff.Lead a (s .onward)) (removing job (rem.Back a))
-removalStep job s (rem.Back a) =
-    moved s (eff.Lead (place (s .own) (a .level)) (a .node)) (removing job (rem.FreeOwn a))
+removalStep job s (rem.Unlink a) =
+    moved s (eff.SetForward a (s .ownNext)) (removing job (rem.LeadBack a))
+removalStep job s (rem.LeadBack a) =
+    moved s (eff.SetForward (place (s .own) (a .level)) (a .node)) (removing job (rem.FreeOwn a))
 removalStep job s (rem.FreeOwn a) =
     moved s (eff.FreeLevel (place (s .own) (a .level))) (removing job (rem.FreeLevel a))
 removalStep job s (rem.FreeLevel a) = removalFreed job s a
 removalStep job s rem.FreeNode = moved s (eff.FreeNode (s .own)) (removing job rem.Retire)
-removalStep job s rem.Retire = answers (eff.Retire (s .own)) (handing job (s .mine))
+removalStep job s rem.Retire = answers (eff.Retire (s .own)) (handing job (s .ownEntry))
 
 -- W1: on to the next node of level 1, or EMPTY at the end
-abbrev pub walkOn : Sight → Decision
+abbrev pub walkOn : StepView → Decision
 walkOn s =
-    cond (s .tail) (answers eff.Keep ans.Empty)
-    (moved s eff.Keep (stage.Delete (del.Stamped (place (s .next) 1))))
+    cond (s .nextIsTail) (answers eff.Keep ans.Empty)
+    (moved s eff.Keep (stage.Delete (del.TestStamp (place (s .next) 1))))
 
 -- W2: a node whose stamp is older than the operation may be marked; any other is walked past
-abbrev pub stampTest : Sight → Place → Decision
+abbrev pub stampTest : StepView → Place → Decision
 stampTest s a =
-    cond (s .stamped) (moved s eff.Keep (stage.Delete (del.Mark a)))
-    (moved s eff.Keep (stage.Delete (del.Next a)))
+    cond (s .stamped) (moved s eff.Keep (stage.Delete (del.SetMark a)))
+    (moved s eff.Keep (stage.Delete (del.ReadNext a)))
 
 -- 01, W3 where the mark was not set: the node is the operation's own from here on, and its removal
 -- begins with the Search
-abbrev pub marking : Job → Sight → Place → Decision
+abbrev pub marking : Job → StepView → Place → Decision
 marking job s a = record {
   effect = eff.Mark (a .node);
-  stage = removing job (rem.Search (place 0 (s .levels)));
+  stage = removing job (rem.Search (place 0 (s .levelCount)));
   own = a .node;
-  carry = carry.Keep;
-  answer = ans.Marked (s .seen);
+  change = change.Keep;
+  answer = ans.Did deed.Marked (s .placeEntry);
 }
 
 -- 01, W3
-abbrev pub markTest : Sight → Place → Decision
+abbrev pub markTest : StepView → Place → Decision
 markTest s a =
-    cond (s .marked) (moved s eff.Keep (stage.Delete (del.Next a))) (marking jobs.Deliver s a)
+    cond (s .marked) (moved s eff.Keep (stage.Delete (del.ReadNext a))) (marking jobs.Deliver s a)
 
-abbrev pub deleteStep : Sight → Delete → Decision
-deleteStep s (del.Next a) = walkOn s
-deleteStep s (del.Stamped a) = stampTest s a
-deleteStep s (del.Mark a) = markTest s a
+abbrev pub deleteStep : StepView → Delete → Decision
+deleteStep s (del.ReadNext a) = walkOn s
+deleteStep s (del.TestStamp a) = stampTest s a
+deleteStep s (del.SetMark a) = markTest s a
 
 -- an idle processor has no step: the call is refused before this
-abbrev pub decide : Sight → Stage → Decision
+abbrev pub decide : StepView → Stage → Decision
 decide s stage.Idle = waits s stage.Idle
 decide s (stage.Insert i) = insertStep s i
 decide s (stage.Delete d) = deleteStep s d

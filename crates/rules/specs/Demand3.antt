@@ -6,16 +6,17 @@ use mathlib.Core.Bool.{true, false, _&&_}
 use mathlib.Core.List.{List, _∷_, _++_}
 use lib.ListN.{getD}
 use Rattle.laws.specs.HowMany.{howMany}
-use Rattle.checks.specs.declared.counting.Count.the-variants as count
+use Rattle.record_check.specs.declared.counting.Count.the-variants as count
 use Rattle.record.specs.declared.queues.Queue.{Queue}
-use Rattle.checks.specs.Check.{valid}
+use Rattle.record_check.specs.Check.{valid}
 use Rattle.record.specs.Queues.{freshQueue, nodeAt, processorAt}
 use Rattle.rules.specs.declared.answers.Answer.the-variants as ans
+use Rattle.rules.specs.declared.answers.Deed.the-variants as deed
 use Rattle.rules.specs.declared.answers.Entry.{Entry}
-use Rattle.rules.specs.Book.{Book, deleting, delivering, emptyBook, agrees, judged, earlier}
+use Rattle.rules.specs.Book.{Book, walking, unlinking, emptyBook, agrees, judged, earlier}
 use Rattle.rules.specs.Book.{answeredIn, pendingIn}
 use Rattle.rules.specs.Locks.{Lock, level, node, holderOf, Claims}
-use Rattle.rules.specs.Runs.{Turn, steps, backlog, Reply, answered, counted, reply, afterAll}
+use Rattle.rules.specs.Runs.{Turn, stepBy, backlog, Reply, answered, counted, reply, afterAll}
 
 -- a queue that was just made has sizes in their ranges
 pub record InRange (P N L : ℕ) : Type 0 where
@@ -38,7 +39,7 @@ Demand3 = (P N L : ℕ) → InRange P N L → (cs : List Turn) → (b : Book) ×
 -- What it means. In the statements below cs is any list of calls on a fresh queue, b the book after
 -- it, and the next call is a step of processor p.
 abbrev pub stepReply : (P N L : ℕ) → List Turn → ℕ → Reply
-stepReply P N L cs p = reply (afterAll (freshQueue P N L) cs) (steps p)
+stepReply P N L cs p = reply (afterAll (freshQueue P N L) cs) (stepBy p)
 
 -- the entry with ticket t was answered before this begin, and no earlier step marked it
 pub record Left (b : Book) (begin t : ℕ) : Type 0 where
@@ -55,7 +56,7 @@ pub record Entered (b : Book) (e : Entry) : Type 0 where
 -- such entry is due earlier; of those for one minute it is the one whose Insert began first.
 pub record Earliest (b : Book) (p : ℕ) (e : Entry) : Type 0 where
   pub begin : ℕ
-  pub opened : b .opened p ≡ deleting begin
+  pub opened : b .opened p ≡ walking begin
   pub left : Left b begin (e .ticket)
   pub entered : Entered b e
   pub first : (t : ℕ) → Left b begin t → earlier b t (e .ticket) ≡ false
@@ -64,12 +65,12 @@ pub record Earliest (b : Book) (p : ℕ) (e : Entry) : Type 0 where
 abbrev pub MarkedIsEarliest : Type 0
 MarkedIsEarliest =
     (P N L : ℕ) → InRange P N L → (cs : List Turn) (b : Book) → BookAfter P N L cs b
-    → (p : ℕ) (e : Entry) → stepReply P N L cs p ≡ answered (ans.Marked e) → Earliest b p e
+    → (p : ℕ) (e : Entry) → stepReply P N L cs p ≡ answered (ans.Did deed.Marked e) → Earliest b p e
 
 -- EMPTY: there is none.
 pub record NoneLeft (b : Book) (p : ℕ) : Type 0 where
   pub begin : ℕ
-  pub opened : b .opened p ≡ deleting begin
+  pub opened : b .opened p ≡ walking begin
   pub none : (t : ℕ) → Left b begin t → ⊥
 
 abbrev pub EmptyIsTrue : Type 0
@@ -79,29 +80,31 @@ EmptyIsTrue =
 
 -- What is handed out is what this Delete_Min marked.
 pub record Delivered (b : Book) (p : ℕ) (e : Entry) : Type 0 where
-  pub opened : b .opened p ≡ delivering (e .ticket)
+  pub opened : b .opened p ≡ unlinking (e .ticket)
   pub entered : Entered b e
   pub not-before : b .entry (e .ticket) .handedOut ≡ false
 
 abbrev pub HandedOutIsMarked : Type 0
 HandedOutIsMarked =
     (P N L : ℕ) → InRange P N L → (cs : List Turn) (b : Book) → BookAfter P N L cs b
-    → (p : ℕ) (e : Entry) → stepReply P N L cs p ≡ answered (ans.HandedOut e) → Delivered b p e
+    → (p : ℕ) (e : Entry) → stepReply P N L cs p
+    ≡ answered (ans.Did deed.HandedOut e) → Delivered b p e
 
 -- Nothing is marked twice, and nothing is handed out twice: a step of p and, any calls later, one
 -- of r
 abbrev pub MarkedOnce : Type 0
 MarkedOnce =
     (P N L : ℕ) → InRange P N L → (cs ds : List Turn) (p r : ℕ) (e f : Entry)
-    → stepReply P N L cs p ≡ answered (ans.Marked e) →
-    stepReply P N L (cs ++ (steps p ∷ ds)) r ≡ answered (ans.Marked f) → e .ticket ≡ f .ticket → ⊥
+    → stepReply P N L cs p ≡ answered (ans.Did deed.Marked e) →
+    stepReply P N L (cs ++ (stepBy p ∷ ds)) r
+    ≡ answered (ans.Did deed.Marked f) → e .ticket ≡ f .ticket → ⊥
 
 abbrev pub HandedOutOnce : Type 0
 HandedOutOnce =
     (P N L : ℕ) → InRange P N L → (cs ds : List Turn) (p r : ℕ) (e f : Entry)
-    → stepReply P N L cs p ≡ answered (ans.HandedOut e) →
-    stepReply P N L (cs ++ (steps p ∷ ds)) r ≡ answered (ans.HandedOut f) → e .ticket ≡ f .ticket
-    → ⊥
+    → stepReply P N L cs p ≡ answered (ans.Did deed.HandedOut e) →
+    stepReply P N L (cs ++ (stepBy p ∷ ds)) r
+    ≡ answered (ans.Did deed.HandedOut f) → e .ticket ≡ f .ticket → ⊥
 
 -- Backlog (02, W2). k is the number of the book's entries that are answered and not marked. With
 -- the marked ones among the answered it makes up all that are answered, one for each Insert that
@@ -131,16 +134,16 @@ ReachedIsValid =
 -- No call changes a slot past P, N + 1 or L, on any record: slot k of a node's or a processor's
 -- array is level k + 1.
 pub record SameOutside (q r : Queue) : Type 0 where
-  pub processors : r .processors ≡ q .processors
-  pub entries : r .entries ≡ q .entries
-  pub levels : r .levels ≡ q .levels
-  pub nodes : (x : ℕ) → q .entries + 1 < x → nodeAt r x ≡ nodeAt q x
-  pub callers : (p : ℕ) → q .processors ≤ p → processorAt r p ≡ processorAt q p
-  pub forward : (x k : ℕ) → q .levels ≤ k → getD (nodeAt r x .forward) k 0
+  pub processorCount : r .processorCount ≡ q .processorCount
+  pub nodeCount : r .nodeCount ≡ q .nodeCount
+  pub levelCount : r .levelCount ≡ q .levelCount
+  pub nodes : (x : ℕ) → q .nodeCount + 1 < x → nodeAt r x ≡ nodeAt q x
+  pub processors : (p : ℕ) → q .processorCount ≤ p → processorAt r p ≡ processorAt q p
+  pub forward : (x k : ℕ) → q .levelCount ≤ k → getD (nodeAt r x .forward) k 0
       ≡ getD (nodeAt q x .forward) k 0
-  pub locks : (x k : ℕ) → q .levels ≤ k → getD (nodeAt r x .locks) k 0
-      ≡ getD (nodeAt q x .locks) k 0
-  pub saved : (p k : ℕ) → q .levels ≤ k → getD (processorAt r p .saved) k 0
+  pub levelLocks : (x k : ℕ) → q .levelCount ≤ k → getD (nodeAt r x .levelLocks) k 0
+      ≡ getD (nodeAt q x .levelLocks) k 0
+  pub saved : (p k : ℕ) → q .levelCount ≤ k → getD (processorAt r p .saved) k 0
       ≡ getD (processorAt q p .saved) k 0
 
 abbrev pub OutsideIsUntouched : Type 0

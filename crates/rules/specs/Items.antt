@@ -10,13 +10,13 @@ use lib.Dec.{eqb}
 use Rattle.record.specs.declared.nodes.Node.{Node}
 use Rattle.record.specs.declared.queues.Queue.{Queue}
 use Rattle.record.specs.Limits.{maxNumber}
-use Rattle.checks.specs.Check.{valid}
+use Rattle.record_check.specs.Check.{valid}
 use Rattle.rules.specs.declared.answers.Answer.{Answer}
 use Rattle.rules.specs.declared.answers.Answer.the-variants as ans
 use Rattle.rules.specs.declared.answers.Entry.{Entry}
 use Rattle.rules.specs.declared.calls.Call.{Call}
 use Rattle.rules.specs.declared.calls.Call.the-variants as call
-use Rattle.rules.specs.Runs.{Turn, calls, deleteMin, steps, backlog, after}
+use Rattle.rules.specs.Runs.{Turn, calls, deleteMin, stepBy, backlog, after}
 use Rattle.rules.specs.Runs.{Reply, answered, counted, reply}
 
 -- f gives new numbers to items: what was in its range and nothing else comes to be in it. 0 stays,
@@ -29,8 +29,8 @@ pub record Renaming (f : ℕ → ℕ) : Type 0 where
 abbrev pub renamedNode : (ℕ → ℕ) → Node → Node
 renamedNode f n = record {
   forward = n .forward;
-  locks = n .locks;
-  lock = n .lock;
+  levelLocks = n .levelLocks;
+  nodeLock = n .nodeLock;
   mark = n .mark;
   stamp = n .stamp;
   due = n .due;
@@ -42,12 +42,12 @@ renamedNode f n = record {
 
 abbrev pub renamed : (ℕ → ℕ) → Queue → Queue
 renamed f q = record {
-  processors = q .processors;
-  entries = q .entries;
-  levels = q .levels;
+  processorCount = q .processorCount;
+  nodeCount = q .nodeCount;
+  levelCount = q .levelCount;
   clock = q .clock;
   nodes = map (renamedNode f) (q .nodes);
-  callers = q .callers;
+  processors = q .processors;
 }
 
 abbrev pub renamedEntry : (ℕ → ℕ) → Entry → Entry
@@ -59,9 +59,7 @@ renamedAnswer f (ans.Began t) = ans.Began t
 renamedAnswer f ans.Moved = ans.Moved
 renamedAnswer f ans.Waits = ans.Waits
 renamedAnswer f ans.Empty = ans.Empty
-renamedAnswer f (ans.Marked e) = ans.Marked (renamedEntry f e)
-renamedAnswer f (ans.Inserted e) = ans.Inserted (renamedEntry f e)
-renamedAnswer f (ans.HandedOut e) = ans.HandedOut (renamedEntry f e)
+renamedAnswer f (ans.Did d e) = ans.Did d (renamedEntry f e)
 
 abbrev pub renamedReply : (ℕ → ℕ) → Reply → Reply
 renamedReply f (answered a) = answered (renamedAnswer f a)
@@ -110,7 +108,7 @@ zeroFor k n = cond (eqb n k) 0 n
 pub record GoesOnWithZero (k : ℕ) (q : Queue) : Type 0 where
   pub taken : valid (renamed (zeroFor k) q) ≡ valid q
   pub begun : (p : ℕ) → SameButItems (zeroFor k) q (deleteMin p)
-  pub stepped : (p : ℕ) → SameButItems (zeroFor k) q (steps p)
+  pub stepped : (p : ℕ) → SameButItems (zeroFor k) q (stepBy p)
 
 abbrev pub ItemZeroGoesOn : Type 0
 ItemZeroGoesOn = (k : ℕ) → k ≤ maxNumber → (q : Queue) → GoesOnWithZero k q

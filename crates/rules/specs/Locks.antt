@@ -17,7 +17,7 @@ pub data Lock : Type 0 where
 -- 0 where it is free, p + 1 where processor p holds it
 abbrev pub holderOf : Queue → Lock → ℕ
 holderOf q (level n i) = lockAt (nodeAt q n) i
-holderOf q (node n) = nodeAt q n .lock
+holderOf q (node n) = nodeAt q n .nodeLock
 
 -- by the table of stages: the place's lock at its level, own's lock at that level, own's node lock
 abbrev pub holdsPlace : Stage → Bool

@@ -2,9 +2,9 @@
 -- only reads, may be any of them.
 use Prim.Native.Nat.{ℕ}
 use mathlib.Core.List.{List, [], _∷_}
-use Rattle.checks.specs.declared.counting.Count.{Count}
+use Rattle.record_check.specs.declared.counting.Count.{Count}
 use Rattle.record.specs.declared.queues.Queue.{Queue}
-use Rattle.checks.specs.Backlog.{backlogOf}
+use Rattle.record_check.specs.Backlog.{backlogOf}
 use Rattle.rules.specs.declared.answers.Answer.{Answer}
 use Rattle.rules.specs.declared.calls.Call.{Call}
 use Rattle.rules.specs.declared.calls.Call.the-variants as call
@@ -21,8 +21,8 @@ insert p due item height = calls (call.Insert p due item height)
 abbrev pub deleteMin : ℕ → Turn
 deleteMin p = calls (call.DeleteMin p)
 
-abbrev pub steps : ℕ → Turn
-steps p = calls (call.Step p)
+abbrev pub stepBy : ℕ → Turn
+stepBy p = calls (call.Step p)
 
 -- what a call gives back: an answer, or Backlog's count
 pub data Reply : Type 0 where

@@ -7,40 +7,40 @@ use record::Seek;
 use record::Stage;
 
 // What a step reads of the record: numbers and flags alone.
-pub struct Sight {
+pub struct StepView {
     // the operation's own node: its number, its height, and who holds its node lock
     pub own: u8,
     pub height: u8,
-    pub holder: u8,
+    pub ownNodeLock: u8,
     // the node after the place at its level; whether its key is before the own node's; whether it
     // is the tail
     pub next: u8,
-    pub before: bool,
-    pub tail: bool,
+    pub nextBeforeKey: bool,
+    pub nextIsTail: bool,
     // who holds the place's lock at the level
-    pub guard: u8,
+    pub placeLock: u8,
     // the own node's forward number at the level, and who holds its lock there
-    pub onward: u8,
-    pub latch: u8,
+    pub ownNext: u8,
+    pub ownLock: u8,
     // the queue's highest level
-    pub levels: u8,
+    pub levelCount: u8,
     // the place's node: whether it is marked, and whether its stamp is before the operation's begin
     pub marked: bool,
     pub stamped: bool,
     // the saved nodes one level up, one level down, and at the own node's height
-    pub up: u8,
-    pub down: u8,
-    pub top: u8,
+    pub savedAbove: u8,
+    pub savedBelow: u8,
+    pub savedAtHeight: u8,
     // what the place's node and the own node hold
-    pub seen: Entry,
-    pub mine: Entry,
+    pub placeEntry: Entry,
+    pub ownEntry: Entry,
 }
 
 // A step of a Search: on along the level, one level down, or out of it.
 pub enum Searched {
     Ahead(Place),
     Down(Place),
-    Left(Place),
+    Done(Place),
 }
 
 // A step of a Lock-seek: on, waiting, or done with the place's lock held.
@@ -55,7 +55,7 @@ pub enum Effect {
     Keep,
     HoldLevel(Place),
     FreeLevel(Place),
-    Lead(Place, u8),
+    SetForward(Place, u8),
     HoldNode(u8),
     FreeNode(u8),
     Mark(u8),
@@ -67,7 +67,7 @@ pub enum Effect {
 
 // What becomes of the begin time and the saved nodes of the calling processor: both stay; the place
 // is saved for its level; the answer clears both; a begin sets the begin time.
-pub enum Carry {
+pub enum ProcessorChange {
     Keep,
     Save(Place),
     Clear,
@@ -78,6 +78,6 @@ pub struct Decision {
     pub effect: Effect,
     pub stage: Stage,
     pub own: u8,
-    pub carry: Carry,
+    pub change: ProcessorChange,
     pub answer: Answer,
 }

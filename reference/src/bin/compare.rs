@@ -28,7 +28,7 @@ struct Arguments {
 
 fn main() -> ExitCode {
     let Some(arguments) = arguments() else {
-        eprintln!("usage: compare PROGRAM [SEED [COUNT]]");
+        eprintln!("state: compare PROGRAM [SEED [COUNT]]");
         return ExitCode::from(2);
     };
     println!("seed {}, {} sheets", arguments.seed, arguments.count);

@@ -35,7 +35,7 @@ fn book_entries(view: &View) -> bool {
     let mut in_use = 0;
     for n in view.entry_nodes() {
         let node = view.node(n);
-        if node.usage != Use::InUse {
+        if node.state != Use::InUse {
             continue;
         }
         in_use += 1;

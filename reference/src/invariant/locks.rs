@@ -23,7 +23,7 @@ pub(super) const CONJUNCTS: &[Conjunct] = &[
 /// From G3 to the freeing of it, the place's lock is held by the processor.
 fn holds_place(view: &View) -> bool {
     view.busy().all(|(number, _, p)| match p.place {
-        Some(a) if p.holds_place => view.node(a.node).locks[slot(a.level)] == holder(number),
+        Some(a) if p.holds_place => view.node(a.node).level_locks[slot(a.level)] == holder(number),
         _ => true,
     })
 }
@@ -31,7 +31,7 @@ fn holds_place(view: &View) -> bool {
 /// At L3, L4 and L5 the own node's lock at the level is held by the processor.
 fn holds_own(view: &View) -> bool {
     view.busy().all(|(number, _, p)| match p.place {
-        Some(a) if p.holds_own => view.node(p.own).locks[slot(a.level)] == holder(number),
+        Some(a) if p.holds_own => view.node(p.own).level_locks[slot(a.level)] == holder(number),
         _ => true,
     })
 }
@@ -59,7 +59,7 @@ fn node_lock_held(view: &View) -> bool {
 fn level_lock_held(view: &View) -> bool {
     (HEAD..=view.queue.tail()).all(|n| {
         view.levels().all(|i| {
-            let lock = view.node(n).locks[slot(i)];
+            let lock = view.node(n).level_locks[slot(i)];
             if lock == FREE {
                 return true;
             }

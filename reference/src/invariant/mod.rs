@@ -15,7 +15,7 @@ mod walks;
 use crate::book::Book;
 use crate::claims::{claim, Claim, Role};
 use crate::ghost::{Ghost, EVER};
-use crate::queue::{slot, Key, Node, Processor, Queue, Use, HEAD, MOST_NODES, MOST_PROCESSORS};
+use crate::queue::{slot, Key, Node, Processor, Queue, Use, HEAD, MAX_NODES, MAX_PROCESSORS};
 
 /// A conjunct: its name and whether it holds.
 pub type Conjunct = (&'static str, fn(&View) -> bool);
@@ -25,9 +25,9 @@ pub struct View<'a> {
     queue: &'a Queue,
     ghost: &'a Ghost,
     book: &'a Book,
-    claims: [Claim; MOST_PROCESSORS],
+    claims: [Claim; MAX_PROCESSORS],
     /// The nodes that are not never-used, by key.
-    order: [u8; MOST_NODES],
+    order: [u8; MAX_NODES],
     used: usize,
 }
 
@@ -79,14 +79,14 @@ fn families() -> [&'static [Conjunct]; 6] {
 
 impl<'a> View<'a> {
     fn new(queue: &'a Queue, ghost: &'a Ghost, book: &'a Book) -> View<'a> {
-        let mut claims = [claim(&queue.processors[0]); MOST_PROCESSORS];
+        let mut claims = [claim(&queue.processors[0]); MAX_PROCESSORS];
         for (p, claimed) in claims.iter_mut().enumerate() {
             *claimed = claim(&queue.processors[p]);
         }
-        let mut order = [HEAD; MOST_NODES];
+        let mut order = [HEAD; MAX_NODES];
         let mut used = 0;
         for n in 1..=queue.node_count {
-            if queue.nodes[n as usize].usage != Use::Never {
+            if queue.nodes[n as usize].state != Use::Never {
                 order[used] = n;
                 used += 1;
             }
@@ -169,6 +169,6 @@ impl<'a> View<'a> {
     /// Whether the node may be marked by a walk begun then.
     fn eligible(&self, n: u8, begin: u32) -> bool {
         let node = self.node(n);
-        node.usage == Use::InUse && !node.mark && node.stamp.is_some_and(|time| time < begin)
+        node.state == Use::InUse && !node.mark && node.stamp.is_some_and(|time| time < begin)
     }
 }

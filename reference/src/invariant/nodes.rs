@@ -2,7 +2,7 @@
 
 use super::{Conjunct, View};
 use crate::ghost::EVER;
-use crate::queue::{Use, FREE, HEAD, MOST_NODES};
+use crate::queue::{Use, FREE, HEAD, MAX_NODES};
 
 pub(super) const CONJUNCTS: &[Conjunct] = &[
     ("EndsLinked", ends_linked),
@@ -40,7 +40,7 @@ fn until_down(view: &View) -> bool {
 
 /// Two nodes that are not never-used have different tickets.
 fn tickets_differ(view: &View) -> bool {
-    let mut tickets = [0; MOST_NODES];
+    let mut tickets = [0; MAX_NODES];
     for (ticket, &n) in tickets.iter_mut().zip(&view.order[..view.used]) {
         *ticket = view.node(n).ticket;
     }
@@ -53,12 +53,12 @@ fn tickets_differ(view: &View) -> bool {
 /// `HiUsed`).
 fn never_not_linked(view: &View) -> bool {
     view.entry_nodes()
-        .all(|n| view.node(n).usage != Use::Never || view.levels().all(|i| view.until(n, i) == 0))
+        .all(|n| view.node(n).state != Use::Never || view.levels().all(|i| view.until(n, i) == 0))
 }
 
 /// A retired node is linked nowhere.
 fn retired_not_linked(view: &View) -> bool {
-    view.entry_nodes().all(|n| match view.node(n).usage {
+    view.entry_nodes().all(|n| match view.node(n).state {
         Use::Retired(_) => view.linked_exactly(n, 0),
         _ => true,
     })
@@ -67,7 +67,7 @@ fn retired_not_linked(view: &View) -> bool {
 /// A node retired at r was unlinked by r, so whoever began after r never saw
 /// it linked.
 fn hi_retired(view: &View) -> bool {
-    view.entry_nodes().all(|n| match view.node(n).usage {
+    view.entry_nodes().all(|n| match view.node(n).state {
         Use::Retired(time) => view.levels().all(|i| view.until(n, i) <= time),
         _ => true,
     })
@@ -75,7 +75,7 @@ fn hi_retired(view: &View) -> bool {
 
 /// A retired node is marked.
 fn retired_marked(view: &View) -> bool {
-    view.entry_nodes().all(|n| match view.node(n).usage {
+    view.entry_nodes().all(|n| match view.node(n).state {
         Use::Retired(_) => view.node(n).mark,
         _ => true,
     })
@@ -85,7 +85,7 @@ fn retired_marked(view: &View) -> bool {
 fn unmarked_free(view: &View) -> bool {
     view.entry_nodes().all(|n| {
         let node = view.node(n);
-        node.usage != Use::InUse || node.mark || node.node_lock != FREE || view.linked_to_height(n)
+        node.state != Use::InUse || node.mark || node.node_lock != FREE || view.linked_to_height(n)
     })
 }
 
@@ -93,7 +93,7 @@ fn unmarked_free(view: &View) -> bool {
 fn settled_full(view: &View) -> bool {
     view.entry_nodes().all(|n| {
         let node = view.node(n);
-        node.usage != Use::InUse || node.mark || node.stamp.is_none() || view.linked_to_height(n)
+        node.state != Use::InUse || node.mark || node.stamp.is_none() || view.linked_to_height(n)
     })
 }
 

@@ -44,7 +44,7 @@ fn own_nodes_differ(view: &View, role: Role) -> bool {
 fn own_use(view: &View) -> bool {
     view.busy().all(|(_, processor, p)| {
         p.role == Role::Walk
-            || match view.node(p.own).usage {
+            || match view.node(p.own).state {
                 Use::InUse => true,
                 Use::Retired(time) => processor.stage == Stage::I5Stamp && p.begin <= time,
                 Use::Never => false,

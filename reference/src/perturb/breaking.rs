@@ -2,29 +2,29 @@
 
 use super::{change, on_node, on_processor, stage_change};
 use super::{stages_at, stages_without_place, walk_stages_at, Change};
-use crate::queue::{Operation, Place, Queue, Stage, Use, HEAD, LIMIT};
-use crate::queue::{MOST_LEVELS, MOST_NODES, MOST_PROCESSORS};
+use crate::queue::{Operation, Place, Queue, Stage, Use, HEAD, MAX_NUMBER};
+use crate::queue::{MAX_LEVELS, MAX_NODES, MAX_PROCESSORS};
 
 /// Changes each of which breaks check 21: every looked-at field, one at a time,
 /// just out of its range and far out.
 pub fn breaking(queue: &Queue) -> Vec<Change> {
     let mut changes = Vec::new();
-    for count in [0, MOST_PROCESSORS as u8 + 1, u8::MAX] {
+    for count in [0, MAX_PROCESSORS as u8 + 1, u8::MAX] {
         changes.push(change(format!("P {count}"), move |queue| {
             queue.processor_count = count
         }));
     }
-    for count in [0, MOST_NODES as u8 + 1, u8::MAX] {
+    for count in [0, MAX_NODES as u8 + 1, u8::MAX] {
         changes.push(change(format!("N {count}"), move |queue| {
             queue.node_count = count
         }));
     }
-    for count in [0, MOST_LEVELS as u8 + 1, u8::MAX] {
+    for count in [0, MAX_LEVELS as u8 + 1, u8::MAX] {
         changes.push(change(format!("L {count}"), move |queue| {
             queue.level_count = count
         }));
     }
-    for clock in [LIMIT + 1, u32::MAX] {
+    for clock in [MAX_NUMBER + 1, u32::MAX] {
         changes.push(change(format!("clock {clock}"), move |queue| {
             queue.clock = clock
         }));
@@ -50,7 +50,7 @@ fn node_breaking(queue: &Queue, n: usize) -> Vec<Change> {
         }
         for value in [queue.processor_count + 1, u8::MAX] {
             changes.push(on_node(n, format!("lock[{i}] {value}"), move |node| {
-                node.locks[i] = value
+                node.level_locks[i] = value
             }));
         }
     }
@@ -59,7 +59,7 @@ fn node_breaking(queue: &Queue, n: usize) -> Vec<Change> {
             node.node_lock = value
         }));
     }
-    for value in [LIMIT + 1, u32::MAX] {
+    for value in [MAX_NUMBER + 1, u32::MAX] {
         changes.push(on_node(n, format!("due {value}"), move |node| {
             node.due = value
         }));
@@ -80,7 +80,7 @@ fn node_breaking(queue: &Queue, n: usize) -> Vec<Change> {
             node.stamp = Some(time)
         }));
         changes.push(on_node(n, format!("retired {time}"), move |node| {
-            node.usage = Use::Retired(time)
+            node.state = Use::Retired(time)
         }));
     }
     if n == HEAD as usize || n == queue.tail() as usize {

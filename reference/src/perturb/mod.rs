@@ -2,8 +2,8 @@
 //! that bring a field to the edge of its range, and those past P, N+1 and L.
 
 use crate::calls::Call;
-use crate::queue::{Node, Operation, Place, Processor, Queue, Stage, Use, HEAD, LIMIT};
-use crate::queue::{MOST_LEVELS, MOST_PROCESSORS, NODE_SLOTS};
+use crate::queue::{Node, Operation, Place, Processor, Queue, Stage, Use, HEAD, MAX_NUMBER};
+use crate::queue::{MAX_LEVELS, MAX_PROCESSORS, NODE_SLOTS};
 use crate::schedule::{Schedule, Sizes};
 use crate::trial::fresh_of;
 
@@ -144,18 +144,18 @@ pub fn to_the_edge(queue: &Queue) -> Vec<Change> {
     for n in 0..=tail as usize {
         changes.push(on_node(n, "at its greatest".to_string(), move |node| {
             node.forward[..levels as usize].fill(tail);
-            node.locks[..levels as usize].fill(holders);
+            node.level_locks[..levels as usize].fill(holders);
             node.node_lock = holders;
-            node.due = LIMIT;
-            node.item = LIMIT;
+            node.due = MAX_NUMBER;
+            node.item = MAX_NUMBER;
             node.ticket = clock;
             node.height = levels;
-            node.usage = Use::Retired(clock);
+            node.state = Use::Retired(clock);
         }));
         changes.push(on_node(n, "at its least".to_string(), move |node| {
             node.forward[..levels as usize].fill(HEAD);
             node.height = 1;
-            node.usage = Use::Retired(0);
+            node.state = Use::Retired(0);
             node.stamp = None;
         }));
     }
@@ -206,8 +206,8 @@ pub fn past_slots(queue: &Queue) -> Vec<Change> {
     for n in queue.tail() as usize + 1..NODE_SLOTS {
         changes.push(on_node(n, "past N+1".to_string(), |node| {
             *node = Node {
-                forward: [u8::MAX; MOST_LEVELS],
-                locks: [u8::MAX; MOST_LEVELS],
+                forward: [u8::MAX; MAX_LEVELS],
+                level_locks: [u8::MAX; MAX_LEVELS],
                 node_lock: u8::MAX,
                 mark: true,
                 stamp: Some(u32::MAX),
@@ -215,21 +215,21 @@ pub fn past_slots(queue: &Queue) -> Vec<Change> {
                 ticket: u32::MAX,
                 item: u32::MAX,
                 height: u8::MAX,
-                usage: Use::InUse,
+                state: Use::InUse,
             };
         }));
         changes.push(on_node(n, "never used past N+1".to_string(), |node| {
             node.height = 0;
-            node.usage = Use::Retired(0);
+            node.state = Use::Retired(0);
         }));
     }
-    for p in queue.processor_count as usize..MOST_PROCESSORS {
+    for p in queue.processor_count as usize..MAX_PROCESSORS {
         changes.push(on_processor(p, "past P".to_string(), move |processor| {
             *processor = Processor {
                 begin: 0,
                 own: u8::MAX,
                 stage: Stage::Search(Operation::Insert, far),
-                saved: [u8::MAX; MOST_LEVELS],
+                saved: [u8::MAX; MAX_LEVELS],
             };
         }));
         changes.push(on_processor(p, "late past P".to_string(), |processor| {
@@ -243,13 +243,13 @@ pub fn past_slots(queue: &Queue) -> Vec<Change> {
 /// them.
 pub fn past_levels(queue: &Queue) -> Vec<Change> {
     let mut changes = Vec::new();
-    for i in queue.level_count as usize..MOST_LEVELS {
+    for i in queue.level_count as usize..MAX_LEVELS {
         for n in 0..=queue.tail() as usize {
             changes.push(on_node(n, format!("forward[{i}] past L"), move |node| {
                 node.forward[i] = u8::MAX
             }));
             changes.push(on_node(n, format!("lock[{i}] past L"), move |node| {
-                node.locks[i] = u8::MAX
+                node.level_locks[i] = u8::MAX
             }));
         }
         for p in 0..queue.processor_count as usize {

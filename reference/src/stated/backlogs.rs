@@ -42,7 +42,7 @@ pub struct Counted {
 
 fn put(queue: &mut Queue, number: usize, (usage, stamp, mark, _): Kind) {
     let node = &mut queue.nodes[number];
-    (node.usage, node.stamp, node.mark) = (usage, stamp, mark);
+    (node.state, node.stamp, node.mark) = (usage, stamp, mark);
 }
 
 /// On the record of each table, in which no node is in use: each kind at the

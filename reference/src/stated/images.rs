@@ -108,7 +108,7 @@ const MANY_BYTES: [u8; 17] = [1, 2, 3, 4, 5, 19, 7, 8, 9, 10, 11, 12, 13, 14, 15
 /// A node with another number in each of its bytes, but mark and tags.
 const FULL: Node = Node {
     forward: [1, 2, 3, 4, 5, 6, 7, 8],
-    locks: [9, 10, 11, 12, 13, 14, 15, 16],
+    level_locks: [9, 10, 11, 12, 13, 14, 15, 16],
     node_lock: 17,
     mark: true,
     stamp: Some(0x1716_1514),
@@ -116,7 +116,7 @@ const FULL: Node = Node {
     ticket: 0x1f1e_1d1c,
     item: 0x2322_2120,
     height: 36,
-    usage: Use::Retired(0x2928_2726),
+    state: Use::Retired(0x2928_2726),
 };
 const FULL_BYTES: [u8; 41] = [
     1, 2, 3, 4, 5, 6, 7, 8, 9, 10, 11, 12, 13, 14, 15, 16, 17, 1, 1, 20, 21, 22, 23, 24, 25, 26,
@@ -129,7 +129,7 @@ fn zeros([processor_count, node_count, level_count]: [u8; 3]) -> Queue {
     let (tail, last) = (node_count + 1, usize::from(node_count) + 1);
     let made = Node {
         forward: [tail; 8],
-        locks: [0; 8],
+        level_locks: [0; 8],
         node_lock: 0,
         mark: false,
         stamp: None,
@@ -137,7 +137,7 @@ fn zeros([processor_count, node_count, level_count]: [u8; 3]) -> Queue {
         ticket: 0,
         item: 0,
         height: 1,
-        usage: Use::Never,
+        state: Use::Never,
     };
     let zero = Node {
         forward: [0; 8],

@@ -11,7 +11,7 @@ fn begun(processor_count: u8, level_count: u8, item: u32) -> Queue {
     let tail = 2;
     let free = Node {
         forward: [tail; 8],
-        locks: [0; 8],
+        level_locks: [0; 8],
         node_lock: 0,
         mark: false,
         stamp: None,
@@ -19,7 +19,7 @@ fn begun(processor_count: u8, level_count: u8, item: u32) -> Queue {
         ticket: 0,
         item: 0,
         height: 1,
-        usage: Use::Never,
+        state: Use::Never,
     };
     let idle = Processor {
         begin: 0,
@@ -44,7 +44,7 @@ fn begun(processor_count: u8, level_count: u8, item: u32) -> Queue {
         due: 7,
         ticket: 1,
         item,
-        usage: Use::InUse,
+        state: Use::InUse,
         ..free
     };
     queue.processors[0] = Processor {

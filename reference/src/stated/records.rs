@@ -54,7 +54,7 @@ fn node(table: &Table, number: usize) -> Node {
     match table.filling {
         Filling::Least => Node {
             forward: [0; 8],
-            locks: [0; 8],
+            level_locks: [0; 8],
             node_lock: 0,
             mark: false,
             stamp: None,
@@ -62,11 +62,11 @@ fn node(table: &Table, number: usize) -> Node {
             ticket: 0,
             item: 0,
             height: 1,
-            usage: Use::Never,
+            state: Use::Never,
         },
         Filling::Greatest if number > usize::from(tail) => Node {
             forward: [255; 8],
-            locks: [255; 8],
+            level_locks: [255; 8],
             node_lock: 255,
             mark: true,
             stamp: Some(u32::MAX),
@@ -74,11 +74,11 @@ fn node(table: &Table, number: usize) -> Node {
             ticket: u32::MAX,
             item: u32::MAX,
             height: 255,
-            usage: Use::Retired(u32::MAX),
+            state: Use::Retired(u32::MAX),
         },
         Filling::Greatest => Node {
             forward: up_to(l, tail),
-            locks: up_to(l, p),
+            level_locks: up_to(l, p),
             node_lock: p,
             mark: true,
             stamp: (1..=last).contains(&number).then_some(table.clock),
@@ -86,7 +86,7 @@ fn node(table: &Table, number: usize) -> Node {
             ticket: table.clock,
             item: 999_999,
             height: l,
-            usage: Use::Retired(table.clock),
+            state: Use::Retired(table.clock),
         },
     }
 }
@@ -238,7 +238,7 @@ pub fn put(queue: &mut Queue, field: Field, spot: Spot, value: u64) {
             let node = &mut queue.nodes[node];
             let list = match field {
                 Field::Forward => &mut node.forward,
-                _ => &mut node.locks,
+                _ => &mut node.level_locks,
             };
             list[level - 1] = byte(value);
         }
@@ -265,7 +265,7 @@ fn put_node(node: &mut Node, field: Field, value: u64) {
         Field::Item => node.item = number(value),
         Field::Ticket => node.ticket = number(value),
         Field::Height => node.height = byte(value),
-        Field::Retirement => node.usage = Use::Retired(number(value)),
+        Field::Retirement => node.state = Use::Retired(number(value)),
         Field::Stamp | Field::HeadStamp | Field::TailStamp => {
             node.stamp = (value != NONE).then(|| number(value));
         }

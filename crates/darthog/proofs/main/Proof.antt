@@ -2,7 +2,7 @@ use mathlib.Core.Path.{sym}
 use Prim.Native.Nat.{_≤_}
 use lib.ListN.{length, take, drop}
 use lib.Seq.{length-take-le}
-use Rattle.sheet.specs.Program.{programPrints}
+use Rattle.sheet_format.specs.Program.{programPrints}
 use Rattle.darthog.proofs.Printed.{printed-within}
 use borrow.Author.Needs.{needs}
 use Rattle.darthog.proofs.main.Statement.{statement}

@@ -17,14 +17,14 @@ returns c = rw (c .before .before .before .before .before .c .given .1) (c .befo
 enum-known-c-2 : tie.Need-enum-known-c-2
 enum-known-c-2 c = search needs
 
-begin-delete-at-requires : tie.Need-begin-delete-at-requires
-begin-delete-at-requires c κs = search needs
+begin-delete-min-at-requires : tie.Need-begin-delete-min-at-requires
+begin-delete-min-at-requires c κs = search needs
 
 same-length-2 : tie.Need-same-length-2
 same-length-2 c = search needs
 
 returns-2 : tie.Need-returns-2
-returns-2 c = rw (c .before .before .before .before .before .c2 .given .1) (c .before .before .begin-delete-at .ensures)
+returns-2 c = rw (c .before .before .before .before .before .c2 .given .1) (c .before .before .begin-delete-min-at .ensures)
 
 enum-known-c-3 : tie.Need-enum-known-c-3
 enum-known-c-3 c = search needs
@@ -47,7 +47,7 @@ call-at-spec =
     same-length
     returns
     enum-known-c-2
-    begin-delete-at-requires
+    begin-delete-min-at-requires
     same-length-2
     returns-2
     enum-known-c-3

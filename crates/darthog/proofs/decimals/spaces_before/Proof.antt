@@ -2,7 +2,7 @@ use mathlib.Core.Path.{_≡_, refl, sym, ap, _∙_}
 use Prim.Native.Nat.{_-_, _≤_}
 use native.Mathlib.Omega.{arith}
 use lib.ListN.{length, drop}
-use Rattle.sheet.specs.Columns.{trimmed}
+use Rattle.sheet_format.specs.Columns.{trimmed}
 use Rattle.darthog.proofs.Texts.{none-left, space-more, digit-first}
 use borrow.Author.Needs.{needs}
 use Rattle.darthog.proofs.decimals.spaces_before.Statement.{statement}

@@ -2,9 +2,9 @@ use mathlib.Core.Path.{_≡_, refl, _∙_}
 use Prim.Native.Nat.{_+_, _≤_}
 use native.Mathlib.Omega.{arith}
 use lib.ListN.{length, set, length-set}
-use Rattle.sheet.specs.Columns.{decimal}
-use Rattle.sheet.specs.Letters.{space}
-use Rattle.sheet.proofs.Written.{length-stored}
+use Rattle.sheet_format.specs.Columns.{decimal}
+use Rattle.sheet_format.specs.Letters.{space}
+use Rattle.sheet_format.proofs.Written.{length-stored}
 use Rattle.darthog.proofs.Texts.{Parts, length-decimal, end-low, text-end, text-stored}
 use borrow.Author.Needs.{needs}
 use Rattle.darthog.proofs.printing.print_refusal.Statement.{statement}

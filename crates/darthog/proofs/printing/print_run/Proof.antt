@@ -4,7 +4,7 @@ use Prim.Native.Nat.{ℕ, _≤_}
 use native.Mathlib.Omega.{arith}
 use lib.ListN.{length, drop, length-take}
 use lib.Seq.{take-all, length-take-le}
-use Rattle.sheet.specs.Program.{printed}
+use Rattle.sheet_format.specs.Program.{textOf}
 use borrow.Author.Needs.{needs}
 use Rattle.darthog.proofs.printing.print_run.Statement.{statement}
 use Rattle.darthog.proofs.printing.print_run.Tie as tie
@@ -15,7 +15,7 @@ print-sheet-requires c κs = search needs
 returns : tie.Need-returns
 returns c =
     let a = c .before .before .before .before .args in
-    let e = sym (ap printed (take-all 65536 (a .sheet .now) (c .before .before .if1 .taken))) in (
+    let e = sym (ap textOf (take-all 65536 (a .sheet .now) (c .before .before .if1 .taken))) in (
       c .print-sheet .ensures .0 ∙ ap length e,
       c .print-sheet .ensures .1 ∙ ap (λ (x : List ℕ). x ++ drop (length x) (a .area .now)) e,
     )

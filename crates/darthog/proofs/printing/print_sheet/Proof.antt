@@ -3,7 +3,7 @@ use mathlib.Core.List.{List, _++_}
 use Prim.Native.Nat.{ℕ}
 use native.Mathlib.Omega.{arith}
 use lib.ListN.{length, drop}
-use Rattle.sheet.specs.Program.{printed}
+use Rattle.sheet_format.specs.Program.{textOf}
 use Rattle.darthog.proofs.Printed.{Run, area-kept, refusal-printed, line-low}
 use Rattle.darthog.proofs.Printed.{history-length, history-written}
 use borrow.Author.Needs.{needs}
@@ -60,7 +60,7 @@ returns c =
       p .print-refusal .ensures .0 ∙ ap length t,
       p .print-refusal .ensures .1
           ∙ ap (λ (x : List ℕ). x ++ drop (length x) after) t
-          ∙ ap (λ (x : List ℕ). printed s ++ drop (length (printed s)) x) k,
+          ∙ ap (λ (x : List ℕ). textOf s ++ drop (length (textOf s)) x) k,
     )
 
 same-length-2 : tie.Need-same-length-2

@@ -4,7 +4,7 @@ use native.Mathlib.Omega.{arith}
 use Rattle.laws.proofs.Rules.{tests}
 use Rattle.record.specs.Limits.{maxNumber}
 use Rattle.due.specs.declared.seconds.Minutes.the-variants as minutes
-use Rattle.due.specs.Due.{maxSeconds, minutesOf, reportedMinutes}
+use Rattle.due.specs.Due.{maxSeconds, dueFromSeconds, reportedMinutes}
 use Rattle.due.proofs.Nearest.{taken-if-due}
 use borrow.Author.Needs.{needs}
 use borrow.Author.Tests.{le-ltb}
@@ -27,7 +27,7 @@ cast-t4 c =
 returns-2 : tie.Need-returns-2
 returns-2 c =
     let s : c .before .before .args .seconds ≤ maxSeconds = omega arith in
-    let e : minutes.Due (c .nearest-minute .result) ≡ minutesOf (c .before .before .args .seconds)
+    let e : minutes.Due (c .nearest-minute .result) ≡ dueFromSeconds (c .before .before .args .seconds)
     = simp (le-ltb _ _ s, c .nearest-minute .ensures .0) in
     (e, ((s, c .nearest-minute .ensures .1), ap reportedMinutes e))
 

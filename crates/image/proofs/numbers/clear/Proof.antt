@@ -15,31 +15,24 @@ Inv-loop b₀ o l k₀ b k = (b ≡ puts b₀ o (clears k)) × (k ≤ l) × (len
 abbrev μ-loop : tie.MeasureT-loop
 μ-loop b₀ o l k₀ b k = l - k
 
--- src/numbers.rt:47:5
 loop-holds : tie.Need-loop-holds Inv-loop μ-loop
 loop-holds c = (refl, omega arith, refl)
 
--- src/numbers.rt:48:16
 add-b : tie.Need-add-b Inv-loop μ-loop
 add-b c = search needs
 
--- src/numbers.rt:48:11
 add-b-2 : tie.Need-add-b-2 Inv-loop μ-loop
 add-b-2 c = search needs
 
--- src/numbers.rt:48:9
 slice-write-b : tie.Need-slice-write-b Inv-loop μ-loop
 slice-write-b c = search needs
 
--- src/numbers.rt:49:13
 add-k : tie.Need-add-k Inv-loop μ-loop
 add-k c = search needs
 
--- src/numbers.rt:47:5
 loop-less : tie.Need-loop-less Inv-loop μ-loop
 loop-less c = search needs
 
--- src/numbers.rt:47:5
 loop-again : tie.Need-loop-again Inv-loop μ-loop
 loop-again c =
     let v = c .before .loop .inv in
@@ -51,79 +44,60 @@ loop-again c =
       simp length-set (v .2),
     )
 
--- src/numbers.rt:51:5
 slice-write-b-2 : tie.Need-slice-write-b-2 Inv-loop μ-loop
 slice-write-b-2 c = omega arith
 
--- src/numbers.rt:52:7
 add-b-3 : tie.Need-add-b-3 Inv-loop μ-loop
 add-b-3 c = search needs
 
--- src/numbers.rt:52:5
 slice-write-b-3 : tie.Need-slice-write-b-3 Inv-loop μ-loop
 slice-write-b-3 c = simp length-set (omega arith)
 
--- src/numbers.rt:53:7
 add-b-4 : tie.Need-add-b-4 Inv-loop μ-loop
 add-b-4 c = search needs
 
--- src/numbers.rt:53:5
 slice-write-b-4 : tie.Need-slice-write-b-4 Inv-loop μ-loop
 slice-write-b-4 c = simp length-set (omega arith)
 
--- src/numbers.rt:54:7
 add-b-5 : tie.Need-add-b-5 Inv-loop μ-loop
 add-b-5 c = search needs
 
--- src/numbers.rt:54:5
 slice-write-b-5 : tie.Need-slice-write-b-5 Inv-loop μ-loop
 slice-write-b-5 c = simp length-set (omega arith)
 
--- src/numbers.rt:55:7
 add-b-6 : tie.Need-add-b-6 Inv-loop μ-loop
 add-b-6 c = search needs
 
--- src/numbers.rt:55:5
 slice-write-b-6 : tie.Need-slice-write-b-6 Inv-loop μ-loop
 slice-write-b-6 c = simp length-set (omega arith)
 
--- src/numbers.rt:56:7
 add-b-7 : tie.Need-add-b-7 Inv-loop μ-loop
 add-b-7 c = search needs
 
--- src/numbers.rt:56:5
 slice-write-b-7 : tie.Need-slice-write-b-7 Inv-loop μ-loop
 slice-write-b-7 c = simp length-set (omega arith)
 
--- src/numbers.rt:57:7
 add-b-8 : tie.Need-add-b-8 Inv-loop μ-loop
 add-b-8 c = search needs
 
--- src/numbers.rt:57:5
 slice-write-b-8 : tie.Need-slice-write-b-8 Inv-loop μ-loop
 slice-write-b-8 c = simp length-set (omega arith)
 
--- src/numbers.rt:58:7
 add-b-9 : tie.Need-add-b-9 Inv-loop μ-loop
 add-b-9 c = search needs
 
--- src/numbers.rt:58:5
 slice-write-b-9 : tie.Need-slice-write-b-9 Inv-loop μ-loop
 slice-write-b-9 c = simp length-set (omega arith)
 
--- src/numbers.rt:59:7
 add-b-10 : tie.Need-add-b-10 Inv-loop μ-loop
 add-b-10 c = search needs
 
--- src/numbers.rt:59:5
 slice-write-b-10 : tie.Need-slice-write-b-10 Inv-loop μ-loop
 slice-write-b-10 c = simp length-set (omega arith)
 
--- src/numbers.rt:42:1
 same-length : tie.Need-same-length Inv-loop μ-loop
 same-length c = simp length-set (omega arith)
 
--- src/numbers.rt:42:1
 returns : tie.Need-returns Inv-loop μ-loop
 returns c =
     cleared (c .before .before .args .b .now) (c .before .loop .b) (c .before .before .args .o)

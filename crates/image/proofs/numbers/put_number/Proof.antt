@@ -4,71 +4,54 @@ use borrow.Author.Needs.{needs}
 use Rattle.image.proofs.numbers.put_number.Statement.{statement}
 use Rattle.image.proofs.numbers.put_number.Tie as tie
 
--- src/numbers.rt:35:16
 cast-b : tie.Need-cast-b
 cast-b c = search needs
 
--- src/numbers.rt:35:7
 add-b : tie.Need-add-b
 add-b c = search needs
 
--- src/numbers.rt:35:5
 slice-write-b : tie.Need-slice-write-b
 slice-write-b c = search needs
 
--- src/numbers.rt:36:22
 cast-b-2 : tie.Need-cast-b-2
 cast-b-2 c = search needs
 
--- src/numbers.rt:36:12
 add-b-2 : tie.Need-add-b-2
 add-b-2 c = search needs
 
--- src/numbers.rt:36:7
 add-b-3 : tie.Need-add-b-3
 add-b-3 c = search needs
 
--- src/numbers.rt:36:5
 slice-write-b-2 : tie.Need-slice-write-b-2
 slice-write-b-2 c = simp length-set (omega arith)
 
--- src/numbers.rt:37:22
 cast-b-3 : tie.Need-cast-b-3
 cast-b-3 c = search needs
 
--- src/numbers.rt:37:12
 add-b-4 : tie.Need-add-b-4
 add-b-4 c = search needs
 
--- src/numbers.rt:37:7
 add-b-5 : tie.Need-add-b-5
 add-b-5 c = search needs
 
--- src/numbers.rt:37:5
 slice-write-b-3 : tie.Need-slice-write-b-3
 slice-write-b-3 c = simp length-set (omega arith)
 
--- src/numbers.rt:38:22
 cast-b-4 : tie.Need-cast-b-4
 cast-b-4 c = search needs
 
--- src/numbers.rt:38:12
 add-b-6 : tie.Need-add-b-6
 add-b-6 c = search needs
 
--- src/numbers.rt:38:7
 add-b-7 : tie.Need-add-b-7
 add-b-7 c = search needs
 
--- src/numbers.rt:38:5
 slice-write-b-4 : tie.Need-slice-write-b-4
 slice-write-b-4 c = search needs
 
--- src/numbers.rt:31:1
 same-length : tie.Need-same-length
 same-length c = search needs
 
--- src/numbers.rt:31:1
 returns : tie.Need-returns
 returns c = search needs
 

@@ -4,51 +4,39 @@ use borrow.Author.Needs.{needs}
 use Rattle.image.proofs.numbers.tick.Statement.{statement}
 use Rattle.image.proofs.numbers.tick.Tie as tie
 
--- src/numbers.rt:23:13
 number-from-requires : tie.Need-number-from-requires
 number-from-requires c κs = search needs
 
--- src/numbers.rt:23:13
 add-t : tie.Need-add-t
 add-t c = search needs
 
--- src/numbers.rt:24:12
 cast-b : tie.Need-cast-b
 cast-b c = search needs
 
--- src/numbers.rt:24:5
 slice-write-b : tie.Need-slice-write-b
 slice-write-b c = search needs
 
--- src/numbers.rt:25:12
 cast-b-2 : tie.Need-cast-b-2
 cast-b-2 c = search needs
 
--- src/numbers.rt:25:5
 slice-write-b-2 : tie.Need-slice-write-b-2
 slice-write-b-2 c = simp length-set (omega arith)
 
--- src/numbers.rt:26:12
 cast-b-3 : tie.Need-cast-b-3
 cast-b-3 c = search needs
 
--- src/numbers.rt:26:5
 slice-write-b-3 : tie.Need-slice-write-b-3
 slice-write-b-3 c = simp length-set (omega arith)
 
--- src/numbers.rt:27:12
 cast-b-4 : tie.Need-cast-b-4
 cast-b-4 c = search needs
 
--- src/numbers.rt:27:5
 slice-write-b-4 : tie.Need-slice-write-b-4
 slice-write-b-4 c = search needs
 
--- src/numbers.rt:19:1
 same-length : tie.Need-same-length
 same-length c = search needs
 
--- src/numbers.rt:19:1
 returns : tie.Need-returns
 returns c = simp (c .number-from .ensures)
 

@@ -6,7 +6,7 @@ use lib.ListN.{getD}
 use Rattle.laws.specs.Every.{everyBelow}
 use Rattle.laws.proofs.Counting.{every-next}
 use Rattle.record.specs.Queues.{processorAt}
-use Rattle.choosing.specs.Choosing.{beganAfter}
+use Rattle.rules.specs.Choice.{beganAfter}
 use Rattle.image.specs.Image.{queueIn}
 use Rattle.image_begin.proofs.choice.all_after.Statement.{statement}
 use Rattle.image_begin.proofs.choice.all_after.Tie as tie

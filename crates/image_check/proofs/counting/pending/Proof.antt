@@ -4,7 +4,7 @@ use native.Mathlib.Omega.{arith}
 use borrow.Author.Needs.{needs}
 use lib.ListN.{getD}
 use Rattle.laws.specs.HowMany.{howMany}
-use Rattle.checks.specs.Backlog.{pendingAt}
+use Rattle.record_check.specs.Backlog.{pendingAt}
 use Rattle.image.specs.Image.{queueIn}
 use Rattle.image_check.proofs.Counts.{few, short, pending-next}
 use Rattle.image_check.proofs.counting.pending.Statement.{statement}

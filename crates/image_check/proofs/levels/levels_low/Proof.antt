@@ -18,39 +18,30 @@ Inv-loop b o j l top ok₀ k₀ ok k =
 abbrev μ-loop : tie.MeasureT-loop
 μ-loop b o j l top ok₀ k₀ ok k = 8 - k
 
--- src/levels.rt:28:5
 loop-holds : tie.Need-loop-holds Inv-loop μ-loop
 loop-holds c = (refl, omega arith)
 
--- src/levels.rt:29:45
 add-slot-low : tie.Need-add-slot-low Inv-loop μ-loop
 add-slot-low c = search needs
 
--- src/levels.rt:29:40
 add-slot-low-2 : tie.Need-add-slot-low-2 Inv-loop μ-loop
 add-slot-low-2 c = search needs
 
--- src/levels.rt:29:38
 shared-slice-read-slot-low : tie.Need-shared-slice-read-slot-low Inv-loop μ-loop
 shared-slice-read-slot-low c = search needs
 
--- src/levels.rt:29:23
 slot-low-requires : tie.Need-slot-low-requires Inv-loop μ-loop
 slot-low-requires c κs = search needs
 
--- src/levels.rt:29:9
 both-requires : tie.Need-both-requires Inv-loop μ-loop
 both-requires c κs = search needs
 
--- src/levels.rt:30:13
 add-k : tie.Need-add-k Inv-loop μ-loop
 add-k c = search needs
 
--- src/levels.rt:28:5
 loop-less : tie.Need-loop-less Inv-loop μ-loop
 loop-less c = search needs
 
--- src/levels.rt:28:5
 loop-again : tie.Need-loop-again Inv-loop μ-loop
 loop-again c = let a = c .before .before .before .before .before .before .args in (
   every-next (λ (i : ℕ). leb (a .l) i || leb (piece (a .b .now) (a .o) (a .j + i)) (a .top))
@@ -59,7 +50,6 @@ loop-again c = let a = c .before .before .before .before .before .before .args i
   omega arith,
 )
 
--- src/levels.rt:22:1
 returns : tie.Need-returns Inv-loop μ-loop
 returns c = let s = c .before .before .before in
     let a = s .args in

@@ -2,11 +2,9 @@ use borrow.Author.Tests.{le-leb, lt-leb}
 use Rattle.image_check.proofs.levels.slot_low.Statement.{statement}
 use Rattle.image_check.proofs.levels.slot_low.Tie as tie
 
--- src/levels.rt:15:1
 returns : tie.Need-returns
 returns c = simp (le-leb _ _ (c .if1 .taken))
 
--- src/levels.rt:15:1
 returns-2 : tie.Need-returns-2
 returns-2 c = simp (lt-leb _ _ (c .if1 .left))
 

@@ -5,31 +5,24 @@ use Rattle.image_check.proofs.Stages.{placed-rest}
 use Rattle.image_check.proofs.tags.is_placed.Statement.{statement}
 use Rattle.image_check.proofs.tags.is_placed.Tie as tie
 
--- src/tags.rt:22:1
 returns : tie.Need-returns
 returns c = ap (λ (t : ℕ). rowAt t .placed) (sym (c .match .keys1))
 
--- src/tags.rt:22:1
 returns-2 : tie.Need-returns-2
 returns-2 c = ap (λ (t : ℕ). rowAt t .placed) (sym (c .match .keys2))
 
--- src/tags.rt:22:1
 returns-3 : tie.Need-returns-3
 returns-3 c = ap (λ (t : ℕ). rowAt t .placed) (sym (c .match .keys3))
 
--- src/tags.rt:22:1
 returns-4 : tie.Need-returns-4
 returns-4 c = ap (λ (t : ℕ). rowAt t .placed) (sym (c .match .keys4))
 
--- src/tags.rt:22:1
 returns-5 : tie.Need-returns-5
 returns-5 c = ap (λ (t : ℕ). rowAt t .placed) (sym (c .match .keys5))
 
--- src/tags.rt:22:1
 returns-6 : tie.Need-returns-6
 returns-6 c = ap (λ (t : ℕ). rowAt t .placed) (sym (c .match .keys6))
 
--- src/tags.rt:22:1
 returns-7 : tie.Need-returns-7
 returns-7 c =
     let r = c .match .rest in

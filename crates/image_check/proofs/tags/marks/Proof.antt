@@ -5,11 +5,9 @@ use Rattle.image_check.proofs.Stages.{marks-rest}
 use Rattle.image_check.proofs.tags.marks.Statement.{statement}
 use Rattle.image_check.proofs.tags.marks.Tie as tie
 
--- src/tags.rt:48:1
 returns : tie.Need-returns
 returns c = ap (λ (t : ℕ). rowAt t .marks) (sym (c .match .keys1))
 
--- src/tags.rt:48:1
 returns-2 : tie.Need-returns-2
 returns-2 c = sym (marks-rest (c .before .args .tag) (c .before .pre) (c .match .rest .1))
 

@@ -5,23 +5,18 @@ use Rattle.image_check.proofs.Stages.{owned-rest}
 use Rattle.image_check.proofs.tags.owns.Statement.{statement}
 use Rattle.image_check.proofs.tags.owns.Tie as tie
 
--- src/tags.rt:9:1
 returns : tie.Need-returns
 returns c = ap (λ (t : ℕ). rowAt t .owns) (sym (c .match .keys1))
 
--- src/tags.rt:9:1
 returns-2 : tie.Need-returns-2
 returns-2 c = ap (λ (t : ℕ). rowAt t .owns) (sym (c .match .keys2))
 
--- src/tags.rt:9:1
 returns-3 : tie.Need-returns-3
 returns-3 c = ap (λ (t : ℕ). rowAt t .owns) (sym (c .match .keys3))
 
--- src/tags.rt:9:1
 returns-4 : tie.Need-returns-4
 returns-4 c = ap (λ (t : ℕ). rowAt t .owns) (sym (c .match .keys4))
 
--- src/tags.rt:9:1
 returns-5 : tie.Need-returns-5
 returns-5 c =
     let r = c .match .rest in

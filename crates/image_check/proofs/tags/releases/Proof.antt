@@ -5,15 +5,12 @@ use Rattle.image_check.proofs.Stages.{releases-rest}
 use Rattle.image_check.proofs.tags.releases.Statement.{statement}
 use Rattle.image_check.proofs.tags.releases.Tie as tie
 
--- src/tags.rt:37:1
 returns : tie.Need-returns
 returns c = ap (λ (t : ℕ). rowAt t .releases) (sym (c .match .keys1))
 
--- src/tags.rt:37:1
 returns-2 : tie.Need-returns-2
 returns-2 c = ap (λ (t : ℕ). rowAt t .releases) (sym (c .match .keys2))
 
--- src/tags.rt:37:1
 returns-3 : tie.Need-returns-3
 returns-3 c =
     let r = c .match .rest in

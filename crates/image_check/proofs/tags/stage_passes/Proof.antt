@@ -7,33 +7,26 @@ use borrow.Author.Needs.{needs}
 use Rattle.image_check.proofs.tags.stage_passes.Statement.{statement}
 use Rattle.image_check.proofs.tags.stage_passes.Tie as tie
 
--- src/tags.rt:69:9
 is-placed-requires : tie.Need-is-placed-requires
 is-placed-requires c κs = search needs
 
--- src/tags.rt:70:9
 marks-requires : tie.Need-marks-requires
 marks-requires c κs = search needs
 
--- src/tags.rt:71:9
 owns-requires : tie.Need-owns-requires
 owns-requires c κs = search needs
 
--- src/tags.rt:72:12
 pick-requires : tie.Need-pick-requires
 pick-requires c κs = search needs
 
--- src/tags.rt:73:9
 returns : tie.Need-returns
 returns c =
     let P = c .before .before .before .before .is-placed .ensures in
     rw (low-not (picked 1 0 (c .before .pick .ensures) P) (c .if1 .taken)) refl
 
--- src/tags.rt:75:8
 pick-requires-2 : tie.Need-pick-requires-2
 pick-requires-2 c κs = search needs
 
--- src/tags.rt:76:9
 returns-2 : tie.Need-returns-2
 returns-2 c =
     let d1 = c .before .before in
@@ -45,19 +38,15 @@ returns-2 c =
     )
     refl
 
--- src/tags.rt:78:13
 releases-requires : tie.Need-releases-requires
 releases-requires c κs = search needs
 
--- src/tags.rt:78:28
 add-pick : tie.Need-add-pick
 add-pick c = search needs
 
--- src/tags.rt:78:8
 pick-requires-3 : tie.Need-pick-requires-3
 pick-requires-3 c κs = search needs
 
--- src/tags.rt:79:9
 returns-3 : tie.Need-returns-3
 returns-3 c =
     let d2 = c .before .before .before in
@@ -72,11 +61,9 @@ returns-3 c =
     )
     refl
 
--- src/tags.rt:81:12
 pick-requires-4 : tie.Need-pick-requires-4
 pick-requires-4 c κs = search needs
 
--- src/tags.rt:82:9
 returns-4 : tie.Need-returns-4
 returns-4 c =
     let d3 = c .before .before in
@@ -94,19 +81,15 @@ returns-4 c =
     )
     refl
 
--- src/tags.rt:84:37
 add-pick-2 : tie.Need-add-pick-2
 add-pick-2 c = search needs
 
--- src/tags.rt:84:24
 pick-requires-5 : tie.Need-pick-requires-5
 pick-requires-5 c κs = search needs
 
--- src/tags.rt:84:8
 pick-requires-6 : tie.Need-pick-requires-6
 pick-requires-6 c κs = search needs
 
--- src/tags.rt:85:9
 returns-5 : tie.Need-returns-5
 returns-5 c =
     let d4 = c .before .before .before in
@@ -128,11 +111,9 @@ returns-5 c =
     )
     refl
 
--- src/tags.rt:87:14
 pick-requires-7 : tie.Need-pick-requires-7
 pick-requires-7 c κs = search needs
 
--- src/tags.rt:88:9
 returns-6 : tie.Need-returns-6
 returns-6 c =
     let d5 = c .before .before in
@@ -157,15 +138,12 @@ returns-6 c =
     )
     refl
 
--- src/tags.rt:90:27
 add-pick-3 : tie.Need-add-pick-3
 add-pick-3 c = search needs
 
--- src/tags.rt:90:12
 pick-requires-8 : tie.Need-pick-requires-8
 pick-requires-8 c κs = search needs
 
--- src/tags.rt:65:1
 returns-7 : tie.Need-returns-7
 returns-7 c =
     let d6 = c .before in

@@ -3,7 +3,7 @@ use native.Mathlib.Omega.{arith}
 use lib.ListN.{getD}
 use borrow.Author.Tests.{not-true, not-false}
 use Rattle.image.specs.Numbers.{number32}
-use Rattle.checks.proofs.Sizes.{sizes-bounds}
+use Rattle.record_check.proofs.Sizes.{sizes-bounds}
 use Rattle.image_check.specs.Tests.{sizes}
 use Rattle.image_check.proofs.Tests.{misfit, outsized, all-tests}
 use borrow.Author.Needs.{needs}
@@ -98,8 +98,8 @@ returns-3 c =
     let b = c .before .before .before .before .before .before .before .before .before .args .image .now in
     misfit b (c .if3 .taken)
 
-callers-pass-requires : tie.Need-callers-pass-requires
-callers-pass-requires c κs =
+processors-pass-requires : tie.Need-processors-pass-requires
+processors-pass-requires c κs =
     let b = c .before .before .before .before .before .before .before .before .before .args .image .now in
     let ok = sym
     (rw (c .before .before .before .number-from .ensures)
@@ -131,7 +131,7 @@ returns-4 c =
     simp (
       c .both .ensures,
       c .before .nodes-pass .ensures,
-      c .before .before .callers-pass .ensures,
+      c .before .before .processors-pass .ensures,
     )
     (all-tests b (sym ok) (c .before .before .before .if3 .left) (z .processors-high)
     (z .entries-high))
@@ -155,7 +155,7 @@ passes-spec =
     mul-if3-2
     add-if3-3
     returns-3
-    callers-pass-requires
+    processors-pass-requires
     nodes-pass-requires
     both-requires
     returns-4)

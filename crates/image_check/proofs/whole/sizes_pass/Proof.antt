@@ -2,31 +2,24 @@ use borrow.Author.Needs.{needs}
 use Rattle.image_check.proofs.whole.sizes_pass.Statement.{statement}
 use Rattle.image_check.proofs.whole.sizes_pass.Tie as tie
 
--- src/whole.rt:15:20
 is-within-requires : tie.Need-is-within-requires
 is-within-requires c κs = search needs
 
--- src/whole.rt:15:47
 is-within-requires-2 : tie.Need-is-within-requires-2
 is-within-requires-2 c κs = search needs
 
--- src/whole.rt:15:9
 both-requires : tie.Need-both-requires
 both-requires c κs = search needs
 
--- src/whole.rt:16:20
 is-within-requires-3 : tie.Need-is-within-requires-3
 is-within-requires-3 c κs = search needs
 
--- src/whole.rt:16:10
 both-requires-2 : tie.Need-both-requires-2
 both-requires-2 c κs = search needs
 
--- src/whole.rt:16:5
 both-requires-3 : tie.Need-both-requires-3
 both-requires-3 c κs = search needs
 
--- src/whole.rt:12:1
 returns : tie.Need-returns
 returns c =
     simp (

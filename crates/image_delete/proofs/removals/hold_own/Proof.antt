@@ -36,23 +36,23 @@ cast-h c = search needs
 add-h : tie.Need-add-h
 add-h c = search needs
 
-cast-latch : tie.Need-cast-latch
-cast-latch c = search needs
+cast-own-lock : tie.Need-cast-own-lock
+cast-own-lock c = search needs
 
-mul-latch : tie.Need-mul-latch
-mul-latch c = search needs
+mul-own-lock : tie.Need-mul-own-lock
+mul-own-lock c = search needs
 
-add-latch : tie.Need-add-latch
-add-latch c = search needs
+add-own-lock : tie.Need-add-own-lock
+add-own-lock c = search needs
 
-add-latch-2 : tie.Need-add-latch-2
-add-latch-2 c = search needs
+add-own-lock-2 : tie.Need-add-own-lock-2
+add-own-lock-2 c = search needs
 
-add-latch-3 : tie.Need-add-latch-3
-add-latch-3 c = search needs
+add-own-lock-3 : tie.Need-add-own-lock-3
+add-own-lock-3 c = search needs
 
-slice-read-latch : tie.Need-slice-read-latch
-slice-read-latch c = search needs
+slice-read-own-lock : tie.Need-slice-read-own-lock
+slice-read-own-lock c = search needs
 
 tick-requires : tie.Need-tick-requires
 tick-requires c κs = search needs
@@ -113,12 +113,12 @@ hold-own-spec =
     sub-k
     cast-h
     add-h
-    cast-latch
-    mul-latch
-    add-latch
-    add-latch-2
-    add-latch-3
-    slice-read-latch
+    cast-own-lock
+    mul-own-lock
+    add-own-lock
+    add-own-lock-2
+    add-own-lock-3
+    slice-read-own-lock
     tick-requires
     cast-image
     mul-image

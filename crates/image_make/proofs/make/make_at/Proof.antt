@@ -6,8 +6,8 @@ use Rattle.image_make.proofs.make.make_at.Tie as tie
 put-header-requires : tie.Need-put-header-requires
 put-header-requires c κs = search needs
 
-put-callers-requires : tie.Need-put-callers-requires
-put-callers-requires c κs = search needs
+put-processors-requires : tie.Need-put-processors-requires
+put-processors-requires c κs = search needs
 
 mul-base : tie.Need-mul-base
 mul-base c = search needs
@@ -36,7 +36,7 @@ returns c =
     let r = s .pre in
     let e =
     all-stored P N L (s .args .image .now) _ _ _ (r .0) (r .4) (c .before .before .before .before .before .before .before .before .before .before .put-header .ensures)
-    (c .before .before .before .before .before .before .put-callers .ensures)
+    (c .before .before .before .before .before .before .put-processors .ensures)
     (c .before .before .put-nodes .ensures) in (
       e,
       (
@@ -50,7 +50,7 @@ make-at-spec =
     tie.close
     (tie.spec
     put-header-requires
-    put-callers-requires
+    put-processors-requires
     mul-base
     add-base
     add-put-nodes

@@ -3,7 +3,7 @@ use Prim.Native.Nat.{ℕ, _-_, _≤_}
 use native.Mathlib.Omega.{arith}
 use borrow.Author.Needs.{needs}
 use lib.ListN.{length}
-use Rattle.image.specs.Lists.{written}
+use Rattle.image.specs.Lists.{storedAt}
 use Rattle.image_make.specs.Fresh.{freshNodes}
 use Rattle.image_make.proofs.Made.{none-noded, one-noded}
 use Rattle.image_make.proofs.make.put_nodes.Statement.{statement}
@@ -11,7 +11,7 @@ use Rattle.image_make.proofs.make.put_nodes.Tie as tie
 
 abbrev Inv-loop : tie.InvT-loop
 Inv-loop b₀ base n tail x₀ b x =
-    (b ≡ written b₀ base (freshNodes tail x)) × (x ≤ n) × (length b ≡ length b₀)
+    (b ≡ storedAt b₀ base (freshNodes tail x)) × (x ≤ n) × (length b ≡ length b₀)
 
 abbrev μ-loop : tie.MeasureT-loop
 μ-loop b₀ base n tail x₀ b x = n - x
@@ -54,7 +54,7 @@ returns c =
     let a = c .before .before .before .args in
     let e : c .before .loop .x ≡ a .n = omega arith in
     c .before .loop .inv .0
-    ∙ ap (λ (i : ℕ). written (a .b .now) (a .base) (freshNodes (a .tail) i)) e
+    ∙ ap (λ (i : ℕ). storedAt (a .b .now) (a .base) (freshNodes (a .tail) i)) e
 
 pub put-nodes-spec : {M : Type 1} → statement M
 put-nodes-spec =

@@ -3,14 +3,14 @@ use Prim.Native.Nat.{ℕ, _-_, _≤_}
 use native.Mathlib.Omega.{arith}
 use borrow.Author.Needs.{needs}
 use lib.ListN.{length, length-set}
-use Rattle.image.specs.Lists.{written}
+use Rattle.image.specs.Lists.{storedAt}
 use Rattle.image_make.specs.Fresh.{repeated}
 use Rattle.image_make.proofs.Made.{none-repeated, one-repeated}
 use Rattle.image_make.proofs.make.repeat.Statement.{statement}
 use Rattle.image_make.proofs.make.repeat.Tie as tie
 
 abbrev Inv-loop : tie.InvT-loop
-Inv-loop b₀ o n v k₀ b k = (b ≡ written b₀ o (repeated v k)) × (k ≤ n) × (length b ≡ length b₀)
+Inv-loop b₀ o n v k₀ b k = (b ≡ storedAt b₀ o (repeated v k)) × (k ≤ n) × (length b ≡ length b₀)
 
 abbrev μ-loop : tie.MeasureT-loop
 μ-loop b₀ o n v k₀ b k = n - k
@@ -49,7 +49,7 @@ returns : tie.Need-returns Inv-loop μ-loop
 returns c =
     let a = c .before .before .args in
     let e : c .before .loop .k ≡ a .n = omega arith in
-    c .before .loop .inv .0 ∙ ap (λ (i : ℕ). written (a .b .now) (a .o) (repeated (a .v) i)) e
+    c .before .loop .inv .0 ∙ ap (λ (i : ℕ). storedAt (a .b .now) (a .o) (repeated (a .v) i)) e
 
 pub repeat-spec : {M : Type 1} → statement M
 repeat-spec =

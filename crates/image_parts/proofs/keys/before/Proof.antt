@@ -7,7 +7,6 @@ use borrow.Author.Needs.{needs}
 use Rattle.image_parts.proofs.keys.before.Statement.{statement}
 use Rattle.image_parts.proofs.keys.before.Tie as tie
 
--- src/keys.rt:15:9
 returns : tie.Need-returns
 returns c =
     let s = c .before .before in
@@ -19,15 +18,12 @@ returns c =
     (number32 b (base + 41 * y + 23)) (number32 b (base + 41 * y + 27)) (s .pre .2) (s .pre .3)
     x (c .if1 .taken))
 
--- src/keys.rt:17:13
 shared-slice-read-n : tie.Need-shared-slice-read-n
 shared-slice-read-n c = search needs
 
--- src/keys.rt:18:8
 sub-if2 : tie.Need-sub-if2
 sub-if2 c = search needs
 
--- src/keys.rt:19:9
 returns-2 : tie.Need-returns-2
 returns-2 c =
     let s = c .before .before .before .before in
@@ -39,39 +35,30 @@ returns-2 c =
     (number32 b (base + 41 * y + 23)) (number32 b (base + 41 * y + 27)) (s .pre .2) (s .pre .3)
     x (c .before .before .if1 .left) (c .if2 .taken))
 
--- src/keys.rt:21:17
 mul-s : tie.Need-mul-s
 mul-s c = search needs
 
--- src/keys.rt:21:13
 add-s : tie.Need-add-s
 add-s c = search needs
 
--- src/keys.rt:22:17
 mul-t : tie.Need-mul-t
 mul-t c = search needs
 
--- src/keys.rt:22:13
 add-t : tie.Need-add-t
 add-t c = search needs
 
--- src/keys.rt:23:28
 add-number-from : tie.Need-add-number-from
 add-number-from c = search needs
 
--- src/keys.rt:23:9
 number-from-requires : tie.Need-number-from-requires
 number-from-requires c κs = search needs
 
--- src/keys.rt:24:28
 add-number-from-2 : tie.Need-add-number-from-2
 add-number-from-2 c = search needs
 
--- src/keys.rt:24:9
 number-from-requires-2 : tie.Need-number-from-requires-2
 number-from-requires-2 c κs = search needs
 
--- src/keys.rt:26:9
 returns-3 : tie.Need-returns-3
 returns-3 c =
     let s = c .before .before .before .before .before .before .before in
@@ -87,23 +74,18 @@ returns-3 c =
     (λ z. c .if3 .taken
     (c .before .before .number-from .ensures ∙ z ∙ sym (c .before .number-from2 .ensures))))
 
--- src/keys.rt:28:20
 add-number-from-3 : tie.Need-add-number-from-3
 add-number-from-3 c = search needs
 
--- src/keys.rt:28:5
 number-from-requires-3 : tie.Need-number-from-requires-3
 number-from-requires-3 c κs = search needs
 
--- src/keys.rt:28:45
 add-number-from-4 : tie.Need-add-number-from-4
 add-number-from-4 c = search needs
 
--- src/keys.rt:28:30
 number-from-requires-4 : tie.Need-number-from-requires-4
 number-from-requires-4 c κs = search needs
 
--- src/keys.rt:10:1
 returns-4 : tie.Need-returns-4
 returns-4 c =
     let s = c .before .before .before .before .before .before .before .before .before in

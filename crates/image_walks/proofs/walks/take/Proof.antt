@@ -36,23 +36,23 @@ cast-h c = search needs
 add-h : tie.Need-add-h
 add-h c = search needs
 
-cast-guard : tie.Need-cast-guard
-cast-guard c = search needs
+cast-place-lock : tie.Need-cast-place-lock
+cast-place-lock c = search needs
 
-mul-guard : tie.Need-mul-guard
-mul-guard c = search needs
+mul-place-lock : tie.Need-mul-place-lock
+mul-place-lock c = search needs
 
-add-guard : tie.Need-add-guard
-add-guard c = search needs
+add-place-lock : tie.Need-add-place-lock
+add-place-lock c = search needs
 
-add-guard-2 : tie.Need-add-guard-2
-add-guard-2 c = search needs
+add-place-lock-2 : tie.Need-add-place-lock-2
+add-place-lock-2 c = search needs
 
-add-guard-3 : tie.Need-add-guard-3
-add-guard-3 c = search needs
+add-place-lock-3 : tie.Need-add-place-lock-3
+add-place-lock-3 c = search needs
 
-slice-read-guard : tie.Need-slice-read-guard
-slice-read-guard c = search needs
+slice-read-place-lock : tie.Need-slice-read-place-lock
+slice-read-place-lock c = search needs
 
 seek-tag-requires : tie.Need-seek-tag-requires
 seek-tag-requires c κs = search needs
@@ -123,12 +123,12 @@ take-spec =
     sub-k
     cast-h
     add-h
-    cast-guard
-    mul-guard
-    add-guard
-    add-guard-2
-    add-guard-3
-    slice-read-guard
+    cast-place-lock
+    mul-place-lock
+    add-place-lock
+    add-place-lock-2
+    add-place-lock-3
+    slice-read-place-lock
     seek-tag-requires
     tick-requires
     cast-image

@@ -1,7 +1,7 @@
 use Prim.Native.Nat.{_<_}
 use Rattle.record.specs.Limits.{nodeSlots}
-use Rattle.checks.proofs.Reading.{node-read, processor-read}
-use Rattle.choosing.proofs.Bounds.{nodes-long, callers-long}
+use Rattle.record_check.proofs.Reading.{node-read, processor-read}
+use Rattle.queue_begin.proofs.Bounds.{nodes-long, processors-long}
 use Rattle.queue.proofs.Steps.{changes}
 use borrow.Author.Needs.{needs}
 use Rattle.queue.proofs.applying.applied.Statement.{statement}
@@ -60,8 +60,8 @@ returns c =
     let top = c .before .before .before .before .before in
     let q = top .args .t1 in
     let p = top .args .p in
-    let callers = callers-long q (top .good .0 .1 .1 .1 .1 .1 .1 .1 .0 .1 .0 .1) in
-    let read = processor-read q p callers (top .pre .1 .0) in
+    let processors = processors-long q (top .good .0 .1 .1 .1 .1 .1 .1 .1 .0 .1 .0 .1) in
+    let read = processor-read q p processors (top .pre .1 .0) in
     let of-node = c .before .before .before .node-of in
     let low : of-node .result < nodeSlots = rw (of-node .ensures) (top .pre .1 .1) in
     let nodes = nodes-long q (top .good .0 .1 .1 .1 .1 .1 .1 .0 .1 .0 .1) in

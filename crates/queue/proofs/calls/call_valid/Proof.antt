@@ -6,9 +6,9 @@ use Rattle.rules.specs.declared.decisions.Decision.{Decision}
 use Rattle.rules.specs.Calls.{processorOf, refusalOf}
 use Rattle.rules.specs.Effects.{nodeOf}
 use Rattle.rules.proofs.Allowed.{allowed}
-use Rattle.rules.proofs.Inner.{call-kept}
-use Rattle.choosing.proofs.Bounds.{entries-high, processors-high, processor-low, changed-low}
-use Rattle.queue.proofs.Refused.{refused-early, refused-late, call-told, call-made}
+use Rattle.rules.proofs.Inner.{call-kept, call-told}
+use Rattle.queue_begin.proofs.Bounds.{entries-high, processors-high, processor-low, changed-low}
+use Rattle.queue.proofs.Refused.{refused-early, refused-late, call-made}
 use borrow.Author.Needs.{needs}
 use Rattle.queue.proofs.calls.call_valid.Statement.{statement}
 use Rattle.queue.proofs.calls.call_valid.Tie as tie
@@ -31,7 +31,7 @@ returns c =
     let i = c .before .before .idle-at .ensures in
     let r = c .before .refusal-of .ensures in
     let n = refused-early q f _ _ _ (of-call .processor-of .ensures) i r (c .if1 .taken) in
-    call-kept q f _ (top .pre) (call-told q f _ n (c .if1 .taken))
+    call-kept q f _ (top .pre) (sym (call-told q f _ (sym n) (c .if1 .taken)))
 
 taken-requires : tie.Need-taken-requires
 taken-requires c κs = search needs
@@ -52,7 +52,7 @@ returns-2 c =
     let x = c .before .before .taken .ensures in
     let m = c .before .node-refusal .ensures in
     let n = refused-late q f _ _ _ p i r (at1 .if1 .left) _ _ x m in
-    call-kept q f _ (top .pre) (call-told q f _ n (c .if2 .taken))
+    call-kept q f _ (top .pre) (sym (call-told q f _ (sym n) (c .if2 .taken)))
 
 decision-of-requires : tie.Need-decision-of-requires
 decision-of-requires c κs =

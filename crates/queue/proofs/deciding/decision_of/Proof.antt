@@ -4,7 +4,7 @@ use native.Mathlib.Omega.{arith}
 use Rattle.rules.specs.declared.calls.Call.{Call}
 use Rattle.rules.specs.Calls.{processorOf, decisionOf}
 use Rattle.rules.proofs.Allowed.{Allowed, allowed}
-use Rattle.choosing.proofs.Bounds.{height-high}
+use Rattle.queue_begin.proofs.Bounds.{height-high}
 use Rattle.queue.proofs.Steps.{insert-decided}
 use borrow.Author.Needs.{needs}
 use Rattle.queue.proofs.deciding.decision_of.Statement.{statement}
@@ -47,7 +47,7 @@ step-decision-requires c κs =
     let q = top .args .q in
     let a = allowed q (top .args .c) (top .pre .1) in
     let here = ap processorOf (c .before .c2 .given .1) in
-    (top .pre .0, subst (λ (x : ℕ). x < q .processors) here (a .here))
+    (top .pre .0, subst (λ (x : ℕ). x < q .processorCount) here (a .here))
 
 returns : tie.Need-returns
 returns c =

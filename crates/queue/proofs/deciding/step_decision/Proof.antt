@@ -1,5 +1,5 @@
-use Rattle.checks.proofs.Reading.{node-read, processor-read}
-use Rattle.choosing.proofs.Bounds.{nodes-long, callers-long, processor-low}
+use Rattle.record_check.proofs.Reading.{node-read, processor-read}
+use Rattle.queue_begin.proofs.Bounds.{nodes-long, processors-long, processor-low}
 use Rattle.queue.proofs.Steps.{decided, here-low, ahead-low, own-read-low}
 use borrow.Author.Needs.{needs}
 use Rattle.queue.proofs.deciding.step_decision.Statement.{statement}
@@ -27,8 +27,8 @@ element-copy-out-here c =
     let p = top .args .p in
     let v = top .pre .0 in
     let low = processor-low q p v (top .pre .1) in
-    let callers = callers-long q (top .good .0 .1 .1 .1 .1 .1 .1 .1 .0 .1 .0 .1) in
-    let read = processor-read q p callers low in
+    let processors = processors-long q (top .good .0 .1 .1 .1 .1 .1 .1 .1 .0 .1 .0 .1) in
+    let read = processor-read q p processors low in
     here-low q p v (top .pre .1) _ read _ (c .before .reading-place .ensures)
 
 forward-at-requires : tie.Need-forward-at-requires
@@ -47,8 +47,8 @@ element-copy-out-ahead c =
     let p = top .args .p in
     let v = top .pre .0 in
     let low = processor-low q p v (top .pre .1) in
-    let callers = callers-long q (top .good .0 .1 .1 .1 .1 .1 .1 .1 .0 .1 .0 .1) in
-    let read = processor-read q p callers low in
+    let processors = processors-long q (top .good .0 .1 .1 .1 .1 .1 .1 .1 .0 .1 .0 .1) in
+    let read = processor-read q p processors low in
     let long = nodes-long q (top .good .0 .1 .1 .1 .1 .1 .1 .0 .1 .0 .1) in
     let a≡ = c .before .before .before .reading-place .ensures in
     let here = node-read q _ long (here-low q p v (top .pre .1) _ read _ a≡) in
@@ -67,12 +67,12 @@ element-copy-out-own c =
     let p = top .args .p in
     let v = top .pre .0 in
     let low = processor-low q p v (top .pre .1) in
-    let callers = callers-long q (top .good .0 .1 .1 .1 .1 .1 .1 .1 .0 .1 .0 .1) in
-    let read = processor-read q p callers low in
+    let processors = processors-long q (top .good .0 .1 .1 .1 .1 .1 .1 .1 .0 .1 .0 .1) in
+    let read = processor-read q p processors low in
     own-read-low q p v (top .pre .1) _ read
 
-sight-from-requires : tie.Need-sight-from-requires
-sight-from-requires c κs = search needs
+step-view-from-requires : tie.Need-step-view-from-requires
+step-view-from-requires c κs = search needs
 
 decide-requires : tie.Need-decide-requires
 decide-requires c κs = search needs
@@ -84,8 +84,8 @@ returns c =
     let p = top .args .p in
     let v = top .pre .0 in
     let low = processor-low q p v (top .pre .1) in
-    let callers = callers-long q (top .good .0 .1 .1 .1 .1 .1 .1 .1 .0 .1 .0 .1) in
-    let read = processor-read q p callers low in
+    let processors = processors-long q (top .good .0 .1 .1 .1 .1 .1 .1 .1 .0 .1 .0 .1) in
+    let read = processor-read q p processors low in
     let long = nodes-long q (top .good .0 .1 .1 .1 .1 .1 .1 .0 .1 .0 .1) in
     let at = c .before .before .before .before .before .before .before .before in
     let a≡ = at .reading-place .ensures in
@@ -93,7 +93,7 @@ returns c =
     let here = node-read q _ long (here-low q p v (top .pre .1) _ read _ a≡) in
     let ahead = node-read q _ long (ahead-low q p v (top .pre .1) _ read _ _ _ a≡ here next≡) in
     let own = node-read q _ long (own-read-low q p v (top .pre .1) _ read) in
-    decided q p _ _ _ _ _ _ _ _ read a≡ here next≡ ahead own (c .before .sight-from .ensures)
+    decided q p _ _ _ _ _ _ _ _ read a≡ here next≡ ahead own (c .before .step-view-from .ensures)
     (c .decide .ensures)
 
 pub step-decision-spec : {M : Type 1} → statement M
@@ -113,6 +113,6 @@ step-decision-spec =
     cast-z
     mul-own
     element-copy-out-own
-    sight-from-requires
+    step-view-from-requires
     decide-requires
     returns)

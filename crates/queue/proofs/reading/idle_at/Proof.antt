@@ -2,8 +2,8 @@ use mathlib.Core.Path.{sym, ap, _∙_}
 use borrow.Author.Tests.{le-ltb, lt-ltb}
 use Rattle.record.specs.declared.queues.Processor.{Processor}
 use Rattle.record.specs.Stages.{isIdle}
-use Rattle.checks.proofs.Reading.{processor-read}
-use Rattle.choosing.proofs.Bounds.{callers-long}
+use Rattle.record_check.proofs.Reading.{processor-read}
+use Rattle.queue_begin.proofs.Bounds.{processors-long}
 use native.Mathlib.Omega.{arith}
 use Prim.Native.Nat.{_<_}
 use Rattle.record.specs.Limits.{maxProcessors}
@@ -32,8 +32,8 @@ returns-2 c =
     let q = top .args .t1 in
     let p = top .args .p in
     let low : p < maxProcessors = omega (arith, top .pre, c .before .before .if1 .left) in
-    let callers = callers-long q (top .good .0 .1 .1 .1 .1 .1 .1 .1 .0 .1 .0 .1) in
-    let read = processor-read q p callers low in
+    let processors = processors-long q (top .good .0 .1 .1 .1 .1 .1 .1 .1 .0 .1 .0 .1) in
+    let read = processor-read q p processors low in
     let idle = c .is-idle .ensures ∙ ap (λ (x : Processor). isIdle (x .stage)) read in
     idle ∙ sym (simp (lt-ltb _ _ (c .before .before .if1 .left)))
 

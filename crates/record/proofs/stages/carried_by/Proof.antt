@@ -6,8 +6,8 @@ use Rattle.record.proofs.stages.carried_by.Tie as tie
 enum-told : tie.Need-enum-told
 enum-told c = search needs
 
-at-requires : tie.Need-at-requires
-at-requires c κs = search needs
+carrying-requires : tie.Need-carrying-requires
+carrying-requires c κs = search needs
 
 enum-known-g : tie.Need-enum-known-g
 enum-known-g c = search needs
@@ -28,7 +28,7 @@ removal-carried-requires : tie.Need-removal-carried-requires
 removal-carried-requires c κs = search needs
 
 returns : tie.Need-returns
-returns c = search (tests, c .at .ensures, c .before .enum-told .given .1)
+returns c = search (tests, c .carrying .ensures, c .before .enum-told .given .1)
 
 returns-2 : tie.Need-returns-2
 returns-2 c = simp (c .insert-carried .ensures, c .before .before .g .given .1)
@@ -44,7 +44,7 @@ carried-by-spec =
     tie.close
     (tie.spec
     enum-told
-    at-requires
+    carrying-requires
     enum-known-g
     insert-carried-requires
     enum-known-g-2

@@ -6,23 +6,23 @@ use Rattle.record.proofs.stages.delete_carried.Tie as tie
 enum-known-g : tie.Need-enum-known-g
 enum-known-g c = search needs
 
-at-requires : tie.Need-at-requires
-at-requires c κs = search needs
+carrying-requires : tie.Need-carrying-requires
+carrying-requires c κs = search needs
 
 enum-known-g-2 : tie.Need-enum-known-g-2
 enum-known-g-2 c = search needs
 
-at-requires-2 : tie.Need-at-requires-2
-at-requires-2 c κs = search needs
+carrying-requires-2 : tie.Need-carrying-requires-2
+carrying-requires-2 c κs = search needs
 
 enum-known-g-3 : tie.Need-enum-known-g-3
 enum-known-g-3 c = search needs
 
 returns : tie.Need-returns
-returns c = search (tests, c .at .ensures, c .before .before .g .given .1)
+returns c = search (tests, c .carrying .ensures, c .before .before .g .given .1)
 
 returns-2 : tie.Need-returns-2
-returns-2 c = search (tests, c .at2 .ensures, c .before .before .g2 .given .1)
+returns-2 c = search (tests, c .carrying2 .ensures, c .before .before .g2 .given .1)
 
 returns-3 : tie.Need-returns-3
 returns-3 c = search (tests, c .before .g3 .given .1)
@@ -32,9 +32,9 @@ delete-carried-spec =
     tie.close
     (tie.spec
     enum-known-g
-    at-requires
+    carrying-requires
     enum-known-g-2
-    at-requires-2
+    carrying-requires-2
     enum-known-g-3
     returns
     returns-2

@@ -1,0 +1,51 @@
+// The processors' bytes.
+ghost use mathlib.Core.Path.{_≡_};
+ghost use Prim.Native.Nat.{_≤_, _<_};
+ghost use lib.ListN.{length, getD};
+ghost use Rattle.laws.specs.Every.{everyBelow};
+ghost use Rattle.image.specs.Image.{lengthOf};
+ghost use Rattle.image_check.specs.Tests.{processorOk};
+use crate::levels::levels_low;
+use crate::tags::stage_passes;
+use image::layout::HEADER;
+use image::layout::PROCESSOR_BYTES;
+use image::numbers::number_from;
+
+// Processor p: its bytes are ones that are written, and it passes check 21.
+pub(crate) fn processor_passes(b: &[u8], p: usize) -> bool
+    requires { ⌜ (length (now b) ≡ lengthOf (now b)) × (p < getD (now b) 0 0)
+        × (getD (now b) 0 0 ≤ 16) × (getD (now b) 1 0 ≤ 200)
+        × (1 ≤ getD (now b) 2 0) × (getD (now b) 2 0 ≤ 8) ⌝ }
+    ensures { λ r. ⌜ r ≡ processorOk (now (b .entry)) p ⌝ }
+{
+    let n = b[1];
+    let l = b[2];
+    let at = HEADER + PROCESSOR_BYTES * p;
+    if number_from(b, 3) < number_from(b, at + 0) {
+        return false;
+    }
+    if !levels_low(b, at, 9, l as usize, n + 1) {
+        return false;
+    }
+    let tag = b[at + 5] as usize;
+    if 26 < tag {
+        return false;
+    }
+    stage_passes(tag, b[at + 6], b[at + 7], b[at + 8], b[at + 4], n, l)
+}
+
+pub(crate) fn processors_pass(b: &[u8]) -> bool
+    requires { ⌜ (length (now b) ≡ lengthOf (now b)) × (getD (now b) 0 0 ≤ 16)
+        × (getD (now b) 1 0 ≤ 200) × (1 ≤ getD (now b) 2 0) × (getD (now b) 2 0 ≤ 8) ⌝ }
+    ensures { λ r. ⌜ r ≡ everyBelow (processorOk (now (b .entry))) (getD (now (b .entry)) 0 0) ⌝ }
+{
+    let end = b[0] as usize;
+    let mut p: usize = 0;
+    while p < end {
+        if !processor_passes(b, p) {
+            return false;
+        }
+        p = p + 1;
+    }
+    true
+}

@@ -1,0 +1,29 @@
+use Rattle.laws.proofs.Rules.{tests}
+use borrow.Author.Needs.{needs}
+use Rattle.rules_refusals.proofs.node_refusal.Statement.{statement}
+use Rattle.rules_refusals.proofs.node_refusal.Tie as tie
+
+enum-told : tie.Need-enum-told
+enum-told c = search needs
+
+enum-told-2 : tie.Need-enum-told-2
+enum-told-2 c = search needs
+
+enum-told-3 : tie.Need-enum-told-3
+enum-told-3 c = search needs
+
+returns : tie.Need-returns
+returns c = search (tests, c .before .enum-told .given .1, c .if1 .taken)
+
+returns-2 : tie.Need-returns-2
+returns-2 c = search (tests, c .before .enum-told .given .1, c .if1 .left)
+
+returns-3 : tie.Need-returns-3
+returns-3 c = search needs
+
+returns-4 : tie.Need-returns-4
+returns-4 c = search needs
+
+pub node-refusal-spec : {M : Type 1} → statement M
+node-refusal-spec =
+    tie.close (tie.spec enum-told enum-told-2 enum-told-3 returns returns-2 returns-3 returns-4)

@@ -1,0 +1,148 @@
+-- The starred runs of document 01 (runs at the edges) in one table: what is asked of the
+-- definitions, and what document 01 expects. Run 2 is as document 02 changes it (W8), with its
+-- examples and the last count that is taken; the backlog along the printed run is document 02's
+-- (W2). proofs/Starred.antt has the one fact that covers the table.
+use Prim.Native.Nat.{ℕ, zero, suc, _-_}
+use mathlib.Core.Path.{_≡_}
+use mathlib.Core.List.{List, [], _∷_, _++_}
+use lib.ListN.{replicate}
+use Rattle.record_check.specs.declared.counting.Count.the-variants as count
+use Rattle.record.specs.declared.queues.Queue.{Queue}
+use Rattle.due.specs.declared.seconds.Minutes.{Minutes}
+use Rattle.due.specs.declared.seconds.Minutes.the-variants as minutes
+use Rattle.due.specs.Due.{dueFromSeconds}
+use Rattle.record_check.specs.Making.{made}
+use Rattle.record.specs.Queues.{freshQueue, processorAt}
+use Rattle.rules.specs.Answers.{reported}
+use Rattle.rules.specs.Runs.{Turn, insert, deleteMin, stepBy, backlog, after, afterAll}
+use Rattle.rules.specs.Runs.{Reply, answered, counted, reply}
+
+-- what is asked
+pub data Question : Type 0 where
+  -- the number of the refusal of a making, 0 if the queue is made
+  making : ℕ → ℕ → ℕ → Question
+  -- what a count of seconds gives: the number of the refusal or 0, and the minutes
+  seconds : ℕ → Question
+  -- on a fresh queue of these sizes, after this list of calls: the clock after one more call, and
+  -- that call's answer as its number and values
+  answer : Queue → List Turn → Turn → Question
+  -- the same, and the own node of a processor after the call
+  own : Queue → List Turn → Turn → ℕ → Question
+  -- on a fresh queue, before the first of these calls and after each of them: the clock, and what
+  -- Backlog gives, as its number and values
+  backlogs : Queue → List Turn → Question
+
+abbrev pub minutesNumbers : Minutes → List ℕ
+minutesNumbers (minutes.Refused n) = n ∷ (0 ∷ [])
+minutesNumbers (minutes.Due m) = 0 ∷ (m ∷ [])
+
+abbrev pub replyNumbers : Reply → List ℕ
+replyNumbers (answered a) = reported a .number ∷ reported a .values
+replyNumbers (counted (count.Refused n)) = n ∷ []
+replyNumbers (counted (count.Pending k)) = 0 ∷ (k ∷ [])
+
+abbrev pub backlogsAlong : Queue → List Turn → List ℕ
+backlogsAlong q [] = q .clock ∷ replyNumbers (reply q backlog)
+backlogsAlong q (c ∷ cs) =
+    q .clock ∷ (replyNumbers (reply q backlog) ++ backlogsAlong (after q c) cs)
+
+abbrev pub result : Question → List ℕ
+result (making p n l) = made p n l .refusal ∷ []
+result (seconds s) = minutesNumbers (dueFromSeconds s)
+result (answer q cs c) = after (afterAll q cs) c .clock ∷ replyNumbers (reply (afterAll q cs) c)
+result (own q cs c p) =
+    processorAt (after (afterAll q cs) c) p .own ∷ replyNumbers (reply (afterAll q cs) c)
+result (backlogs q cs) = backlogsAlong q cs
+
+-- a row of the table
+pub record StarredRun : Type 0 where
+  pub asked : Question
+  pub expected : List ℕ
+
+abbrev pub run : Question → List ℕ → StarredRun
+run question expected = record { asked = question; expected = expected }
+
+-- the numbers that `reported` gives a begin, EMPTY, and an Insert's answer
+abbrev began : ℕ
+began = 0
+
+abbrev empty : ℕ
+empty = 3
+
+abbrev insertAnswered : ℕ
+insertAnswered = 5
+
+-- the queue of the printed sheet, the queue of runs 4 and 5, and one of two idle processors
+abbrev single : Queue
+single = freshQueue 1 1 1
+
+abbrev pair : Queue
+pair = freshQueue 2 1 1
+
+-- the printed sheet's first Insert and its 9 steps; its Delete_Min and its 15; its second
+-- Delete_Min and one step
+abbrev pub filed : List Turn
+filed = insert 0 7 42 1 ∷ replicate 9 (stepBy 0)
+
+abbrev pub printed : List Turn
+printed = filed ++ (deleteMin 0 ∷ (replicate 15 (stepBy 0) ++ (deleteMin 0 ∷ (stepBy 0 ∷ []))))
+
+-- run 4, up to the begin of its Delete_Min
+abbrev pub fourth : List Turn
+fourth = insert 0 7 42 1 ∷ (replicate 8 (stepBy 0) ++ (deleteMin 1 ∷ []))
+
+-- run 5, up to the T of its first Delete_Min
+abbrev pub fifth : List Turn
+fifth = filed ++ (deleteMin 0 ∷ (replicate 8 (stepBy 0) ++ (deleteMin 1 ∷ replicate 7 (stepBy 0))))
+
+-- so many times from one on, at each of them 0 and this count; and the times from one to another
+abbrev counts : ℕ → ℕ → ℕ → List ℕ
+counts zero time k = []
+counts (suc n) time k = time ∷ (0 ∷ (k ∷ counts n (suc time) k))
+
+abbrev fromTo : ℕ → ℕ → ℕ → List ℕ
+fromTo first last k = counts (suc last - first) first k
+
+abbrev pub starred : List StarredRun
+starred =
+    -- 1. the most nodes, one more, and none
+    run (making 1 200 1) (0 ∷ [])
+    ∷ (run (making 1 201 1) (12 ∷ [])
+    ∷ (run (making 1 0 1) (12 ∷ [])
+    -- 2. half a minute goes to the even one of its two minutes; 35 from 59,999,970 on
+    ∷ (run (seconds 30) (0 ∷ (0 ∷ []))
+    ∷ (run (seconds 59) (0 ∷ (1 ∷ []))
+    ∷ (run (seconds 60) (0 ∷ (1 ∷ []))
+    ∷ (run (seconds 89) (0 ∷ (1 ∷ []))
+    ∷ (run (seconds 90) (0 ∷ (2 ∷ []))
+    ∷ (run (seconds 150) (0 ∷ (2 ∷ []))
+    ∷ (run (seconds 59999969) (0 ∷ (999999 ∷ []))
+    ∷ (run (seconds 59999970) (35 ∷ (0 ∷ []))
+    ∷ (run (seconds 59999999) (35 ∷ (0 ∷ []))
+    ∷ (run (seconds 60000000) (35 ∷ (0 ∷ []))
+    -- 3. the one node is not to be had at first, and at the end of the printed run it is
+    ∷ (run (answer single filed (insert 0 7 42 1)) (10 ∷ (37 ∷ []))
+    ∷ (run (answer single printed (insert 0 7 42 1)) (29 ∷ (began ∷ (29 ∷ [])))
+    ∷ (run (own single printed (insert 0 7 42 1) 0) (1 ∷ (began ∷ (29 ∷ [])))
+    -- 4. the begin of the Delete_Min at 10, the Insert's answer at 11, EMPTY at 14
+    ∷ (run (answer pair (insert 0 7 42 1 ∷ replicate 8 (stepBy 0)) (deleteMin 1))
+    (10 ∷ (began ∷ (10 ∷ [])))
+    ∷ (run (answer pair fourth (stepBy 0)) (11 ∷ (insertAnswered ∷ (7 ∷ (42 ∷ (1 ∷ [])))))
+    ∷ (run (answer pair (fourth ++ (stepBy 0 ∷ (stepBy 1 ∷ (stepBy 1 ∷ [])))) (stepBy 1))
+    (14 ∷ (empty ∷ []))
+    -- 5. the node is to be had as soon as no Delete_Min is open that began before it was retired
+    ∷ (run (answer pair fifth (insert 0 7 42 1)) (27 ∷ (37 ∷ []))
+    ∷ (run (answer pair fifth (stepBy 1)) (28 ∷ (empty ∷ []))
+    ∷ (run (answer pair (fifth ++ (stepBy 1 ∷ [])) (insert 0 7 42 1)) (29 ∷ (began ∷ (29 ∷ [])))
+    -- 6. calls of a processor that is not there, and a step of an idle one
+    ∷ (run (answer pair [] (stepBy 2)) (0 ∷ (32 ∷ []))
+    ∷ (run (answer pair [] (insert 2 7 42 1)) (0 ∷ (32 ∷ []))
+    ∷ (run (answer pair [] (deleteMin 2)) (0 ∷ (32 ∷ []))
+    ∷ (run (answer pair [] (stepBy 0)) (0 ∷ (34 ∷ []))
+    -- 02, W2: the backlog of the printed run is 0, from the answer on 1, and from the mark on 0
+    ∷ (run (backlogs single printed) (fromTo 0 9 0 ++ (fromTo 10 13 1 ++ fromTo 14 28 0))
+    ∷ []))))))))))))))))))))))))))
+
+-- every row's question has the expected result
+abbrev pub Right : StarredRun → Type 0
+Right r = result (r .asked) ≡ r .expected

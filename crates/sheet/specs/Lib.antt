@@ -1,9 +1,0 @@
-pub mod Letters
-pub mod Columns
-pub mod Digits
-pub mod Scans
-pub mod Lines
-pub mod Kept
-pub mod Events
-pub mod Sheets
-pub mod Program

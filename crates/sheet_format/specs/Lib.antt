@@ -1,0 +1,9 @@
+pub mod Letters
+pub mod Columns
+pub mod Digits
+pub mod Lines
+pub mod Kept
+pub mod Events
+pub mod Calls
+pub mod Sheets
+pub mod Program

@@ -1,0 +1,112 @@
+-- The line of the history for a call of a sheet's line. Assumes nothing.
+use mathlib.Core.Path.{_≡_, refl, sym, ap, _∙_}
+use mathlib.Core.Bool.{Bool, true, false, cond}
+use mathlib.Core.List.{List, [], _∷_}
+use Prim.Native.Nat.{ℕ, zero, suc, _<_}
+use native.Mathlib.Omega.{arith}
+use lib.Dec.{eqb}
+use lib.ListN.{getD}
+use borrow.Author.Tests.{eq-eqb, ne-eqb}
+use Rattle.record.specs.Report.{Report, report}
+use Rattle.rules.specs.declared.calls.Call.{Call}
+use Rattle.rules.specs.declared.calls.Call.the-variants as call
+use Rattle.rules.specs.Calls.{processorOf}
+use Rattle.sheet_format.specs.declared.events.HistoryLine.{HistoryLine}
+use Rattle.sheet_format.specs.declared.lines.SheetLine.{SheetLine}
+use Rattle.sheet_format.specs.Calls.{callOf}
+use Rattle.sheet_format.specs.Events.{callLetter, callValues, letterFor, valuesFor, event, eventFor}
+use Rattle.sheet_format.specs.Letters.{letterD, letterI, letterR}
+
+-- the letters, with that of a begin first
+abbrev pub letters : ℕ → List ℕ
+letters own = own ∷ 0 ∷ 0 ∷ 69 ∷ 77 ∷ 65 ∷ 84 ∷ []
+
+-- a number of the table, and one past its end
+pub known-letter : (own n : ℕ) → (n ≡ 0 → ⊥) → n < 7 → getD (letters 0) n 0 ≡ getD (letters own) n 82
+known-letter own zero z h = absurd (z refl)
+known-letter own (suc zero) z h = refl
+known-letter own (suc (suc zero)) z h = refl
+known-letter own (suc (suc (suc zero))) z h = refl
+known-letter own (suc (suc (suc (suc zero)))) z h = refl
+known-letter own (suc (suc (suc (suc (suc zero))))) z h = refl
+known-letter own (suc (suc (suc (suc (suc (suc zero)))))) z h = refl
+known-letter own (suc (suc (suc (suc (suc (suc (suc n))))))) z h = absurd (omega arith)
+
+module _ (l : SheetLine) where
+  abbrev c : Call
+  c = callOf l
+
+  -- its call is of the line's processor
+  line-processor : processorOf c ≡ l .first
+  line-processor = by (eqb (l .letter) letterI) (eqb (l .letter) letterD)
+    where
+      by : (i d : Bool) →
+          processorOf
+          (cond i (call.Insert (l .first) (l .second) (l .third) (l .fourth))
+          (cond d (call.DeleteMin (l .first)) (call.Step (l .first)))) ≡ l .first
+      by true d = refl
+      by false true = refl
+      by false false = refl
+
+  module _ (time : ℕ) where
+    -- with these numbers behind the processor
+    abbrev lineWith : ℕ → ℕ → List ℕ → HistoryLine
+    lineWith letter p vs = event letter time p (getD vs 0 0) (getD vs 1 0) (getD vs 2 0)
+
+    with-processor : (letter : ℕ) (vs : List ℕ) →
+        lineWith letter (l .first) vs ≡ lineWith letter (processorOf c) vs
+    with-processor letter vs = ap (λ (p : ℕ). lineWith letter p vs) (sym line-processor)
+
+    -- an accepted begin
+    pub insert-line :
+        (l .letter ≡ letterI) →
+        event letterI time (l .first) (l .second) (l .third) (l .fourth)
+        ≡ eventFor c time (report 0 [])
+    insert-line e = rw (eq-eqb (l .letter) letterI e) refl
+
+    no-values : (l .letter ≡ letterI → ⊥) → callValues c ≡ []
+    no-values n = rw (ne-eqb (l .letter) letterI n) (by (eqb (l .letter) letterD))
+      where
+        by : (d : Bool) → callValues (cond d (call.DeleteMin (l .first)) (call.Step (l .first))) ≡ []
+        by true = refl
+        by false = refl
+
+    pub delete-line :
+        (letter : ℕ) → letter ≡ callLetter c → (l .letter ≡ letterI → ⊥) →
+        event letter time (l .first) 0 0 0 ≡ eventFor c time (report 0 [])
+    delete-line letter e n =
+        ap (λ (x : ℕ). event x time (l .first) 0 0 0) e
+        ∙ with-processor (callLetter c) []
+        ∙ ap (lineWith (callLetter c) (processorOf c)) (sym (no-values n))
+
+    module _ (r : Report) where
+      pub begun-line : r .number ≡ 0 → eventFor c time (report 0 []) ≡ eventFor c time r
+      begun-line e = rw e refl
+
+      module _ (n : (r .number ≡ 0 → ⊥)) (letter : ℕ) (is : letter ≡ letterFor c (r .number)) where
+        with-values : (vs : List ℕ) → vs ≡ valuesFor c r → lineWith letter (l .first) vs ≡ eventFor c time r
+        with-values vs v =
+            ap (λ (x : ℕ). lineWith x (l .first) vs) is
+            ∙ with-processor (letterFor c (r .number)) vs
+            ∙ ap (lineWith (letterFor c (r .number)) (processorOf c)) v
+
+        values-by : (b : Bool) → eqb (letterFor c (r .number)) letterR ≡ b →
+            cond b (r .number ∷ []) (r .values) ≡ valuesFor c r
+        values-by b e =
+            sym
+            (ap (λ (t : Bool). cond t (callValues c)
+            (cond (eqb (letterFor c (r .number)) letterR) (r .number ∷ []) (r .values)))
+            (ne-eqb (r .number) 0 n)
+            ∙ ap (λ (t : Bool). cond t (r .number ∷ []) (r .values)) e)
+
+        pub refusal-line : letter ≡ letterR →
+            event letter time (l .first) (r .number) 0 0 ≡ eventFor c time r
+        refusal-line e =
+            with-values (r .number ∷ []) (values-by true (eq-eqb (letterFor c (r .number)) letterR (sym is ∙ e)))
+
+        pub told-line : (letter ≡ letterR → ⊥) →
+            event letter time (l .first) (getD (r .values) 0 0) (getD (r .values) 1 0)
+            (getD (r .values) 2 0) ≡ eventFor c time r
+        told-line e =
+            with-values (r .values)
+            (values-by false (ne-eqb (letterFor c (r .number)) letterR (λ x. e (is ∙ x))))

@@ -1,0 +1,412 @@
+-- After a step that waits, the next steps of the same line wait too: nothing but the clock changed.
+-- Assumes nothing.
+use mathlib.Core.Path.{_≡_, refl, sym, ap, _∙_, subst}
+use mathlib.Core.Bool.{Bool, true, false, cond, false≢true}
+use mathlib.Core.List.{List, _++_, append-nil}
+use Prim.Native.Nat.{ℕ, zero, suc, _+_, _-_, _≤_, _<_}
+use native.Mathlib.Omega.{arith}
+use lib.Dec.{ltb, leb, eqb}
+use lib.ListN.{length, set}
+use lib.Seq.{set-getD}
+use borrow.Author.Tests.{lt-leb, lt-ltb, le-ltb, ltb-true, ltb-false, eqb-true}
+use Rattle.laws.proofs.Booleans.{cond-elim, cond-cases}
+use Rattle.record_check.specs.Check.{valid}
+use Rattle.record.specs.declared.nodes.Node.{Node}
+use Rattle.record.specs.declared.queues.Processor.{Processor}
+use Rattle.record.specs.declared.queues.Queue.{Queue}
+use Rattle.record.specs.declared.stages.Place.{Place}
+use Rattle.record.specs.declared.stages.Seek.{Seek}
+use Rattle.record.specs.declared.stages.Seek.the-variants as seek
+use Rattle.record.specs.declared.stages.Insert.{Insert}
+use Rattle.record.specs.declared.stages.Insert.the-variants as ins
+use Rattle.record.specs.declared.stages.Removal.{Removal}
+use Rattle.record.specs.declared.stages.Removal.the-variants as rem
+use Rattle.record.specs.declared.stages.Job.{Job}
+use Rattle.record.specs.declared.stages.Job.the-variants as jobs
+use Rattle.record.specs.declared.stages.Delete.{Delete}
+use Rattle.record.specs.declared.stages.Delete.the-variants as del
+use Rattle.record.specs.declared.stages.Stage.{Stage}
+use Rattle.record.specs.declared.stages.Stage.the-variants as stage
+use Rattle.record.specs.Limits.{maxNumber}
+use Rattle.record.specs.Queues.{processorAt}
+use Rattle.record.specs.Stages.{isIdle}
+use Rattle.rules.specs.declared.answers.Answer.{Answer}
+use Rattle.rules.specs.declared.answers.Answer.the-variants as ans
+use Rattle.rules.specs.declared.answers.Outcome.{Outcome}
+use Rattle.rules.specs.declared.decisions.Decision.{Decision}
+use Rattle.rules.specs.declared.decisions.Searched.{Searched}
+use Rattle.rules.specs.declared.decisions.StepView.{StepView}
+use Rattle.rules.specs.declared.decisions.Sought.{Sought}
+use Rattle.rules.specs.Answers.{refused, isRefused, isWaits}
+use Rattle.rules.specs.declared.calls.Call.{Call}
+use Rattle.rules.specs.declared.calls.Call.the-variants as call
+use Rattle.rules.specs.Calls.{readingPlace, stepViewOf, stepDecision, decisionOf, refusalOf}
+use Rattle.rules.specs.Calls.{calledValid, called}
+use Rattle.rules.specs.Runs.{Turn}
+use Rattle.rules.proofs.Inner.{call-inner}
+use Rattle.rules.proofs.Allowed.{Allowed, allowed, busy-steps}
+use Rattle.rules.specs.Decide.{waits, searchStep, seekStep, insertSearched, insertSought, insertStep, removing, removalSearched, removalSought, removalStep, deleteStep, decide}
+use Rattle.rules.specs.Effects.{accepted}
+use Rattle.sheet_format.specs.declared.events.HistoryLine.{HistoryLine}
+use Rattle.sheet_format.specs.declared.lines.SheetLine.{SheetLine}
+use Rattle.sheet_format.specs.Calls.{callOf, callsPrint}
+use Rattle.sheet_format.specs.Events.{isSilent, callEvents}
+use Rattle.sheet_format.specs.Letters.{letterD, letterI}
+use Rattle.image.specs.Image.{imageOf, queueIn, lengthOf, Sound}
+use Rattle.image.specs.Numbers.{number32}
+use Rattle.image.specs.OneToOne.{Trim}
+use Rattle.image.specs.Puts.{puts, four}
+use Rattle.image.proofs.Inverse.{trim-in, read-write}
+use Rattle.image.proofs.Lengths.{length-image}
+use Rattle.image.proofs.Sizes.{sized-in}
+use Rattle.image.proofs.Whole.{withClock, put-clock}
+use Rattle.image_parts.specs.Given.{Gives}
+use Rattle.rules.proofs.ValidFacts.{valid-facts}
+use Rattle.sheet_lines.specs.Waiting.{waitsLeft, later}
+use Rattle.image_parts.proofs.Readings.{clock-is}
+use Rattle.sheet_lines.proofs.Called.{callOn, call-kept, call-queue, clock-high}
+use Rattle.sheet_lines.proofs.Histories.{leftOf, Going, oneMore, goes-on, prints-on}
+use Rattle.sheet_lines.proofs.States.{Written, Within, call-silent}
+
+no : {A : Type 0} → false ≡ true → A
+no {A} e = absurd (false≢true e)
+
+-- a decision that waits keeps all
+module _ (s : StepView) where
+  abbrev Same : Stage → Decision → Type 0
+  Same g d = isWaits (d .answer) ≡ true → d ≡ waits s g
+
+  insert-search : (a : Place) → Same (stage.Insert (ins.Search a)) (insertSearched s a (searchStep s a))
+  insert-search a =
+      cond-elim (λ (o : Searched). Same (stage.Insert (ins.Search a)) (insertSearched s a o)) (s .nextBeforeKey) _ _ no
+      (cond-elim (λ (o : Searched). Same (stage.Insert (ins.Search a)) (insertSearched s a o)) (leb (a .level) 1) _ _ no no)
+
+  insert-seek : (k : Seek) → Same (stage.Insert (ins.Seek k)) (insertSought s (seekStep s k))
+  insert-seek (seek.Approach a) = cond-elim (λ (o : Sought). Same (stage.Insert (ins.Seek (seek.Approach a))) (insertSought s o)) (s .nextBeforeKey) _ _ no no
+  insert-seek (seek.Take a) = cond-elim (λ (o : Sought). Same (stage.Insert (ins.Seek (seek.Take a))) (insertSought s o)) (eqb (s .placeLock) 0) _ _ no (λ _. refl)
+  insert-seek (seek.Confirm a) = cond-elim (λ (o : Sought). Same (stage.Insert (ins.Seek (seek.Confirm a))) (insertSought s o)) (s .nextBeforeKey) _ _ no no
+  insert-seek (seek.Release a b) = no
+
+  insert-same : (i : Insert) → Same (stage.Insert i) (insertStep s i)
+  insert-same (ins.Search a) = insert-search a
+  insert-same (ins.Seek k) = insert-seek k
+  insert-same (ins.Copy a) = no
+  insert-same (ins.Link a) = no
+  insert-same (ins.FreeLevel a) = cond-elim (Same (stage.Insert (ins.FreeLevel a))) (ltb (a .level) (s .height)) _ _ no no
+  insert-same ins.FreeNode = no
+  insert-same ins.Stamp = no
+
+  removal-search :
+      (j : Job) (a : Place) →
+      Same (removing j (rem.Search a)) (removalSearched j s a (searchStep s a))
+  removal-search j a =
+      let P : Searched → Type 0 = λ o. Same (removing j (rem.Search a)) (removalSearched j s a o) in
+      cond-elim P (s .nextBeforeKey) _ _ no (cond-elim P (leb (a .level) 1) _ _ no no)
+
+  removal-seek :
+      (j : Job) (k : Seek) → Same (removing j (rem.Seek k)) (removalSought j s (seekStep s k))
+  removal-seek j (seek.Approach a) =
+      let g = removing j (rem.Seek (seek.Approach a)) in
+      cond-elim (λ (o : Sought). Same g (removalSought j s o)) (s .nextBeforeKey) _ _ no no
+  removal-seek j (seek.Take a) =
+      let g = removing j (rem.Seek (seek.Take a)) in
+      cond-elim (λ (o : Sought). Same g (removalSought j s o)) (eqb (s .placeLock) 0) _ _ no (λ _. refl)
+  removal-seek j (seek.Confirm a) =
+      let g = removing j (rem.Seek (seek.Confirm a)) in
+      cond-elim (λ (o : Sought). Same g (removalSought j s o)) (s .nextBeforeKey) _ _ no no
+  removal-seek j (seek.Release a b) = no
+
+  removal-same : (j : Job) (r : Removal) → Same (removing j r) (removalStep j s r)
+  removal-same j (rem.Search a) = removal-search j a
+  removal-same j rem.HoldNode =
+      cond-elim (Same (removing j rem.HoldNode)) (eqb (s .ownNodeLock) 0) _ _ no (λ _. refl)
+  removal-same j (rem.Seek k) = removal-seek j k
+  removal-same j (rem.HoldOwn a) =
+      cond-elim (Same (removing j (rem.HoldOwn a))) (eqb (s .ownLock) 0) _ _ no (λ _. refl)
+  removal-same j (rem.Unlink a) = no
+  removal-same j (rem.LeadBack a) = no
+  removal-same j (rem.FreeOwn a) = no
+  removal-same j (rem.FreeLevel a) =
+      cond-elim (Same (removing j (rem.FreeLevel a))) (leb (a .level) 1) _ _ no no
+  removal-same j rem.FreeNode = no
+  removal-same jobs.Deliver rem.Retire = no
+
+  delete-same : (d : Delete) → Same (stage.Delete d) (deleteStep s d)
+  delete-same (del.ReadNext a) = cond-elim (Same (stage.Delete (del.ReadNext a))) (s .nextIsTail) _ _ no no
+  delete-same (del.TestStamp a) = cond-elim (Same (stage.Delete (del.TestStamp a))) (s .stamped) _ _ no no
+  delete-same (del.SetMark a) = cond-elim (Same (stage.Delete (del.SetMark a))) (s .marked) _ _ no no
+
+  waits-same : (g : Stage) → Same g (decide s g)
+  waits-same stage.Idle = λ _. refl
+  waits-same (stage.Insert i) = insert-same i
+  waits-same (stage.Delete d) = delete-same d
+  waits-same (stage.Removal j r) = removal-same j r
+
+abbrev waited : Queue → Outcome
+waited q = record { queue = later q 1; answer = ans.Waits }
+
+nothing-changes : (q : Queue) (p : ℕ) (a : Place) → accepted q p (waits (stepViewOf q (processorAt q p) a) (processorAt q p .stage)) ≡ waited q
+nothing-changes q p a =
+    ap (λ (ns : List Node). record { queue = record { processorCount = q .processorCount; nodeCount = q .nodeCount; levelCount = q .levelCount; clock = q .clock + 1; nodes = ns; processors = set (q .processors) p (processorAt q p) }; answer = ans.Waits }) (set-getD (q .nodes) 0 _)
+    ∙ ap (λ (cs : List Processor). record { queue = record { processorCount = q .processorCount; nodeCount = q .nodeCount; levelCount = q .levelCount; clock = q .clock + 1; nodes = q .nodes; processors = cs }; answer = ans.Waits }) (set-getD (q .processors) p _)
+
+-- the line's next call waits, whatever the clock is below its end
+pub record Waiting (l : SheetLine) (q : Queue) : Type 0 where
+  pub no-insert : eqb (l .letter) letterI ≡ false
+  pub no-delete : eqb (l .letter) letterD ≡ false
+  pub known : leb (q .processorCount) (l .first) ≡ false
+  pub busy : isIdle (processorAt q (l .first) .stage) ≡ false
+  pub stands : isWaits (stepDecision q (processorAt q (l .first)) .answer) ≡ true
+
+still : (l : SheetLine) (q : Queue) (m : ℕ) → Waiting l q → Waiting l (later q m)
+still l q m w = record { no-insert = w .no-insert; no-delete = w .no-delete; known = w .known; busy = w .busy; stands = w .stands }
+
+once : (l : SheetLine) (q : Queue) → Waiting l q → q .clock < maxNumber → callOn l q ≡ waited q
+once l q w h =
+    rw (w .no-insert)
+    (rw (w .no-delete)
+    (rw (lt-leb maxNumber (q .clock) h)
+    (rw (w .known)
+    (rw (w .busy)
+    (ap (λ (d : Decision). accepted q (l .first) d) (waits-same (stepViewOf q (processorAt q (l .first)) (readingPlace (processorAt q (l .first) .stage))) (processorAt q (l .first) .stage) (w .stands))
+    ∙ nothing-changes q (l .first) (readingPlace (processorAt q (l .first) .stage)))))))
+
+later-none : (q : Queue) → q ≡ later q 0
+later-none q =
+    let e : q .clock ≡ q .clock + 0 = omega arith in
+    ap (λ (c : ℕ). record { processorCount = q .processorCount; nodeCount = q .nodeCount; levelCount = q .levelCount; clock = c; nodes = q .nodes; processors = q .processors }) e
+
+same-clock : (q : Queue) (m : ℕ) → later (later q 1) m ≡ later q (suc m)
+same-clock q m =
+    let e : q .clock + 1 + m ≡ q .clock + suc m = omega arith in
+    ap (λ (c : ℕ). record { processorCount = q .processorCount; nodeCount = q .nodeCount; levelCount = q .levelCount; clock = c; nodes = q .nodes; processors = q .processors }) e
+
+passes-later : (l : SheetLine) (m : ℕ) (q : Queue) → Waiting l q → q .clock + m ≤ maxNumber → valid q ≡ true → valid (later q m) ≡ true
+passes-later l zero q w b v = ap valid (sym (later-none q)) ∙ v
+passes-later l (suc m) q w b v =
+    let one : valid (later q 1) ≡ true = ap (λ (o : Outcome). valid (o .queue)) (sym (once l q w (omega arith))) ∙ call-kept l q v in
+    ap valid (sym (same-clock q m)) ∙ passes-later l m (later q 1) (still l q 1 w) (omega arith) one
+
+-- m steps of the line more that wait
+module _ (s : List ℕ) (q₀ : Queue) (k : ℕ) (l : SheetLine) where
+  -- so many calls are left, on this record, and these lines are printed
+  record Passing (n : ℕ) (q : Queue) (es : List HistoryLine) : Type 0 where
+    made : List Turn
+    going : Going s q₀ k l n q made
+    prints : callsPrint q₀ made ≡ es
+
+  passes :
+      (m n : ℕ) (q : Queue) (made : List Turn) →
+      Waiting l q →
+      valid q ≡ true →
+      m ≤ n →
+      q .clock + m ≤ maxNumber →
+      Going s q₀ k l n q made →
+      Passing (n - m) (later q m) (callsPrint q₀ made)
+  passes zero n q made w v a b g =
+      let e : n ≡ n - 0 = omega arith in
+      record {
+        made = made;
+        going =
+            subst (λ (j : ℕ). Going s q₀ k l j (later q 0) made) e
+            (subst (λ (r : Queue). Going s q₀ k l n r made) (later-none q) g);
+        prints = refl;
+      }
+  passes (suc m) n q made w v a b g =
+      let o : called q (callOf l) ≡ waited q =
+      call-inner q (callOf l) v ∙ once l q w (omega arith) in
+      let one : valid (later q 1) ≡ true =
+      ap (λ (u : Outcome). valid (u .queue)) (sym (once l q w (omega arith))) ∙ call-kept l q v in
+      let left : n - 1 ≡ leftOf q l (n - 1) =
+      ap (λ (u : Outcome). cond (isRefused (u .answer)) 0 (n - 1)) (sym o) in
+      let h =
+      goes-on s q₀ k l n q made g (later q 1) (n - 1) (omega arith)
+      (ap (λ (u : Outcome). u .queue) (sym o)) left in
+      let quiet : callsPrint q₀ (oneMore made l) ≡ callsPrint q₀ made =
+      prints-on s q₀ k l n q made g
+      ∙ ap (λ (u : Outcome). callsPrint q₀ made
+      ++ callEvents (callOf l) (u .queue .clock) (u .answer)) o
+      ∙ append-nil (callsPrint q₀ made) in
+      let r =
+      passes m (n - 1) (later q 1) (oneMore made l) (still l q 1 w) one (omega arith) (omega arith)
+      h in
+      let e : n - 1 - m ≡ n - suc m = omega arith in
+      record {
+        made = r .made;
+        going =
+            subst (λ (j : ℕ). Going s q₀ k l j (later q (suc m)) (r .made)) e
+            (subst (λ (x : Queue). Going s q₀ k l (n - 1 - m) x (r .made)) (same-clock q m)
+            (r .going));
+        prints = r .prints ∙ quiet;
+      }
+
+-- a call that answers that it waits is a step, and one that is not refused
+abbrev Moves : Outcome → Type 0
+Moves o = isWaits (o .answer) ≡ false
+
+module _ (q : Queue) where
+  insert-moves : (p due item height : ℕ) → Moves (calledValid q (call.Insert p due item height))
+  insert-moves p due item height =
+      cond-elim Moves (eqb (refusalOf q (call.Insert p due item height)) 0) _ _ refl refl
+
+  delete-moves : (p : ℕ) → Moves (calledValid q (call.DeleteMin p))
+  delete-moves p = cond-elim Moves (eqb (refusalOf q (call.DeleteMin p)) 0) _ _ refl refl
+
+  waited-step :
+      (p : ℕ) → isWaits (calledValid q (call.Step p) .answer) ≡ true →
+      Allowed q (call.Step p)
+      × (isWaits (accepted q p (stepDecision q (processorAt q p)) .answer) ≡ true)
+  waited-step p = go (eqb (refusalOf q (call.Step p)) 0) refl
+    where
+      c : Call
+      c = call.Step p
+
+      go : (t : Bool) → eqb (refusalOf q c) 0 ≡ t →
+          isWaits
+          (cond t (accepted q p (decisionOf q c)) (refused q (refusalOf q c)) .answer) ≡ true →
+          Allowed q c × (isWaits (accepted q p (decisionOf q c) .answer) ≡ true)
+      go true z e = (allowed q c (eqb-true (refusalOf q c) 0 z), e)
+      go false z e = no e
+
+module _ (l : SheetLine) (q : Queue) where
+  waiting-by :
+      (i d : Bool) → eqb (l .letter) letterI ≡ i → eqb (l .letter) letterD ≡ d →
+      isWaits
+      (calledValid q (cond i (call.Insert (l .first) (l .second) (l .third) (l .fourth))
+      (cond d (call.DeleteMin (l .first)) (call.Step (l .first)))) .answer)
+      ≡ true →
+      (q .clock < maxNumber) × Waiting l q
+  waiting-by true d e f h = no (sym (insert-moves q (l .first) (l .second) (l .third) (l .fourth)) ∙ h)
+  waiting-by false true e f h = no (sym (delete-moves q (l .first)) ∙ h)
+  waiting-by false false e f h =
+      let p = waited-step q (l .first) h in
+      let A = p .0 in (
+        A .ticks,
+        record {
+          no-insert = e;
+          no-delete = f;
+          known = lt-leb _ _ (A .here);
+          busy = busy-steps _ (A .turn);
+          stands = p .1;
+        },
+      )
+
+  waiting : isWaits (callOn l q .answer) ≡ true → (q .clock < maxNumber) × Waiting l q
+  waiting = waiting-by (eqb (l .letter) letterI) (eqb (l .letter) letterD) refl refl
+
+  -- it prints nothing, and does not end its line
+  waits-silent : (a : Answer) → isWaits a ≡ true → isSilent (callOf l) a ≡ true
+  waits-silent (ans.Refused n) h = no h
+  waits-silent (ans.Began t) h = no h
+  waits-silent ans.Moved h = no h
+  waits-silent ans.Waits h = refl
+  waits-silent ans.Empty h = no h
+  waits-silent (ans.Did d e) h = no h
+
+  waits-left : (a : Answer) (n : ℕ) → isWaits a ≡ true → n ≡ cond (isRefused a) 0 n
+  waits-left (ans.Refused m) n h = no h
+  waits-left (ans.Began t) n h = no h
+  waits-left ans.Moved n h = no h
+  waits-left ans.Waits n h = refl
+  waits-left ans.Empty n h = no h
+  waits-left (ans.Did d e) n h = no h
+
+-- no more than are left, and no more than the clock takes
+pub least-left : (n k : ℕ) → (cond (ltb n k) n k ≤ n) × (cond (ltb n k) n k ≤ k)
+least-left n k = cond-cases (λ (m : ℕ). (m ≤ n) × (m ≤ k)) (ltb n k) n k
+    (λ e. let h = ltb-true n k e in (omega arith, omega (arith, h)))
+    (λ e. let h = ltb-false n k e in (omega (arith, h), omega arith))
+
+trimmed : (b : List ℕ) → Sound b → Trim (queueIn b)
+unfolding queueIn
+trimmed b s =
+    let z = valid-facts (queueIn b) (s .passes) .sizes in
+    trim-in b (z .processorCount .high) (z .nodeCount .high)
+
+-- the image of a record whose clock is later is read as it
+later-read : (b : List ℕ) → Sound b → (m : ℕ) → queueIn (imageOf (later (queueIn b) m)) ≡ later (queueIn b) m
+later-read b s m =
+    let e = sized-in b in
+    let t = trimmed b s in
+    read-write (later (queueIn b) m)
+    (record { nodes-long = e .nodes-long; processors-long = e .processors-long; forward-long = e .forward-long; locks-long = e .locks-long; saved-long = e .saved-long })
+    (record { processors-high = t .processors-high; entries-high = t .entries-high; nodes = t .nodes; processors = t .processors })
+
+-- the bytes of the clock
+clock-put : (b : List ℕ) → Sound b → (t m : ℕ) → t ≡ queueIn b .clock + m → puts b 0 (four 3 t) ≡ imageOf (later (queueIn b) m)
+clock-put b s t m e =
+    ap (λ (x : List ℕ). puts x 0 (four 3 t)) (sym (s .image))
+    ∙ put-clock (queueIn b) t
+    ∙ ap (λ (j : ℕ). imageOf (withClock (queueIn b) j)) e
+
+-- the steps that wait are all that are left, or all that the clock takes
+module _ (b : List ℕ) (s : Sound b) (left t : ℕ) (e : t ≡ number32 b 3) (after : List ℕ) where
+  abbrev Passed : ℕ → Type 0
+  Passed r =
+      (r ≡ left - waitsLeft left (queueIn b .clock))
+      × (after ≡ imageOf (later (queueIn b) (waitsLeft left (queueIn b .clock))))
+
+  passed : (m : ℕ) → waitsLeft left t ≡ m → after ≡ puts b 0 (four 3 (t + m)) → Passed (left - m)
+  passed m w h =
+      let c : queueIn b .clock ≡ t = clock-is b ∙ sym e in
+      let k : waitsLeft left (queueIn b .clock) ≡ m = ap (waitsLeft left) c ∙ w in
+      (ap (λ (j : ℕ). left - j) (sym k), h ∙ clock-put b s (t + m) m (ap (λ (j : ℕ). j + m) (sym c)) ∙ ap (λ (j : ℕ). imageOf (later (queueIn b) j)) (sym k))
+
+  pub all-wait : left < 999999 - t → after ≡ puts b 0 (four 3 (t + left)) → Passed 0
+  all-wait h f =
+      let z : left - left ≡ 0 = omega arith in
+      subst Passed z (passed left (ap (λ (x : Bool). cond x left (maxNumber - t)) (lt-ltb left (999999 - t) h)) f)
+
+  pub some-wait : 999999 - t ≤ left → after ≡ puts b 0 (four 3 999999) → Passed (left - (999999 - t))
+  some-wait h f =
+      let high = clock-high b s in
+      let full : 999999 ≡ t + (999999 - t) = omega (arith, e, high) in
+      passed (999999 - t) (ap (λ (x : Bool). cond x left (maxNumber - t)) (le-ltb left (999999 - t) h))
+      (f ∙ ap (λ (j : ℕ). puts b 0 (four 3 j)) full)
+
+-- the state of the line after the steps that wait with the one that did
+module _ (s : List ℕ) (q₀ : Queue) (k : ℕ) (l : SheetLine) (a₀ : List ℕ) (w : Bool) where
+  waits-on :
+      (b a : List ℕ) (at n m : ℕ) (d : List ℕ) →
+      Waiting l (queueIn b) →
+      m ≤ n →
+      queueIn b .clock + m ≤ maxNumber →
+      d ≡ imageOf (later (queueIn b) m) →
+      Within s q₀ k l n b a₀ a at w →
+      Within s q₀ k l (n - m) d a₀ a at w
+  waits-on b a at n m d v h c e i =
+      let read : queueIn d ≡ later (queueIn b) m = ap queueIn e ∙ later-read b (i .sound) m in
+      let p = passes s q₀ k l m n (queueIn b) (i .made) v (i .sound .passes) h c (i .going) in
+      record {
+        made = p .made;
+        going = subst (λ (q : Queue). Going s q₀ k l (n - m) q (p .made)) (sym read) (p .going);
+        sound = record {
+          long = ap length e ∙ length-image (later (queueIn b) m) ∙ ap lengthOf (sym e);
+          image = ap imageOf read ∙ sym e;
+          passes = ap valid read ∙ passes-later l m (queueIn b) v c (i .sound .passes);
+        };
+        written = subst (λ (es : List HistoryLine). Written a₀ a at es w) (sym (p .prints)) (i .written);
+      }
+
+  pub call-waits :
+      (b a : List ℕ) (at left : ℕ) (i : Within s q₀ k l left b a₀ a at w) (some : 0 < left)
+      (c : List ℕ) (r : Answer) → Gives (callOn l (queueIn b)) c r → Sound c →
+      isWaits r ≡ true →
+      (n : ℕ) (d : List ℕ) →
+      n ≡ left - 1 - waitsLeft (left - 1) (queueIn c .clock) →
+      d ≡ imageOf (later (queueIn c) (waitsLeft (left - 1) (queueIn c .clock))) →
+      Within s q₀ k l n d a₀ a at w
+  call-waits b a at left i some c r g z y n d e f =
+      let m = waitsLeft (left - 1) (queueIn c .clock) in
+      let x = waiting l (queueIn b) (sym (ap isWaits (g .answer)) ∙ y) in
+      let early = x .0 in
+      let read : queueIn c ≡ later (queueIn b) 1 =
+      call-queue l b (i .sound) c r g ∙ ap (λ (o : Outcome). o .queue) (once l (queueIn b) (x .1) early) in
+      let v = subst (Waiting l) (sym read) (still l (queueIn b) 1 (x .1)) in
+      let t : queueIn c .clock ≡ queueIn b .clock + 1 = ap (λ (q : Queue). q .clock) read in
+      let low = least-left (left - 1) (maxNumber - queueIn c .clock) in
+      let high = low .1 in
+      subst (λ (j : ℕ). Within s q₀ k l j d a₀ a at w) (sym e)
+      (waits-on c a at (left - 1) m d v (low .0) (omega (arith, high, t, early)) f
+      (call-silent s q₀ k l a₀ w b a at left i some c r g z (left - 1)
+      (waits-left l (queueIn b) r (left - 1) y) (waits-silent l (queueIn b) r y)))

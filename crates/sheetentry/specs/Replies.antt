@@ -1,8 +1,0 @@
--- The outcome of a sheet as two numbers (01, refusals; sheet and history).
--- 0 is no refusal's number.
-use lib.ListN.{getD}
-use Rattle.record.specs.Report.{Report}
-use Rattle.sheetentry.specs.declared.SheetReply.{SheetReply}
-
-abbrev pub replyTo : Report → SheetReply
-replyTo o = record { number = o .number; value = getD (o .values) 0 0 }
