@@ -2,10 +2,11 @@
 ghost use mathlib.Core.Path.{_≡_};
 ghost use Prim.Native.Nat.{_≤_};
 ghost use lib.ListN.{length};
-ghost use Rattle.image.specs.Image.{imageLength};
+ghost use Rattle.image.specs.Image.{imageLength, imageOf};
 ghost use Rattle.record.specs.Queues.{freshQueue};
 ghost use Rattle.sheet_format.specs.Kept.{IsKept};
 ghost use Rattle.sheet_format.specs.Sheets.{history as historyOf, fitted, madeBy, areaWritten};
+ghost use Rattle.sheet_lines.specs.Area.{queueAfter};
 use image::layout::HEADER;
 use image::layout::NODE_BYTES;
 use image::layout::PROCESSOR_BYTES;
@@ -38,6 +39,10 @@ fn run_twice(
     ensures { λ r.
         ⌜ now (area .exit)
         ≡ areaWritten (historyOf (now (sheet .entry)) (freshQueue p n l)) (now (area .entry)) r ⌝ }
+    ensures { λ _.
+        ⌜ now (image .exit)
+        ≡ imageOf (queueAfter (now (sheet .entry)) (freshQueue p n l)
+        (length (now (area .entry)))) ⌝ }
 {
     make_at(image, p, n, l);
     match run_lines(sheet, image, area, false, kept) {

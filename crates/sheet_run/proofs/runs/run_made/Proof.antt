@@ -84,7 +84,8 @@ returns c =
     let s = (c .before .before .before .before .before .before .before .before .before .before .before .before) in
     let l = s .args .l in
     let e = made-fresh (l .first) (l .second) (l .third) (s .pre .0) in
-    rw e (c .before .before .before .run-twice .ensures)
+    let twice = c .before .before .before .run-twice .ensures in
+    rw e (twice .0, twice .1 .0)
 
 pub run-made-spec : {M : Type 1} → statement M
 run-made-spec =

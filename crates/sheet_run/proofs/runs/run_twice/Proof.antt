@@ -5,6 +5,8 @@ use native.Mathlib.Omega.{arith}
 use lib.ListN.{length}
 use Rattle.record.specs.Queues.{freshQueue}
 use Rattle.sheet_format.specs.Sheets.{history, fitted}
+use Rattle.image.specs.Image.{imageOf}
+use Rattle.sheet_lines.specs.Area.{queueAfter}
 use Rattle.sheet_lines.proofs.Areas.{area-whole}
 use Rattle.sheet_run.proofs.Outcomes.{length-fits, written-whole}
 use borrow.Author.Needs.{needs}
@@ -41,7 +43,7 @@ returns c =
     let q = freshQueue (a .p) (a .n) (a .l) in
     let one = c .before .before .before .before .before .before .before .run-lines in
     let e = c .before .before .before .before .before .before .before .before .before .before .before .before .make-at .ensures .1 .1 in
-    (sym (c .before .number .given .1) ∙ (rw e at (one .ensures .0)), one .ensures .1 .0)
+    (sym (c .before .number .given .1) ∙ (rw e at (one .ensures .0)), (one .ensures .1 .0, (rw e at (one .ensures .1 .1))))
 
 same-length-3 : tie.Need-same-length-3
 same-length-3 c = search needs
@@ -65,7 +67,10 @@ returns-2 c =
     let second = rw f at (two .ensures .0) in
     let whole = rw f at (two .ensures .1 .0) in (
       second ∙ ap (λ (k : ℕ). fitted h k) n,
-      written-whole h (a .area .now) _ _ (two .result) fits same second (whole ∙ area-whole (a .sheet .now) q _ true (omega (arith, fits, n))),
+      (
+        written-whole h (a .area .now) _ _ (two .result) fits same second (whole ∙ area-whole (a .sheet .now) q _ true (omega (arith, fits, n))),
+        (rw f at (two .ensures .1 .1)) ∙ ap (λ (k : ℕ). imageOf (queueAfter (a .sheet .now) q k)) n,
+      ),
     )
 
 pub run-twice-spec : {M : Type 1} → statement M
