@@ -26,7 +26,8 @@ use Rattle.rules.specs.declared.calls.Call.{Call}
 use Rattle.rules.specs.Calls.{calledValid}
 use Rattle.rules.proofs.Inner.{call-inner}
 use Rattle.image.proofs.Sizes.{sized-in}
-use Rattle.image.specs.Image.{imageLength, imageOf, queueIn, isImage, passesOf, Sound}
+use Rattle.image.specs.Layout.{imageLength}
+use Rattle.image.specs.Image.{imageOf, queueIn, isImage, passesOf, Sound}
 use Rattle.image_parts.specs.Given.{Gives}
 use Rattle.image_parts.proofs.Kept.{Kept, kept-call}
 use Rattle.host_calls.specs.Entries.{

@@ -11,7 +11,8 @@ use Rattle.record_check.specs.declared.counting.Count.the-variants as count
 use Rattle.record_check.specs.declared.making.Made.{Made}
 use Rattle.record_check.specs.Backlog.{backlogOf}
 use Rattle.record_check.specs.Making.{outside}
-use Rattle.image.specs.Image.{imageLength, imageOf, queueIn, isImage}
+use Rattle.image.specs.Layout.{imageLength}
+use Rattle.image.specs.Image.{imageOf, queueIn, isImage}
 use Rattle.record.specs.declared.queues.Queue.{Queue}
 use Rattle.record.specs.Limits.{maxProcessors, maxNodes}
 use Rattle.rules.specs.declared.answers.Outcome.{Outcome}

@@ -3,9 +3,7 @@ ghost use mathlib.Core.Path.{_≡_};
 ghost use Prim.Native.Nat.{_≤_};
 ghost use Rattle.record_check.specs.Making.{made};
 ghost use Rattle.host_calls.specs.Entries.{lengthFor, makeCode, bytesMade};
-use image::layout::HEADER;
-use image::layout::NODE_BYTES;
-use image::layout::PROCESSOR_BYTES;
+use image::layout::image_length;
 use image_make::make_at;
 use record::limits::MAX_NODES;
 use record::limits::MAX_PROCESSORS;
@@ -24,7 +22,7 @@ pub extern "C" fn darthog_image_length(processors: u32, entries: u32) -> usize
     if outside(entries, MAX_NODES as u32) {
         return 0;
     }
-    HEADER + PROCESSOR_BYTES * (processors as usize) + NODE_BYTES * ((entries as usize) + 2)
+    image_length(processors as u8, entries as u8)
 }
 
 // Makes a queue for processors (1 to 16; else 11), entries (1 to 200; else 12) and levels (1 to 8;

@@ -8,13 +8,8 @@ use Rattle.record.specs.declared.queues.Processor.{Processor}
 use Rattle.record.specs.declared.queues.Queue.{Queue}
 use Rattle.record.specs.Queues.{nodeAt, processorAt}
 use Rattle.image.specs.Pieces.{nodeImage, processorImage}
-use Rattle.image.specs.Image.{
-  imageLength,
-  headerImage,
-  nodesImage,
-  processorsImage,
-  imageOf,
-}
+use Rattle.image.specs.Layout.{imageLength}
+use Rattle.image.specs.Image.{headerImage, nodesImage, processorsImage, imageOf}
 use Rattle.image.proofs.Lists.{length-joined}
 
 pub length-node : (n : Node) → length (nodeImage n) ≡ 41

@@ -21,13 +21,10 @@ use Rattle.record.specs.Limits.{maxProcessors, nodeSlots}
 use Rattle.record.specs.Nodes.{freshNode}
 use Rattle.record.specs.Queues.{freshProcessor, nodeAt, processorAt}
 use Rattle.record_check.specs.Check.{valid}
+use Rattle.image.specs.Layout.{processorBytes, nodeBytes, processorStart, imageLength}
 use Rattle.image.specs.Lists.{joined, listed, allBelow}
 use Rattle.image.specs.Numbers.{bytesOf32, number32}
 use Rattle.image.specs.Pieces.{nodeImage, readNode, processorImage, readProcessor}
-
--- how many bytes the image of a queue for p processors and n nodes has
-abbrev pub imageLength : ℕ → ℕ → ℕ
-imageLength p n = 7 + 17 * p + 41 * (n + 2)
 
 abbrev pub headerImage : ℕ → ℕ → ℕ → ℕ → List ℕ
 headerImage p n l clock = p ∷ n ∷ l ∷ bytesOf32 clock
@@ -49,14 +46,14 @@ abbrev pub lengthOf : List ℕ → ℕ
 lengthOf b = imageLength (getD b 0 0) (getD b 1 0)
 
 abbrev pub startOf : List ℕ → ℕ
-startOf b = 7 + 17 * getD b 0 0
+startOf b = processorStart (getD b 0 0)
 
 -- the bytes of processor p and of node x
 abbrev pub processorPart : List ℕ → ℕ → List ℕ
-processorPart b p = take 17 (drop (7 + 17 * p) b)
+processorPart b p = take processorBytes (drop (processorStart p) b)
 
 abbrev pub nodePart : List ℕ → ℕ → List ℕ
-nodePart b x = take 41 (drop (startOf b + 41 * x) b)
+nodePart b x = take nodeBytes (drop (startOf b + nodeBytes * x) b)
 
 -- processor p and node x, as they are made where the bytes have none
 abbrev pub processorIn : List ℕ → ℕ → Processor

@@ -1,4 +1,5 @@
 pub mod Tags
+pub mod Layout
 pub mod Lists
 pub mod Numbers
 pub mod Pieces

@@ -6,7 +6,7 @@ use mathlib.Core.List.{List}
 use Prim.Native.Nat.{ℕ, _+_, _≤_, _<_}
 use lib.ListN.{length, getD}
 use Rattle.record.specs.declared.queues.Queue.{Queue}
-use Rattle.record.specs.Limits.{maxProcessors, nodeSlots}
+use Rattle.record.specs.Limits.{maxProcessors, maxLevels, nodeSlots}
 use Rattle.record.specs.Nodes.{freshNode}
 use Rattle.record.specs.Queues.{freshProcessor, nodeAt, processorAt}
 use Rattle.image.specs.Image.{imageOf, queueIn, isImage}
@@ -15,9 +15,9 @@ use Rattle.image.specs.Image.{imageOf, queueIn, isImage}
 pub record Sized (q : Queue) : Type 0 where
   pub nodes-long : length (q .nodes) ≡ nodeSlots
   pub processors-long : length (q .processors) ≡ maxProcessors
-  pub forward-long : (i : ℕ) → i < nodeSlots → length (nodeAt q i .forward) ≡ 8
-  pub locks-long : (i : ℕ) → i < nodeSlots → length (nodeAt q i .levelLocks) ≡ 8
-  pub saved-long : (p : ℕ) → p < maxProcessors → length (processorAt q p .saved) ≡ 8
+  pub forward-long : (i : ℕ) → i < nodeSlots → length (nodeAt q i .forward) ≡ maxLevels
+  pub locks-long : (i : ℕ) → i < nodeSlots → length (nodeAt q i .levelLocks) ≡ maxLevels
+  pub saved-long : (p : ℕ) → p < maxProcessors → length (processorAt q p .saved) ≡ maxLevels
 
 -- the slots past P and N + 1 are as made
 pub record Trim (q : Queue) : Type 0 where

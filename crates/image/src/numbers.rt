@@ -5,6 +5,8 @@ ghost use Prim.Native.Nat.{ℕ, _+_, _≤_, _<_};
 ghost use lib.ListN.{length};
 ghost use Rattle.image.specs.Numbers.{number32};
 ghost use Rattle.image.specs.Puts.{puts, four, clears, rests};
+ghost use Rattle.image.specs.Layout.{headerBytes, maxImageLength, processorBytes};
+ghost use Rattle.record.specs.Limits.{maxLevels, maxNumber};
 
 pub fn number_from(b: &[u8], at: usize) -> u32
     requires { ⌜ at + 4 ≤ length (now b) ⌝ }
@@ -17,7 +19,7 @@ pub fn number_from(b: &[u8], at: usize) -> u32
 
 // The clock ticks.
 pub fn tick(b: &mut [u8])
-    requires { ⌜ (7 ≤ length (now b)) × (number32 (now b) 3 < 999999) ⌝ }
+    requires { ⌜ (headerBytes ≤ length (now b)) × (number32 (now b) 3 < maxNumber) ⌝ }
     ensures { λ _.
         ⌜ now (b .exit) ≡ puts (now (b .entry)) 0 (four 3 (number32 (now (b .entry)) 3 + 1)) ⌝ }
 {
@@ -30,7 +32,7 @@ pub fn tick(b: &mut [u8])
 
 // A number of four bytes, at a place after a start.
 pub fn put_number(b: &mut [u8], o: usize, j: usize, v: u32)
-    requires { ⌜ (o + (j + 3) < length (now b)) × (length (now b) ≤ 8561) ⌝ }
+    requires { ⌜ (o + (j + 3) < length (now b)) × (length (now b) ≤ maxImageLength) ⌝ }
     ensures { λ _. ⌜ now (b .exit) ≡ puts (now (b .entry)) o (four j v) ⌝ }
 {
     b[o + j] = (v % 256) as u8;
@@ -41,7 +43,8 @@ pub fn put_number(b: &mut [u8], o: usize, j: usize, v: u32)
 
 // An idle processor's bytes; the saved nodes of the levels past l stay.
 pub fn clear(b: &mut [u8], o: usize, l: usize)
-    requires { ⌜ (o + 17 ≤ length (now b)) × (length (now b) ≤ 8561) × (l ≤ 8) ⌝ }
+    requires { ⌜ (o + processorBytes ≤ length (now b)) × (length (now b) ≤ maxImageLength)
+        × (l ≤ maxLevels) ⌝ }
     ensures { λ _. ⌜ now (b .exit) ≡ puts (now (b .entry)) o (clears l ++ rests) ⌝ }
 {
     let mut k: usize = 0;

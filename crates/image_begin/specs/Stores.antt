@@ -5,7 +5,9 @@ use mathlib.Core.List.{List, [], _∷_, _++_}
 use Prim.Native.Nat.{ℕ, zero, suc, _+_, _*_, _≤_}
 use lib.Dec.{eqb}
 use lib.ListN.{length, getD}
-use Rattle.record.specs.Limits.{maxNumber}
+use Rattle.record.specs.Limits.{maxProcessors, maxNodes, maxLevels, maxNumber}
+use Rattle.image.specs.Image.{startOf}
+use Rattle.image.specs.Layout.{nodeBytes}
 use Rattle.image.specs.Puts.{four}
 
 -- v at the first n levels from place j on
@@ -33,11 +35,11 @@ begun t own tag level = four 0 t ++ ((4, own) ∷ (5, tag) ∷ (7, level) ∷ []
 
 -- where the nodes start, and how long the bytes are
 pub record Based (b : List ℕ) (base : ℕ) : Type 0 where
-  pub start : base ≡ 7 + 17 * getD b 0 0
-  pub long : length b ≡ base + 41 * (getD b 1 0 + 2)
-  pub processors-high : getD b 0 0 ≤ 16
-  pub entries-high : getD b 1 0 ≤ 200
-  pub levels-high : getD b 2 0 ≤ 8
+  pub start : base ≡ startOf b
+  pub long : length b ≡ base + nodeBytes * (getD b 1 0 + 2)
+  pub processors-high : getD b 0 0 ≤ maxProcessors
+  pub entries-high : getD b 1 0 ≤ maxNodes
+  pub levels-high : getD b 2 0 ≤ maxLevels
 
 -- A use is read as one number, tag + 256 * time: 0 never used, 1 in use, and 2 + 256 * t where the
 -- node was retired at t. In a record that passes none of these reaches `late`.

@@ -4,8 +4,10 @@ ghost use Prim.Native.Nat.{ℕ, _+_, _*_, _≤_, _<_};
 ghost use lib.ListN.{length, getD};
 ghost use Rattle.record.specs.Queues.{processorAt};
 ghost use Rattle.rules.specs.Choice.{beganAfter, allBeganAfter, chosen};
-ghost use Rattle.image.specs.Image.{queueIn, Sound};
+ghost use Rattle.image.specs.Image.{queueIn, Sound, startOf};
 ghost use Rattle.image_begin.specs.Stores.{Based, endOf};
+ghost use Rattle.image.specs.Layout.{processorBytes, processorStart};
+ghost use Rattle.record.specs.Limits.{maxProcessors};
 use image::layout::HEADER;
 use image::layout::NODE_BYTES;
 use image::layout::PROCESSOR_BYTES;
@@ -24,8 +26,8 @@ fn end_of(used: u32) -> u32
 }
 
 fn began_after(b: &[u8], p: usize, t: u32) -> bool
-    requires { ⌜ (7 + 17 * p + 17 ≤ length (now b))
-        × (p < getD (now b) 0 0) × (getD (now b) 0 0 ≤ 16) ⌝ }
+    requires { ⌜ (processorStart p + processorBytes ≤ length (now b))
+        × (p < getD (now b) 0 0) × (getD (now b) 0 0 ≤ maxProcessors) ⌝ }
     ensures { λ r.
         ⌜ r ≡ beganAfter t (processorAt (queueIn (now (b .entry))) p .stage)
         (processorAt (queueIn (now (b .entry))) p .begin) ⌝ }
@@ -39,7 +41,7 @@ fn began_after(b: &[u8], p: usize, t: u32) -> bool
 
 // No busy processor began at t or before.
 fn all_after(b: &[u8], t: u32) -> bool
-    requires { ⌜ (7 + 17 * getD (now b) 0 0 ≤ length (now b)) × (getD (now b) 0 0 ≤ 16) ⌝ }
+    requires { ⌜ (startOf (now b) ≤ length (now b)) × (getD (now b) 0 0 ≤ maxProcessors) ⌝ }
     ensures { λ r. ⌜ r ≡ allBeganAfter (queueIn (now (b .entry))) t ⌝ }
 {
     let end = b[0] as usize;

@@ -5,10 +5,13 @@ ghost use Prim.Native.Nat.{ℕ, _+_, _≤_, _<_};
 ghost use lib.ListN.{length};
 ghost use Rattle.image.specs.Puts.{puts, four};
 ghost use Rattle.image_begin.specs.Stores.{levels, unmarked, used, fills, begun};
+ghost use Rattle.image.specs.Layout.{maxImageLength, nodeBytes, processorBytes};
+ghost use Rattle.record.specs.Limits.{maxLevels};
 use image::numbers::put_number;
 
 fn put_levels(b: &mut [u8], o: usize, j: usize, l: usize, v: u8)
-    requires { ⌜ (o + (j + 8) ≤ length (now b)) × (length (now b) ≤ 8561) × (l ≤ 8) ⌝ }
+    requires { ⌜ (o + (j + 8) ≤ length (now b)) × (length (now b) ≤ maxImageLength)
+        × (l ≤ maxLevels) ⌝ }
     ensures { λ _. ⌜ now (b .exit) ≡ puts (now (b .entry)) o (levels j l v) ⌝ }
 {
     let mut k: usize = 0;
@@ -19,7 +22,8 @@ fn put_levels(b: &mut [u8], o: usize, j: usize, l: usize, v: u8)
 }
 
 fn put_links(b: &mut [u8], o: usize, l: usize, tail: u8)
-    requires { ⌜ (o + 41 ≤ length (now b)) × (length (now b) ≤ 8561) × (l ≤ 8) ⌝ }
+    requires { ⌜ (o + nodeBytes ≤ length (now b)) × (length (now b) ≤ maxImageLength)
+        × (l ≤ maxLevels) ⌝ }
     ensures { λ _. ⌜ now (b .exit) ≡ puts (now (b .entry)) o (levels 0 l tail ++ levels 8 l 0) ⌝ }
 {
     put_levels(b, o, 0, l, tail);
@@ -28,7 +32,7 @@ fn put_links(b: &mut [u8], o: usize, l: usize, tail: u8)
 
 // Held by h, unmarked and unstamped.
 fn put_unmarked(b: &mut [u8], o: usize, h: u8)
-    requires { ⌜ (o + 41 ≤ length (now b)) × (length (now b) ≤ 8561) ⌝ }
+    requires { ⌜ (o + nodeBytes ≤ length (now b)) × (length (now b) ≤ maxImageLength) ⌝ }
     ensures { λ _. ⌜ now (b .exit) ≡ puts (now (b .entry)) o (unmarked h) ⌝ }
 {
     b[o + 16] = h;
@@ -41,7 +45,7 @@ fn put_unmarked(b: &mut [u8], o: usize, h: u8)
 }
 
 fn put_entry(b: &mut [u8], o: usize, t: u32, due: u32, item: u32)
-    requires { ⌜ (o + 41 ≤ length (now b)) × (length (now b) ≤ 8561) ⌝ }
+    requires { ⌜ (o + nodeBytes ≤ length (now b)) × (length (now b) ≤ maxImageLength) ⌝ }
     ensures { λ _.
         ⌜ now (b .exit)
         ≡ puts (puts (puts (now (b .entry)) o (four 23 due)) o (four 27 t)) o (four 31 item) ⌝ }
@@ -52,7 +56,7 @@ fn put_entry(b: &mut [u8], o: usize, t: u32, due: u32, item: u32)
 }
 
 fn put_used(b: &mut [u8], o: usize, height: u8)
-    requires { ⌜ (o + 41 ≤ length (now b)) × (length (now b) ≤ 8561) ⌝ }
+    requires { ⌜ (o + nodeBytes ≤ length (now b)) × (length (now b) ≤ maxImageLength) ⌝ }
     ensures { λ _. ⌜ now (b .exit) ≡ puts (now (b .entry)) o (used height) ⌝ }
 {
     b[o + 35] = height;
@@ -75,7 +79,8 @@ pub(crate) fn fill(
     item: u32,
     height: u8,
 )
-    requires { ⌜ (o + 41 ≤ length (now b)) × (length (now b) ≤ 8561) × (l ≤ 8) ⌝ }
+    requires { ⌜ (o + nodeBytes ≤ length (now b)) × (length (now b) ≤ maxImageLength)
+        × (l ≤ maxLevels) ⌝ }
     ensures { λ _. ⌜ now (b .exit) ≡ puts (now (b .entry)) o (fills l tail h t due item height) ⌝ }
 {
     put_links(b, o, l, tail);
@@ -86,7 +91,7 @@ pub(crate) fn fill(
 
 // The processor that starts at o begins.
 pub(crate) fn begin(b: &mut [u8], o: usize, t: u32, own: u8, tag: u8, level: u8)
-    requires { ⌜ (o + 17 ≤ length (now b)) × (length (now b) ≤ 8561) ⌝ }
+    requires { ⌜ (o + processorBytes ≤ length (now b)) × (length (now b) ≤ maxImageLength) ⌝ }
     ensures { λ _. ⌜ now (b .exit) ≡ puts (now (b .entry)) o (begun t own tag level) ⌝ }
 {
     put_number(b, o, 0, t);

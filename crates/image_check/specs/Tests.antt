@@ -6,6 +6,7 @@ use Prim.Native.Nat.{ℕ, _+_}
 use lib.Dec.{leb}
 use lib.ListN.{getD}
 use Rattle.laws.specs.Every.{everyBelow}
+use Rattle.record.specs.Limits.{maxNumber}
 use Rattle.record_check.specs.declared.check.Sizes.{Sizes}
 use Rattle.record_check.specs.Check.{within, sizesOf, nodeValid, processorValid}
 use Rattle.image.specs.Numbers.{number32}
@@ -24,8 +25,8 @@ linksTest b o p n l =
 -- its due minute, item, ticket and height
 abbrev pub entryTest : List ℕ → ℕ → ℕ → ℕ → Bool
 entryTest b o l clock =
-    leb (number32 b (o + 23)) 999999
-    && leb (number32 b (o + 31)) 999999
+    leb (number32 b (o + 23)) maxNumber
+    && leb (number32 b (o + 31)) maxNumber
     && leb (number32 b (o + 27)) clock
     && within (getD b (o + 35) 0) l
 

@@ -8,6 +8,8 @@ ghost use Rattle.laws.specs.Every.{everyBelow};
 ghost use Rattle.record_check.specs.Check.{within, stampValid, useValid};
 ghost use Rattle.image.specs.Tags.{timed, stampOf, stampTaken, useOf, useTaken};
 ghost use Rattle.image.specs.Puts.{piece};
+ghost use Rattle.image.specs.Layout.{maxImageLength};
+ghost use Rattle.record.specs.Limits.{maxLevels};
 use record::levels::both;
 
 // A number of slot k is at most top, or the slot is past l.
@@ -20,7 +22,8 @@ fn slot_low(k: usize, l: usize, x: u8, top: u8) -> bool
 // The first l of the eight numbers at o + j are at most top. All eight are read, which takes no
 // longer than one.
 pub(crate) fn levels_low(b: &[u8], o: usize, j: usize, l: usize, top: u8) -> bool
-    requires { ⌜ (o + (j + 8) ≤ length (now b)) × (length (now b) ≤ 8561) × (l ≤ 8) ⌝ }
+    requires { ⌜ (o + (j + 8) ≤ length (now b)) × (length (now b) ≤ maxImageLength)
+        × (l ≤ maxLevels) ⌝ }
     ensures { λ r. ⌜ r ≡ everyBelow (λ (k : ℕ). leb (piece (now (b .entry)) o (j + k)) top) l ⌝ }
 {
     let mut ok = true;

@@ -6,6 +6,8 @@ ghost use lib.ListN.{length, getD};
 ghost use Rattle.laws.specs.Every.{everyBelow};
 ghost use Rattle.image.specs.Image.{lengthOf};
 ghost use Rattle.image_check.specs.Tests.{nodeOk, linksTest, entryTest};
+ghost use Rattle.image.specs.Layout.{maxImageLength, nodeBytes};
+ghost use Rattle.record.specs.Limits.{maxLevels, maxNodes, maxProcessors};
 use crate::levels::is_within;
 use crate::levels::levels_low;
 use crate::levels::stamp_passes;
@@ -19,7 +21,8 @@ use record::limits::MAX_NUMBER;
 
 // The links of the node at o, and its node lock.
 fn links_pass(b: &[u8], o: usize, p: u8, n: u8, l: usize) -> bool
-    requires { ⌜ (o + 41 ≤ length (now b)) × (length (now b) ≤ 8561) × (n ≤ 200) × (l ≤ 8) ⌝ }
+    requires { ⌜ (o + nodeBytes ≤ length (now b)) × (length (now b) ≤ maxImageLength)
+        × (n ≤ maxNodes) × (l ≤ maxLevels) ⌝ }
     ensures { λ r. ⌜ r ≡ linksTest (now (b .entry)) o p n l ⌝ }
 {
     let levels = both(levels_low(b, o, 0, l, n + 1), levels_low(b, o, 8, l, p));
@@ -28,7 +31,7 @@ fn links_pass(b: &[u8], o: usize, p: u8, n: u8, l: usize) -> bool
 
 // The due minute, the item, the ticket and the height of the node at o.
 fn entry_passes(b: &[u8], o: usize, l: usize, clock: u32) -> bool
-    requires { ⌜ (o + 41 ≤ length (now b)) × (length (now b) ≤ 8561) ⌝ }
+    requires { ⌜ (o + nodeBytes ≤ length (now b)) × (length (now b) ≤ maxImageLength) ⌝ }
     ensures { λ r. ⌜ r ≡ entryTest (now (b .entry)) o l clock ⌝ }
 {
     let low = both(
@@ -43,7 +46,8 @@ fn entry_passes(b: &[u8], o: usize, l: usize, clock: u32) -> bool
 // that fails ends it, which takes less than to keep what the tests gave.
 pub(crate) fn node_passes(b: &[u8], x: usize) -> bool
     requires { ⌜ (length (now b) ≡ lengthOf (now b)) × (x ≤ getD (now b) 1 0 + 1)
-        × (getD (now b) 0 0 ≤ 16) × (getD (now b) 1 0 ≤ 200) × (getD (now b) 2 0 ≤ 8) ⌝ }
+        × (getD (now b) 0 0 ≤ maxProcessors) × (getD (now b) 1 0 ≤ maxNodes)
+        × (getD (now b) 2 0 ≤ maxLevels) ⌝ }
     ensures { λ r. ⌜ r ≡ nodeOk (now (b .entry)) x ⌝ }
 {
     let p = b[0];
@@ -68,8 +72,8 @@ pub(crate) fn node_passes(b: &[u8], x: usize) -> bool
 }
 
 pub(crate) fn nodes_pass(b: &[u8]) -> bool
-    requires { ⌜ (length (now b) ≡ lengthOf (now b)) × (getD (now b) 0 0 ≤ 16)
-        × (getD (now b) 1 0 ≤ 200) × (getD (now b) 2 0 ≤ 8) ⌝ }
+    requires { ⌜ (length (now b) ≡ lengthOf (now b)) × (getD (now b) 0 0 ≤ maxProcessors)
+        × (getD (now b) 1 0 ≤ maxNodes) × (getD (now b) 2 0 ≤ maxLevels) ⌝ }
     ensures { λ r. ⌜ r ≡ everyBelow (nodeOk (now (b .entry))) (getD (now (b .entry)) 1 0 + 2) ⌝ }
 {
     let end = (b[1] as usize) + 2;

@@ -5,17 +5,19 @@ ghost use lib.ListN.{length, getD};
 ghost use Rattle.laws.specs.Every.{everyBelow};
 ghost use Rattle.image.specs.Image.{lengthOf};
 ghost use Rattle.image_check.specs.Tests.{processorOk};
+ghost use Rattle.record.specs.Limits.{maxLevels, maxNodes, maxProcessors};
 use crate::levels::levels_low;
 use crate::tags::stage_passes;
 use image::layout::HEADER;
 use image::layout::PROCESSOR_BYTES;
+use image::layout::TAG_COUNT;
 use image::numbers::number_from;
 
 // Processor p: its bytes are ones that are written, and it passes check 21.
 pub(crate) fn processor_passes(b: &[u8], p: usize) -> bool
     requires { ⌜ (length (now b) ≡ lengthOf (now b)) × (p < getD (now b) 0 0)
-        × (getD (now b) 0 0 ≤ 16) × (getD (now b) 1 0 ≤ 200)
-        × (1 ≤ getD (now b) 2 0) × (getD (now b) 2 0 ≤ 8) ⌝ }
+        × (getD (now b) 0 0 ≤ maxProcessors) × (getD (now b) 1 0 ≤ maxNodes)
+        × (1 ≤ getD (now b) 2 0) × (getD (now b) 2 0 ≤ maxLevels) ⌝ }
     ensures { λ r. ⌜ r ≡ processorOk (now (b .entry)) p ⌝ }
 {
     let n = b[1];
@@ -28,15 +30,16 @@ pub(crate) fn processor_passes(b: &[u8], p: usize) -> bool
         return false;
     }
     let tag = b[at + 5] as usize;
-    if 26 < tag {
+    if TAG_COUNT <= tag {
         return false;
     }
     stage_passes(tag, b[at + 6], b[at + 7], b[at + 8], b[at + 4], n, l)
 }
 
 pub(crate) fn processors_pass(b: &[u8]) -> bool
-    requires { ⌜ (length (now b) ≡ lengthOf (now b)) × (getD (now b) 0 0 ≤ 16)
-        × (getD (now b) 1 0 ≤ 200) × (1 ≤ getD (now b) 2 0) × (getD (now b) 2 0 ≤ 8) ⌝ }
+    requires { ⌜ (length (now b) ≡ lengthOf (now b)) × (getD (now b) 0 0 ≤ maxProcessors)
+        × (getD (now b) 1 0 ≤ maxNodes) × (1 ≤ getD (now b) 2 0)
+        × (getD (now b) 2 0 ≤ maxLevels) ⌝ }
     ensures { λ r. ⌜ r ≡ everyBelow (processorOk (now (b .entry))) (getD (now (b .entry)) 0 0) ⌝ }
 {
     let end = b[0] as usize;

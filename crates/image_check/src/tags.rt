@@ -3,11 +3,13 @@ ghost use mathlib.Core.Path.{_≡_};
 ghost use mathlib.Core.Bool.{cond};
 ghost use Prim.Native.Nat.{_≤_, _<_};
 ghost use Rattle.image_check.specs.Bounds.{rowAt, inBounds};
+ghost use Rattle.record.specs.Limits.{maxNodes};
+ghost use Rattle.record.specs.Stages.{tagCount};
 
 // Columns of the table of stages, for a tag. They are no constant arrays, which would be copied for
 // each look.
 fn owns(tag: usize) -> bool
-    requires { ⌜ tag < 27 ⌝ }
+    requires { ⌜ tag < tagCount ⌝ }
     ensures { λ r. ⌜ r ≡ rowAt tag .owns ⌝ }
 {
     match tag {
@@ -20,7 +22,7 @@ fn owns(tag: usize) -> bool
 }
 
 fn is_placed(tag: usize) -> bool
-    requires { ⌜ tag < 27 ⌝ }
+    requires { ⌜ tag < tagCount ⌝ }
     ensures { λ r. ⌜ r ≡ rowAt tag .placed ⌝ }
 {
     match tag {
@@ -35,7 +37,7 @@ fn is_placed(tag: usize) -> bool
 }
 
 fn releases(tag: usize) -> bool
-    requires { ⌜ tag < 27 ⌝ }
+    requires { ⌜ tag < tagCount ⌝ }
     ensures { λ r. ⌜ r ≡ rowAt tag .releases ⌝ }
 {
     match tag {
@@ -46,7 +48,7 @@ fn releases(tag: usize) -> bool
 }
 
 fn marks(tag: usize) -> bool
-    requires { ⌜ tag < 27 ⌝ }
+    requires { ⌜ tag < tagCount ⌝ }
     ensures { λ r. ⌜ r ≡ rowAt tag .marks ⌝ }
 {
     match tag {
@@ -63,7 +65,7 @@ fn pick(c: bool, a: u8, b: u8) -> u8
 
 // The place's node a and level i, the node x that G3 read and the own node are in their bounds.
 pub(crate) fn stage_passes(tag: usize, a: u8, i: u8, x: u8, own: u8, n: u8, l: u8) -> bool
-    requires { ⌜ (tag < 27) × (n ≤ 200) ⌝ }
+    requires { ⌜ (tag < tagCount) × (n ≤ maxNodes) ⌝ }
     ensures { λ r. ⌜ r ≡ inBounds (rowAt tag) a i x own n l ⌝ }
 {
     let placed = is_placed(tag);

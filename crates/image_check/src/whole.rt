@@ -8,16 +8,28 @@ use crate::nodes::nodes_pass;
 use crate::processors::processors_pass;
 use image::layout::HEADER;
 use image::layout::NODE_BYTES;
-use image::layout::PROCESSOR_BYTES;
+use image::layout::image_length;
 use image::numbers::number_from;
 use record::levels::both;
+use record::limits::MAX_LEVELS;
+use record::limits::MAX_NODES;
 use record::limits::MAX_NUMBER;
+use record::limits::MAX_PROCESSORS;
+
+// Fewer bytes are no image: these are the sizes, the clock, the head and the tail.
+const SHORTEST: usize = HEADER + 2 * NODE_BYTES;
 
 fn sizes_pass(p: u8, n: u8, l: u8, clock: u32) -> bool
     ensures { λ r. ⌜ r ≡ sizesValid (sizes p n l clock) ⌝ }
 {
-    let few = both(is_within(p as usize, 16), is_within(n as usize, 200));
-    both(both(few, is_within(l as usize, 8)), clock <= MAX_NUMBER)
+    let few = both(
+        is_within(p as usize, MAX_PROCESSORS as usize),
+        is_within(n as usize, MAX_NODES as usize),
+    );
+    both(
+        both(few, is_within(l as usize, MAX_LEVELS as usize)),
+        clock <= MAX_NUMBER,
+    )
 }
 
 // The bytes are the image of a record that passes check 21.
@@ -25,7 +37,7 @@ pub fn passes(image: &[u8]) -> bool
     ensures { λ r. ⌜ r ≡ passesOf (now (image .entry)) ⌝ }
 {
     let length = image.len();
-    if length < 89 {
+    if length < SHORTEST {
         return false;
     }
     let p = image[0];
@@ -34,7 +46,7 @@ pub fn passes(image: &[u8]) -> bool
     if !sizes_pass(p, n, l, number_from(image, 3)) {
         return false;
     }
-    if length != HEADER + PROCESSOR_BYTES * (p as usize) + NODE_BYTES * ((n as usize) + 2) {
+    if length != image_length(p, n) {
         return false;
     }
     both(processors_pass(image), nodes_pass(image))

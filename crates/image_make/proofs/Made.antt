@@ -10,7 +10,8 @@ use Rattle.record.specs.Nodes.{freshNode}
 use Rattle.record.specs.Queues.{freshProcessor, freshQueue, nodeAt, processorAt}
 use Rattle.rules.proofs.Valid.{fresh-valid}
 use Rattle.record_check.specs.Check.{valid}
-use Rattle.image.specs.Image.{imageLength, headerImage, processorsImage, nodesImage, imageOf, queueIn}
+use Rattle.image.specs.Layout.{imageLength}
+use Rattle.image.specs.Image.{headerImage, processorsImage, nodesImage, imageOf, queueIn}
 use Rattle.image.specs.Image.{Sound}
 use Rattle.image.specs.Lists.{storedAt, joined}
 use Rattle.image.specs.Pieces.{nodeImage, processorImage}

@@ -4,17 +4,20 @@ ghost use Prim.Native.Nat.{ℕ, _+_, _*_, _≤_};
 ghost use lib.ListN.{length};
 ghost use Rattle.record.specs.Nodes.{freshNode};
 ghost use Rattle.record.specs.Queues.{freshQueue};
-ghost use Rattle.image.specs.Image.{imageLength, headerImage, imageOf, queueIn, Sound};
+ghost use Rattle.image.specs.Layout.{imageLength, headerBytes, maxImageLength, nodeBytes};
+ghost use Rattle.image.specs.Layout.{processorStart};
+ghost use Rattle.image.specs.Image.{headerImage, imageOf, queueIn, Sound};
 ghost use Rattle.image.specs.Lists.{storedAt};
 ghost use Rattle.image.specs.Pieces.{nodeImage};
 ghost use Rattle.image_make.specs.Fresh.{repeated, freshProcessors, freshNodes};
+ghost use Rattle.record.specs.Limits.{maxLevels, maxNodes, maxProcessors};
 use image::layout::HEADER;
 use image::layout::NODE_BYTES;
 use image::layout::PROCESSOR_BYTES;
 
 // The byte v, n times from o on.
 fn repeat(b: &mut [u8], o: usize, n: usize, v: u8)
-    requires { ⌜ (o + n ≤ length (now b)) × (length (now b) ≤ 8561) ⌝ }
+    requires { ⌜ (o + n ≤ length (now b)) × (length (now b) ≤ maxImageLength) ⌝ }
     ensures { λ _. ⌜ now (b .exit) ≡ storedAt (now (b .entry)) o (repeated v n) ⌝ }
 {
     let mut k: usize = 0;
@@ -26,7 +29,7 @@ fn repeat(b: &mut [u8], o: usize, n: usize, v: u8)
 
 // The sizes, and the clock at 0.
 fn put_header(b: &mut [u8], p: u8, n: u8, l: u8)
-    requires { ⌜ (7 ≤ length (now b)) × (length (now b) ≤ 8561) ⌝ }
+    requires { ⌜ (headerBytes ≤ length (now b)) × (length (now b) ≤ maxImageLength) ⌝ }
     ensures { λ _. ⌜ now (b .exit) ≡ storedAt (now (b .entry)) 0 (headerImage p n l 0) ⌝ }
 {
     b[0] = p;
@@ -37,7 +40,7 @@ fn put_header(b: &mut [u8], p: u8, n: u8, l: u8)
 
 // The first n processors, idle.
 fn put_processors(b: &mut [u8], n: usize)
-    requires { ⌜ (7 + 17 * n ≤ length (now b)) × (length (now b) ≤ 8561) ⌝ }
+    requires { ⌜ (processorStart n ≤ length (now b)) × (length (now b) ≤ maxImageLength) ⌝ }
     ensures { λ _. ⌜ now (b .exit) ≡ storedAt (now (b .entry)) 7 (freshProcessors n) ⌝ }
 {
     let mut p: usize = 0;
@@ -49,7 +52,7 @@ fn put_processors(b: &mut [u8], n: usize)
 
 // A node that was never used: it leads to the tail at each level.
 fn put_node(b: &mut [u8], o: usize, tail: u8)
-    requires { ⌜ (o + 41 ≤ length (now b)) × (length (now b) ≤ 8561) ⌝ }
+    requires { ⌜ (o + nodeBytes ≤ length (now b)) × (length (now b) ≤ maxImageLength) ⌝ }
     ensures { λ _. ⌜ now (b .exit) ≡ storedAt (now (b .entry)) o (nodeImage (freshNode tail)) ⌝ }
 {
     repeat(b, o, 8, tail);
@@ -60,7 +63,7 @@ fn put_node(b: &mut [u8], o: usize, tail: u8)
 
 // So many nodes from base on.
 fn put_nodes(b: &mut [u8], base: usize, n: usize, tail: u8)
-    requires { ⌜ (base + 41 * n ≤ length (now b)) × (length (now b) ≤ 8561) ⌝ }
+    requires { ⌜ (base + nodeBytes * n ≤ length (now b)) × (length (now b) ≤ maxImageLength) ⌝ }
     ensures { λ _. ⌜ now (b .exit) ≡ storedAt (now (b .entry)) base (freshNodes tail n) ⌝ }
 {
     let mut x: usize = 0;
@@ -72,8 +75,9 @@ fn put_nodes(b: &mut [u8], base: usize, n: usize, tail: u8)
 
 // A fresh queue for p processors, n nodes and l levels.
 pub fn make_at(image: &mut [u8], p: u8, n: u8, l: u8)
-    requires { ⌜ (length (now image) ≡ imageLength p n) × (1 ≤ p) × (p ≤ 16) × (1 ≤ n) × (n ≤ 200)
-        × (1 ≤ l) × (l ≤ 8) ⌝ }
+    requires { ⌜ (length (now image) ≡ imageLength p n) × (1 ≤ p) × (p ≤ maxProcessors) × (1 ≤ n)
+        × (n ≤ maxNodes)
+        × (1 ≤ l) × (l ≤ maxLevels) ⌝ }
     ensures { λ _. ⌜ now (image .exit) ≡ imageOf (freshQueue p n l) ⌝ }
     ensures { λ _.
         ⌜ Sound (now (image .exit)) × (queueIn (now (image .exit)) ≡ freshQueue p n l) ⌝ }

@@ -2,7 +2,7 @@
 use mathlib.Core.Path.{_≡_}
 use mathlib.Core.List.{List}
 use mathlib.Core.Bool.{Bool, false, cond}
-use Prim.Native.Nat.{ℕ, _+_, _*_}
+use Prim.Native.Nat.{ℕ}
 use lib.Dec.{leb, eqb}
 use lib.ListN.{getD}
 use Rattle.rules.specs.declared.answers.Answer.{Answer}
@@ -10,6 +10,7 @@ use Rattle.rules.specs.declared.answers.Outcome.{Outcome}
 use Rattle.rules.specs.declared.calls.Call.{Call}
 use Rattle.rules.specs.declared.calls.Call.the-variants as call
 use Rattle.rules.specs.Calls.{processorOf, refusalBy, idleAt, calledValid}
+use Rattle.image.specs.Layout.{tagIn}
 use Rattle.image.specs.Image.{imageOf, queueIn, Sound}
 
 -- the bytes and the answer after a call with this outcome
@@ -19,7 +20,7 @@ pub record Gives (o : Outcome) (after : List ℕ) (r : Answer) : Type 0 where
 
 -- whether processor p is idle, by its bytes; it is not where there is none
 abbrev pub idleIn : List ℕ → ℕ → Bool
-idleIn b p = cond (leb (getD b 0 0) p) false (eqb (getD b (7 + 17 * p + 5) 0) 0)
+idleIn b p = cond (leb (getD b 0 0) p) false (eqb (tagIn b p) 0)
 
 -- what a call on these bytes is refused with before a node is looked for, or 0
 abbrev pub refusalIn : List ℕ → Call → ℕ

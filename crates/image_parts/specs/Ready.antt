@@ -5,61 +5,69 @@ use Prim.Native.Nat.{ℕ, _+_, _*_, _-_, _≤_, _<_}
 use lib.ListN.{length, getD}
 use Rattle.record.specs.declared.keys.Key.{Key}
 use Rattle.record.specs.Keys.{nodeKey}
+use Rattle.record.specs.Limits.{maxProcessors, maxNodes, maxLevels, maxNumber}
+use Rattle.image.specs.Layout.{nodeBytes, ownIn, tagIn, placeIn, levelIn}
 use Rattle.image.specs.Numbers.{number32}
-use Rattle.image.specs.Image.{Sound}
+use Rattle.image.specs.Image.{startOf, Sound}
+
+-- the height of node x, and where it leads at level i; base is where the nodes start
+abbrev pub heightIn : List ℕ → ℕ → ℕ → ℕ
+heightIn b base x = getD b (base + nodeBytes * x + 35) 0
+
+abbrev pub nextIn : List ℕ → ℕ → ℕ → ℕ → ℕ
+nextIn b base x i = getD b (base + nodeBytes * x + (i - 1)) 0
 
 -- the key of node x
 abbrev pub keyIn : List ℕ → ℕ → ℕ → Key
 keyIn b base x =
-    nodeKey (getD b 1 0) x (number32 b (base + 41 * x + 23)) (number32 b (base + 41 * x + 27))
+    nodeKey (getD b 1 0) x (number32 b (base + nodeBytes * x + 23)) (number32 b (base + nodeBytes * x + 27))
 
 pub record Placed (b : List ℕ) (base p tag : ℕ) : Type 0 where
   pub sound : Sound b
-  pub start : base ≡ 7 + 17 * getD b 0 0
-  pub long : length b ≡ base + 41 * (getD b 1 0 + 2)
-  pub processors-high : getD b 0 0 ≤ 16
+  pub start : base ≡ startOf b
+  pub long : length b ≡ base + nodeBytes * (getD b 1 0 + 2)
+  pub processors-high : getD b 0 0 ≤ maxProcessors
   pub low : p < getD b 0 0
-  pub few : p < 16
-  pub early : number32 b 3 < 999999
-  pub tagged : getD b (7 + 17 * p + 5) 0 ≡ tag
-  pub node-low : getD b (7 + 17 * p + 6) 0 ≤ getD b 1 0 + 1
-  pub level-low : 1 ≤ getD b (7 + 17 * p + 7) 0
-  pub level-high : getD b (7 + 17 * p + 7) 0 ≤ 8
-  pub own-low : 1 ≤ getD b (7 + 17 * p + 4) 0
-  pub own-high : getD b (7 + 17 * p + 4) 0 ≤ getD b 1 0
-  pub entries-high : getD b 1 0 ≤ 200
-  pub height-low : 1 ≤ getD b (base + 41 * getD b (7 + 17 * p + 4) 0 + 35) 0
-  pub height-high : getD b (base + 41 * getD b (7 + 17 * p + 4) 0 + 35) 0 ≤ 8
-  pub next-low : getD b
-      (base + 41 * getD b (7 + 17 * p + 6) 0 + (getD b (7 + 17 * p + 7) 0 - 1)) 0 ≤ getD b 1 0 + 1
+  pub few : p < maxProcessors
+  pub early : number32 b 3 < maxNumber
+  pub tagged : tagIn b p ≡ tag
+  pub node-low : placeIn b p ≤ getD b 1 0 + 1
+  pub level-low : 1 ≤ levelIn b p
+  pub level-high : levelIn b p ≤ maxLevels
+  pub own-low : 1 ≤ ownIn b p
+  pub own-high : ownIn b p ≤ getD b 1 0
+  pub entries-high : getD b 1 0 ≤ maxNodes
+  pub height-low : 1 ≤ heightIn b base (ownIn b p)
+  pub height-high : heightIn b base (ownIn b p) ≤ maxLevels
+  pub next-low : nextIn b base (placeIn b p) (levelIn b p) ≤ getD b 1 0 + 1
 
 -- a stage with an own node and no place
 pub record Owned (b : List ℕ) (base p tag : ℕ) : Type 0 where
   pub sound : Sound b
-  pub start : base ≡ 7 + 17 * getD b 0 0
-  pub long : length b ≡ base + 41 * (getD b 1 0 + 2)
-  pub processors-high : getD b 0 0 ≤ 16
+  pub start : base ≡ startOf b
+  pub long : length b ≡ base + nodeBytes * (getD b 1 0 + 2)
+  pub processors-high : getD b 0 0 ≤ maxProcessors
   pub low : p < getD b 0 0
-  pub few : p < 16
-  pub early : number32 b 3 < 999999
-  pub tagged : getD b (7 + 17 * p + 5) 0 ≡ tag
-  pub own-low : 1 ≤ getD b (7 + 17 * p + 4) 0
-  pub own-high : getD b (7 + 17 * p + 4) 0 ≤ getD b 1 0
-  pub entries-high : getD b 1 0 ≤ 200
-  pub levels-high : getD b 2 0 ≤ 8
-  pub height-low : 1 ≤ getD b (base + 41 * getD b (7 + 17 * p + 4) 0 + 35) 0
-  pub height-high : getD b (base + 41 * getD b (7 + 17 * p + 4) 0 + 35) 0 ≤ 8
+  pub few : p < maxProcessors
+  pub early : number32 b 3 < maxNumber
+  pub tagged : tagIn b p ≡ tag
+  pub own-low : 1 ≤ ownIn b p
+  pub own-high : ownIn b p ≤ getD b 1 0
+  pub entries-high : getD b 1 0 ≤ maxNodes
+  pub levels-high : getD b 2 0 ≤ maxLevels
+  pub height-low : 1 ≤ heightIn b base (ownIn b p)
+  pub height-high : heightIn b base (ownIn b p) ≤ maxLevels
 
 -- a stage with a place and no own node
 pub record Walked (b : List ℕ) (base p tag : ℕ) : Type 0 where
   pub sound : Sound b
-  pub start : base ≡ 7 + 17 * getD b 0 0
-  pub long : length b ≡ base + 41 * (getD b 1 0 + 2)
-  pub processors-high : getD b 0 0 ≤ 16
+  pub start : base ≡ startOf b
+  pub long : length b ≡ base + nodeBytes * (getD b 1 0 + 2)
+  pub processors-high : getD b 0 0 ≤ maxProcessors
   pub low : p < getD b 0 0
-  pub few : p < 16
-  pub early : number32 b 3 < 999999
-  pub tagged : getD b (7 + 17 * p + 5) 0 ≡ tag
-  pub node-low : getD b (7 + 17 * p + 6) 0 ≤ getD b 1 0 + 1
-  pub entries-high : getD b 1 0 ≤ 200
-  pub levels-high : getD b 2 0 ≤ 8
+  pub few : p < maxProcessors
+  pub early : number32 b 3 < maxNumber
+  pub tagged : tagIn b p ≡ tag
+  pub node-low : placeIn b p ≤ getD b 1 0 + 1
+  pub entries-high : getD b 1 0 ≤ maxNodes
+  pub levels-high : getD b 2 0 ≤ maxLevels

@@ -4,14 +4,17 @@ ghost use Prim.Native.Nat.{ℕ, _+_, _*_, _≤_, _<_};
 ghost use lib.ListN.{length, getD};
 ghost use Rattle.image_parts.specs.Ready.{keyIn};
 ghost use Rattle.record.specs.Keys.{keyBefore};
+ghost use Rattle.image.specs.Layout.{headerBytes, nodeBytes, processorStart};
+ghost use Rattle.record.specs.Limits.{maxNodes, maxProcessors};
 use image::layout::NODE_BYTES;
 use image::numbers::number_from;
 
 // Whether node x's key is before that of node y, which is an entry's.
 pub fn before(b: &[u8], base: usize, x: u8, y: u8) -> bool
-    requires { ⌜ (length (now b) ≡ base + 41 * (getD (now b) 1 0 + 2)) × (x ≤ getD (now b) 1 0 + 1)
-        × (1 ≤ y) × (y ≤ getD (now b) 1 0) × (getD (now b) 1 0 ≤ 200) × (7 ≤ base)
-        × (base ≤ 279) ⌝ }
+    requires { ⌜ (length (now b) ≡ base + nodeBytes * (getD (now b) 1 0 + 2))
+        × (x ≤ getD (now b) 1 0 + 1)
+        × (1 ≤ y) × (y ≤ getD (now b) 1 0) × (getD (now b) 1 0 ≤ maxNodes) × (headerBytes ≤ base)
+        × (base ≤ processorStart maxProcessors) ⌝ }
     ensures { λ r.
         ⌜ r ≡ keyBefore (keyIn (now (b .entry)) base x) (keyIn (now (b .entry)) base y) ⌝ }
 {

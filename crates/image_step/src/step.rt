@@ -6,6 +6,8 @@ ghost use Rattle.image.specs.Image.{startOf, Sound};
 ghost use Rattle.image.specs.Numbers.{number32};
 ghost use Rattle.image_parts.specs.Given.{Called};
 ghost use Rattle.rules.specs.declared.calls.Call.the-variants as call;
+ghost use Rattle.image.specs.Layout.{tagIn};
+ghost use Rattle.record.specs.Limits.{maxNumber};
 use image::layout::HEADER;
 use image::layout::PROCESSOR_BYTES;
 use image_delete::removals::back;
@@ -36,7 +38,7 @@ use rules::Call;
 // The step of the stage that processor p is in, by the stage's tag.
 fn stage_step(image: &mut [u8], base: usize, p: usize) -> Answer
     requires { ⌜ Sound (now image) × (base ≡ startOf (now image)) × (p < getD (now image) 0 0)
-        × (number32 (now image) 3 < 999999) × (1 ≤ getD (now image) (7 + 17 * p + 5) 0) ⌝ }
+        × (number32 (now image) 3 < maxNumber) × (1 ≤ tagIn (now image) p) ⌝ }
     ensures { λ r. ⌜ Called (now (image .entry)) (call.Step p) (now (image .exit)) r ⌝ }
 {
     let tag = image[HEADER + PROCESSOR_BYTES * p + 5];

@@ -96,9 +96,9 @@ insertRow ins.FreeNode {-        I4 -} = row 09 ● ○ ○ ○ ○ ○ ● (pla
 insertRow ins.Stamp {-           I5 -} = row 10 ● ○ ○ ○ ○ ○ ○ (place 0 1)
 
 abbrev pub deleteRow : Delete → Row
-deleteRow (del.ReadNext a) {-        W1 -} = row 11 ○ ● ● ○ ○ ○ ○ a
-deleteRow (del.TestStamp a) {-     W2 -} = row 12 ○ ● ● ○ ○ ○ ○ a
-deleteRow (del.SetMark a) {-        W3 -} = row 13 ○ ● ● ● ○ ○ ○ a
+deleteRow (del.ReadNext a) {-    W1 -} = row 11 ○ ● ● ○ ○ ○ ○ a
+deleteRow (del.TestStamp a) {-   W2 -} = row 12 ○ ● ● ○ ○ ○ ○ a
+deleteRow (del.SetMark a) {-     W3 -} = row 13 ○ ● ● ● ○ ○ ○ a
 
 -- what follows a mark, whatever its job
 abbrev pub removalRow : Removal → Row
@@ -107,7 +107,7 @@ removalRow rem.HoldNode {-       L1 -} = row 15 ● ○ ○ ○ ○ ○ ○ (pla
 removalRow (rem.Seek k) {- G1 to G4 -} = seekRow 16 k
 removalRow (rem.HoldOwn a) {-    L2 -} = row 20 ● ● ○ ○ ● ○ ● a
 removalRow (rem.Unlink a) {-     L3 -} = row 21 ● ● ○ ○ ● ● ● a
-removalRow (rem.LeadBack a) {-       L4 -} = row 22 ● ● ○ ○ ● ● ● a
+removalRow (rem.LeadBack a) {-   L4 -} = row 22 ● ● ○ ○ ● ● ● a
 removalRow (rem.FreeOwn a) {-    L5 -} = row 23 ● ● ○ ○ ● ● ● a
 removalRow (rem.FreeLevel a) {-  L6 -} = row 24 ● ● ○ ○ ● ○ ● a
 removalRow rem.FreeNode {-       L7 -} = row 25 ● ○ ○ ○ ○ ○ ● (place 0 1)
@@ -118,6 +118,10 @@ rowOf stage.Idle {-                 -} = row 00 ○ ○ ○ ○ ○ ○ ○ (pla
 rowOf (stage.Insert i) = insertRow i
 rowOf (stage.Delete d) = deleteRow d
 rowOf (stage.Removal job r) = removalRow r
+
+-- the tags are 0 to 26
+abbrev pub tagCount : ℕ
+tagCount = 27
 
 -- the numbers that a stage carries
 abbrev pub carriedOf : Row → Carried

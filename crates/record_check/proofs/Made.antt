@@ -43,7 +43,7 @@ made-none false true z q h = refl
 made-none false false true q h = refl
 made-none false false false q h = absurd (omega arith)
 
-within-range : (x top : ℕ) → outside x top ≡ false → (1 ≤ x) × (x ≤ top)
+pub within-range : (x top : ℕ) → outside x top ≡ false → (1 ≤ x) × (x ≤ top)
 within-range x top h =
     let low : 1 ≤ x = ltb-false x 1 (or-left (ltb x 1) (ltb top x) h) in
     (low, ltb-false top x (or-right (ltb x 1) (ltb top x) h))

@@ -7,6 +7,7 @@ ghost use Rattle.record_check.specs.Check.{useValid, linksValid, entryVa
 ghost use Rattle.record_check.specs.Check.{placeValid, ownValid};
 ghost use Rattle.record_check.specs.Check.{markingValid, carriedValid, processorValid};
 ghost use Rattle.record_check.specs.Check.{valid as validOf};
+ghost use Rattle.record.specs.Limits.{maxNodes};
 use record::levels::all_at_most;
 use record::levels::both;
 use record::limits::MAX_LEVELS;
@@ -68,7 +69,7 @@ fn use_valid(state: Use, clock: u32) -> bool
 
 // Forward numbers and holders of the levels 1 to L, and the node lock's.
 fn links_valid(s: Sizes, n: Node) -> bool
-    requires { ⌜ s .nodeCount ≤ 200 ⌝ }
+    requires { ⌜ s .nodeCount ≤ maxNodes ⌝ }
     ensures { λ r. ⌜ r ≡ linksValid s n ⌝ }
 {
     let forward = n.forward;
@@ -93,7 +94,7 @@ fn entry_valid(s: Sizes, n: Node) -> bool
 
 // Node x.
 fn node_valid(s: Sizes, x: u8, n: Node) -> bool
-    requires { ⌜ s .nodeCount ≤ 200 ⌝ }
+    requires { ⌜ s .nodeCount ≤ maxNodes ⌝ }
     ensures { λ r. ⌜ r ≡ nodeValid s x n ⌝ }
 {
     let stamp = n.stamp;
@@ -106,7 +107,7 @@ fn node_valid(s: Sizes, x: u8, n: Node) -> bool
 }
 
 fn place_valid(s: Sizes, a: Place) -> bool
-    requires { ⌜ s .nodeCount ≤ 200 ⌝ }
+    requires { ⌜ s .nodeCount ≤ maxNodes ⌝ }
     ensures { λ r. ⌜ r ≡ placeValid s a ⌝ }
 {
     let level = within(a.level, s.levelCount);
@@ -115,7 +116,7 @@ fn place_valid(s: Sizes, a: Place) -> bool
 
 // The own node: one of 1 to N where the stage has one.
 fn own_valid(s: Sizes, has: bool, own: u8) -> bool
-    requires { ⌜ s .nodeCount ≤ 200 ⌝ }
+    requires { ⌜ s .nodeCount ≤ maxNodes ⌝ }
     ensures { λ r. ⌜ r ≡ ownValid s has own ⌝ }
 {
     if has {
@@ -138,7 +139,7 @@ fn marking_valid(s: Sizes, marking: bool, x: u8) -> bool
 
 // What a stage carries.
 fn carried_valid(s: Sizes, g: Carried, own: u8) -> bool
-    requires { ⌜ s .nodeCount ≤ 200 ⌝ }
+    requires { ⌜ s .nodeCount ≤ maxNodes ⌝ }
     ensures { λ r. ⌜ r ≡ carriedValid s g own ⌝ }
 {
     let a = g.place;
@@ -152,7 +153,7 @@ fn carried_valid(s: Sizes, g: Carried, own: u8) -> bool
 }
 
 fn processor_valid(s: Sizes, c: Processor) -> bool
-    requires { ⌜ s .nodeCount ≤ 200 ⌝ }
+    requires { ⌜ s .nodeCount ≤ maxNodes ⌝ }
     ensures { λ r. ⌜ r ≡ processorValid s c ⌝ }
 {
     let saved = c.saved;

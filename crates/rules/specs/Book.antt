@@ -9,6 +9,7 @@ use Rattle.record_check.specs.declared.counting.Count.the-variants as count
 use Rattle.laws.specs.HowMany.{howMany}
 use Rattle.laws.specs.Update.{changedAt}
 use Rattle.record.specs.declared.queues.Queue.{Queue}
+use Rattle.record.specs.Limits.{maxNumber}
 use Rattle.record.specs.Keys.{entryKey, keyBefore}
 use Rattle.rules.specs.declared.answers.Answer.{Answer}
 use Rattle.rules.specs.declared.answers.Answer.the-variants as ans
@@ -21,7 +22,7 @@ use Rattle.rules.specs.Runs.{Turn, calls, backlog, Reply, answered, coun
 
 -- later than every clock: the time of an answer that has not come
 abbrev pub never : ℕ
-never = 1000000
+never = maxNumber + 1
 
 -- an entry of the book
 pub record BookEntry : Type 0 where

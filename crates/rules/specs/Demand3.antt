@@ -8,6 +8,7 @@ use lib.ListN.{getD}
 use Rattle.laws.specs.HowMany.{howMany}
 use Rattle.record_check.specs.declared.counting.Count.the-variants as count
 use Rattle.record.specs.declared.queues.Queue.{Queue}
+use Rattle.record.specs.Limits.{maxProcessors, maxNodes, maxLevels}
 use Rattle.record_check.specs.Check.{valid}
 use Rattle.record.specs.Queues.{freshQueue, nodeAt, processorAt}
 use Rattle.rules.specs.declared.answers.Answer.the-variants as ans
@@ -21,11 +22,11 @@ use Rattle.rules.specs.Runs.{Turn, stepBy, backlog, Reply, answered, cou
 -- a queue that was just made has sizes in their ranges
 pub record InRange (P N L : ℕ) : Type 0 where
   pub processors-low : 1 ≤ P
-  pub processors-high : P ≤ 16
+  pub processors-high : P ≤ maxProcessors
   pub entries-low : 1 ≤ N
-  pub entries-high : N ≤ 200
+  pub entries-high : N ≤ maxNodes
   pub levels-low : 1 ≤ L
-  pub levels-high : L ≤ 8
+  pub levels-high : L ≤ maxLevels
 
 -- b is the book after this list of calls on a queue that was just made: every answer agreed with it
 abbrev pub BookAfter : (P N L : ℕ) → List Turn → Book → Type 0

@@ -2,21 +2,19 @@
 ghost use mathlib.Core.Path.{_≡_};
 ghost use Prim.Native.Nat.{_≤_};
 ghost use lib.ListN.{length};
-ghost use Rattle.image.specs.Image.{imageLength, imageOf};
+ghost use Rattle.image.specs.Layout.{imageLength};
+ghost use Rattle.image.specs.Image.{imageOf};
 ghost use Rattle.record.specs.Queues.{freshQueue};
 ghost use Rattle.sheet_format.specs.Kept.{IsKept};
 ghost use Rattle.sheet_format.specs.Sheets.{history as historyOf, fitted, madeBy, areaWritten};
 ghost use Rattle.sheet_lines.specs.Area.{queueAfter};
-use image::layout::HEADER;
-use image::layout::NODE_BYTES;
-use image::layout::PROCESSOR_BYTES;
+ghost use Rattle.record.specs.Limits.{maxLevels, maxNodes, maxProcessors};
+use image::layout::MAX_IMAGE_LENGTH;
+use image::layout::image_length;
 use image_make::make_at;
 use sheet_format::SheetLine;
 use sheet_format::SheetOutcome;
 use sheet_lines::run_lines;
-
-// The image of a queue with the most processors and nodes has so many bytes.
-const LONGEST: usize = 8561;
 
 // Two runs on a queue that is made anew for each, in the bytes lent: the first counts the history,
 // the second writes it.
@@ -30,7 +28,8 @@ fn run_twice(
     kept: &[u32],
 ) -> SheetOutcome
     requires { ⌜ length (now image) ≡ imageLength p n ⌝ }
-    requires { ⌜ (1 ≤ p) × (p ≤ 16) × (1 ≤ n) × (n ≤ 200) × (1 ≤ l) × (l ≤ 8) ⌝ }
+    requires { ⌜ (1 ≤ p) × (p ≤ maxProcessors) × (1 ≤ n) × (n ≤ maxNodes) × (1 ≤ l)
+        × (l ≤ maxLevels) ⌝ }
     requires { ⌜ IsKept (now sheet) (now kept) ⌝ }
     ensures { λ r.
         ⌜ r
@@ -67,10 +66,10 @@ pub(crate) fn run_made(sheet: &[u8], l: SheetLine, area: &mut [u8], kept: &[u32]
         ≡ areaWritten (historyOf (now (sheet .entry)) (madeBy l .queue))
         (now (area .entry)) r ⌝ }
 {
-    let mut store: [u8; LONGEST] = [0; LONGEST];
+    let mut store: [u8; MAX_IMAGE_LENGTH] = [0; MAX_IMAGE_LENGTH];
     let p = l.first as u8;
     let n = l.second as u8;
-    let end = HEADER + PROCESSOR_BYTES * (p as usize) + NODE_BYTES * ((n as usize) + 2);
+    let end = image_length(p, n);
     let image = &mut store[..end];
     run_twice(sheet, image, p, n, l.third as u8, area, kept)
 }

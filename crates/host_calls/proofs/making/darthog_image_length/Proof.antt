@@ -1,7 +1,9 @@
 use mathlib.Core.Path.{sym, _∙_}
 use mathlib.Core.Bool.{or-true}
 use Rattle.record_check.specs.Making.{outside}
-use Rattle.record.specs.Limits.{maxProcessors}
+use native.Mathlib.Omega.{arith}
+use Rattle.record.specs.Limits.{maxProcessors, maxNodes}
+use Rattle.record_check.proofs.Made.{within-range}
 use Rattle.host_calls.proofs.Stored.{no-length, some-length}
 use borrow.Author.Needs.{needs}
 use Rattle.host_calls.proofs.making.darthog_image_length.Statement.{statement}
@@ -32,27 +34,31 @@ returns-2 c =
     (rw (sym (c .before .outside2 .ensures) ∙ c .if2 .taken)
     (or-true (outside (a .processors) maxProcessors)))
 
-mul-result : tie.Need-mul-result
-mul-result c = search needs
+cast-image-length : tie.Need-cast-image-length
+cast-image-length c =
+    let a = c .before .before .before .before .args in
+    let p = within-range (a .processors) maxProcessors
+    (sym (c .before .before .before .outside .ensures) ∙ c .before .before .if1 .left) in
+    omega (arith, p .1)
 
-add-result : tie.Need-add-result
-add-result c = search needs
+cast-image-length-2 : tie.Need-cast-image-length-2
+cast-image-length-2 c =
+    let a = c .before .before .before .before .args in
+    let n = within-range (a .entries) maxNodes
+    (sym (c .before .outside2 .ensures) ∙ c .if2 .left) in
+    omega (arith, n .1)
 
-add-result-2 : tie.Need-add-result-2
-add-result-2 c = search needs
-
-mul-result-2 : tie.Need-mul-result-2
-mul-result-2 c = search needs
-
-add-result-3 : tie.Need-add-result-3
-add-result-3 c = search needs
+image-length-requires : tie.Need-image-length-requires
+image-length-requires c κs = search needs
 
 returns-3 : tie.Need-returns-3
 returns-3 c =
-    let a = c .before .before .before .before .args in
-    some-length (a .processors) (a .entries)
-    (sym (c .before .before .before .outside .ensures) ∙ c .before .before .if1 .left)
-    (sym (c .before .outside2 .ensures) ∙ c .if2 .left)
+    let d = c .before in
+    let a = d .before .before .before .before .args in
+    c .image-length .ensures
+    ∙ some-length (a .processors) (a .entries)
+    (sym (d .before .before .before .outside .ensures) ∙ d .before .before .if1 .left)
+    (sym (d .before .outside2 .ensures) ∙ d .if2 .left)
 
 pub darthog-image-length-spec : {M : Type 1} → statement M
 darthog-image-length-spec =
@@ -64,9 +70,7 @@ darthog-image-length-spec =
     cast-outside-2
     outside-requires-2
     returns-2
-    mul-result
-    add-result
-    add-result-2
-    mul-result-2
-    add-result-3
+    cast-image-length
+    cast-image-length-2
+    image-length-requires
     returns-3)

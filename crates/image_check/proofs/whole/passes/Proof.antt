@@ -37,103 +37,50 @@ returns-2 c =
     (sym (not-true _ (c .if2 .taken))
     ∙ rw (c .before .before .number-from .ensures) at (c .before .sizes-pass .ensures))
 
-cast-if3 : tie.Need-cast-if3
-cast-if3 c =
-    let b = c .before .before .before .before .before .before .before .before .args .image .now in
-    let ok = sym (rw (c .before .before .number-from .ensures) at (c .before .sizes-pass .ensures))
-    ∙ not-false _ (c .if2 .left) in
-    let z = sizes-bounds (sizes (getD b 0 0) (getD b 1 0) (getD b 2 0) (number32 b 3)) ok in
-    omega (arith, z .processors-high, z .entries-high)
-
-mul-if3 : tie.Need-mul-if3
-mul-if3 c =
-    let b = c .before .before .before .before .before .before .before .before .args .image .now in
-    let ok = sym (rw (c .before .before .number-from .ensures) at (c .before .sizes-pass .ensures))
-    ∙ not-false _ (c .if2 .left) in
-    let z = sizes-bounds (sizes (getD b 0 0) (getD b 1 0) (getD b 2 0) (number32 b 3)) ok in
-    omega (arith, z .processors-high, z .entries-high)
-
-add-if3 : tie.Need-add-if3
-add-if3 c =
-    let b = c .before .before .before .before .before .before .before .before .args .image .now in
-    let ok = sym (rw (c .before .before .number-from .ensures) at (c .before .sizes-pass .ensures))
-    ∙ not-false _ (c .if2 .left) in
-    let z = sizes-bounds (sizes (getD b 0 0) (getD b 1 0) (getD b 2 0) (number32 b 3)) ok in
-    omega (arith, z .processors-high, z .entries-high)
-
-cast-if3-2 : tie.Need-cast-if3-2
-cast-if3-2 c =
-    let b = c .before .before .before .before .before .before .before .before .args .image .now in
-    let ok = sym (rw (c .before .before .number-from .ensures) at (c .before .sizes-pass .ensures))
-    ∙ not-false _ (c .if2 .left) in
-    let z = sizes-bounds (sizes (getD b 0 0) (getD b 1 0) (getD b 2 0) (number32 b 3)) ok in
-    omega (arith, z .processors-high, z .entries-high)
-
-add-if3-2 : tie.Need-add-if3-2
-add-if3-2 c =
-    let b = c .before .before .before .before .before .before .before .before .args .image .now in
-    let ok = sym (rw (c .before .before .number-from .ensures) at (c .before .sizes-pass .ensures))
-    ∙ not-false _ (c .if2 .left) in
-    let z = sizes-bounds (sizes (getD b 0 0) (getD b 1 0) (getD b 2 0) (number32 b 3)) ok in
-    omega (arith, z .processors-high, z .entries-high)
-
-mul-if3-2 : tie.Need-mul-if3-2
-mul-if3-2 c =
-    let b = c .before .before .before .before .before .before .before .before .args .image .now in
-    let ok = sym (rw (c .before .before .number-from .ensures) at (c .before .sizes-pass .ensures))
-    ∙ not-false _ (c .if2 .left) in
-    let z = sizes-bounds (sizes (getD b 0 0) (getD b 1 0) (getD b 2 0) (number32 b 3)) ok in
-    omega (arith, z .processors-high, z .entries-high)
-
-add-if3-3 : tie.Need-add-if3-3
-add-if3-3 c =
-    let b = c .before .before .before .before .before .before .before .before .args .image .now in
-    let ok = sym (rw (c .before .before .number-from .ensures) at (c .before .sizes-pass .ensures))
-    ∙ not-false _ (c .if2 .left) in
-    let z = sizes-bounds (sizes (getD b 0 0) (getD b 1 0) (getD b 2 0) (number32 b 3)) ok in
-    omega (arith, z .processors-high, z .entries-high)
+image-length-requires : tie.Need-image-length-requires
+image-length-requires c κs = search needs
 
 returns-3 : tie.Need-returns-3
 returns-3 c =
-    let b = c .before .before .before .before .before .before .before .before .before .args .image .now in
-    misfit b (c .if3 .taken)
+    let b = c .before .before .before .before .before .before .before .before .before .before .args .image .now in
+    misfit b (rw (c .before .image-length .ensures) at (c .if3 .taken))
 
 processors-pass-requires : tie.Need-processors-pass-requires
 processors-pass-requires c κs =
-    let b = c .before .before .before .before .before .before .before .before .before .args .image .now in
-    let ok = sym
-    (rw (c .before .before .before .number-from .ensures)
-    at (c .before .before .sizes-pass .ensures)) ∙ not-false _ (c .before .if2 .left) in
-    let z = sizes-bounds (sizes (getD b 0 0) (getD b 1 0) (getD b 2 0) (number32 b 3)) ok in
-    (c .if3 .left, z .processors-high, z .entries-high, z .levels-low, z .levels-high)
-
-nodes-pass-requires : tie.Need-nodes-pass-requires
-nodes-pass-requires c κs =
     let b = c .before .before .before .before .before .before .before .before .before .before .args .image .now in
     let ok = sym
     (rw (c .before .before .before .before .number-from .ensures)
-    at (c .before .before .before .sizes-pass .ensures))
-    ∙ not-false _ (c .before .before .if2 .left) in
+    at (c .before .before .before .sizes-pass .ensures)) ∙ not-false _ (c .before .before .if2 .left) in
     let z = sizes-bounds (sizes (getD b 0 0) (getD b 1 0) (getD b 2 0) (number32 b 3)) ok in
-    (c .before .if3 .left, z .processors-high, z .entries-high, z .levels-high)
+    (c .if3 .left ∙ c .before .image-length .ensures, z .processors-high, z .entries-high, z .levels-low, z .levels-high)
+
+nodes-pass-requires : tie.Need-nodes-pass-requires
+nodes-pass-requires c κs =
+    let b = c .before .before .before .before .before .before .before .before .before .before .before .args .image .now in
+    let ok = sym
+    (rw (c .before .before .before .before .before .number-from .ensures)
+    at (c .before .before .before .before .sizes-pass .ensures))
+    ∙ not-false _ (c .before .before .before .if2 .left) in
+    let z = sizes-bounds (sizes (getD b 0 0) (getD b 1 0) (getD b 2 0) (number32 b 3)) ok in
+    (c .before .if3 .left ∙ c .before .before .image-length .ensures, z .processors-high, z .entries-high, z .levels-high)
 
 both-requires : tie.Need-both-requires
 both-requires c κs = search needs
 
 returns-4 : tie.Need-returns-4
 returns-4 c =
-    let b = c .before .before .before .before .before .before .before .before .before .before .before .before .args .image .now in
+    let d = c .before .before .before .before in
+    let b = d .before .before .before .before .before .before .before .before .before .args .image .now in
     let ok = sym
-    (rw (c .before .before .before .before .before .before .number-from .ensures)
-    at (c .before .before .before .before .before .sizes-pass .ensures))
-    ∙ not-false _ (c .before .before .before .before .if2 .left) in
+    (rw (d .before .before .before .number-from .ensures) at (d .before .before .sizes-pass .ensures))
+    ∙ not-false _ (d .before .if2 .left) in
     let z = sizes-bounds (sizes (getD b 0 0) (getD b 1 0) (getD b 2 0) (number32 b 3)) ok in
     simp (
       c .both .ensures,
       c .before .nodes-pass .ensures,
       c .before .before .processors-pass .ensures,
     )
-    (all-tests b (sym ok) (c .before .before .before .if3 .left) (z .processors-high)
+    (all-tests b (sym ok) (c .before .before .before .if3 .left ∙ d .image-length .ensures) (z .processors-high)
     (z .entries-high))
 
 pub passes-spec : {M : Type 1} → statement M
@@ -147,13 +94,7 @@ passes-spec =
     number-from-requires
     sizes-pass-requires
     returns-2
-    cast-if3
-    mul-if3
-    add-if3
-    cast-if3-2
-    add-if3-2
-    mul-if3-2
-    add-if3-3
+    image-length-requires
     returns-3
     processors-pass-requires
     nodes-pass-requires

@@ -1,7 +1,8 @@
-use mathlib.Core.Path.{sym}
-use Prim.Native.Nat.{_+_, _*_, _≤_}
+use mathlib.Core.Path.{sym, _∙_}
+use Prim.Native.Nat.{_≤_}
 use lib.Seq.{length-take-le}
 use native.Mathlib.Omega.{arith}
+use Rattle.image.specs.Layout.{maxImageLength}
 use Rattle.record_check.proofs.Made.{made-sizes, made-fresh}
 use borrow.Author.Needs.{needs}
 use Rattle.sheet_run.proofs.runs.run_made.Statement.{statement}
@@ -21,58 +22,42 @@ cast-n c =
     let z = made-sizes (l .first) (l .second) (l .third) (s .pre .0) in
     omega (arith, z .processors-high, z .entries-high, z .levels-high)
 
-cast-end : tie.Need-cast-end
-cast-end c = search needs
-
-mul-end : tie.Need-mul-end
-mul-end c = search needs
-
-add-end : tie.Need-add-end
-add-end c = search needs
-
-cast-end-2 : tie.Need-cast-end-2
-cast-end-2 c = search needs
-
-add-end-2 : tie.Need-add-end-2
-add-end-2 c = search needs
-
-mul-end-2 : tie.Need-mul-end-2
-mul-end-2 c = search needs
-
-add-end-3 : tie.Need-add-end-3
-add-end-3 c = search needs
+image-length-requires : tie.Need-image-length-requires
+image-length-requires c κs = search needs
 
 array-borrow-prefix-store : tie.Need-array-borrow-prefix-store
 array-borrow-prefix-store c =
-    let s = (c .before .before .before .before .before) in
-    let l = s .args .l in
-    let z = made-sizes (l .first) (l .second) (l .third) (s .pre .0) in
-    omega (arith, z .processors-high, z .entries-high, z .levels-high)
-
-slice-aggregate-image : tie.Need-slice-aggregate-image
-slice-aggregate-image c =
     let s = (c .before .before .before .before .before .before) in
     let l = s .args .l in
     let z = made-sizes (l .first) (l .second) (l .third) (s .pre .0) in
-    let h = z .processors-high in
-    let k = z .entries-high in
-    let fits : 7 + 17 * l .first + 41 * (l .second + 2) ≤ 8561 = omega (arith, h, k) in
+    omega (arith, c .image-length .ensures, z .processors-high, z .entries-high)
+
+slice-aggregate-image : tie.Need-slice-aggregate-image
+slice-aggregate-image c =
+    let s = (c .before .before .before .before .before .before .before) in
+    let l = s .args .l in
+    let z = made-sizes (l .first) (l .second) (l .third) (s .pre .0) in
+    let long = c .before .image-length .ensures in
+    let fits : c .before .image-length .result ≤ maxImageLength =
+    omega (arith, long, z .processors-high, z .entries-high) in
     sym (length-take-le _ _ fits)
 
 cast-run-twice : tie.Need-cast-run-twice
 cast-run-twice c =
-    let s = (c .before .before .before .before .before .before .before) in
+    let s = (c .before .before .before .before .before .before .before .before) in
     let l = s .args .l in
     let z = made-sizes (l .first) (l .second) (l .third) (s .pre .0) in
     omega (arith, z .processors-high, z .entries-high, z .levels-high)
 
 run-twice-requires : tie.Need-run-twice-requires
 run-twice-requires c κs =
-    let s = (c .before .before .before .before .before .before .before .before) in
+    let s = (c .before .before .before .before .before .before .before .before .before) in
     let l = s .args .l in
     let z = made-sizes (l .first) (l .second) (l .third) (s .pre .0) in
-    let fits : 7 + 17 * l .first + 41 * (l .second + 2) ≤ 8561 = omega (arith, z .processors-high, z .entries-high) in (
-      length-take-le _ _ fits,
+    let long = c .before .before .before .image-length .ensures in
+    let fits : c .before .before .before .image-length .result ≤ maxImageLength =
+    omega (arith, long, z .processors-high, z .entries-high) in (
+      length-take-le _ _ fits ∙ long,
       ((z .processors-low, z .processors-high, z .entries-low, z .entries-high, z .levels-low, z .levels-high), s .pre .1),
     )
 
@@ -81,7 +66,7 @@ same-length c = search needs
 
 returns : tie.Need-returns
 returns c =
-    let s = (c .before .before .before .before .before .before .before .before .before .before .before .before) in
+    let s = (c .before .before .before .before .before .before .before .before .before .before .before .before .before) in
     let l = s .args .l in
     let e = made-fresh (l .first) (l .second) (l .third) (s .pre .0) in
     let twice = c .before .before .before .run-twice .ensures in
@@ -93,13 +78,7 @@ run-made-spec =
     (tie.spec
     cast-p
     cast-n
-    cast-end
-    mul-end
-    add-end
-    cast-end-2
-    add-end-2
-    mul-end-2
-    add-end-3
+    image-length-requires
     array-borrow-prefix-store
     slice-aggregate-image
     cast-run-twice
