@@ -23,7 +23,7 @@ use Rattle.record.specs.declared.stages.Delete.{Delete}
 use Rattle.record.specs.declared.stages.Delete.the-variants as del
 use Rattle.record.specs.declared.stages.Stage.{Stage}
 use Rattle.record.specs.declared.stages.Stage.the-variants as stage
-use Rattle.record.specs.Stages.{Row, rowOf}
+use Rattle.record.specs.Stages.{place, Row, rowOf, insertRow, deleteRow, removalRow}
 
 -- a tag and a time
 pub record Timed : Type 0 where
@@ -87,6 +87,19 @@ codeOf r =
 
 abbrev pub stageCode : Stage → Code
 stageCode g = codeOf (rowOf g)
+
+-- the tags by the stages' names, whatever their places are
+abbrev pub anywhere : Place
+anywhere = place 0 1
+
+abbrev pub insertTag : Insert → ℕ
+insertTag i = insertRow i .tag
+
+abbrev pub deleteTag : Delete → ℕ
+deleteTag d = deleteRow d .tag
+
+abbrev pub removalTag : Removal → ℕ
+removalTag r = removalRow r .tag
 
 -- back: by the tag, the place and the node that G3 read
 abbrev pub seekOf : ℕ → Place → ℕ → Seek

@@ -16,9 +16,6 @@ pub const MAX_IMAGE_LENGTH: usize = HEADER
     + PROCESSOR_BYTES * (MAX_PROCESSORS as usize)
     + NODE_BYTES * ((MAX_NODES as usize) + 2);
 
-// How many tags the stages have.
-pub const TAG_COUNT: usize = 27;
-
 // How many bytes the image of a queue for p processors and n nodes has.
 pub fn image_length(p: u8, n: u8) -> usize
     ensures { λ r. ⌜ r ≡ imageLength p n ⌝ }

@@ -7,6 +7,7 @@ ghost use Rattle.image.specs.Numbers.{number32};
 ghost use Rattle.image.specs.Puts.{puts, four, clears, rests};
 ghost use Rattle.image.specs.Layout.{headerBytes, maxImageLength, processorBytes};
 ghost use Rattle.record.specs.Limits.{maxLevels, maxNumber};
+use crate::header;
 
 pub fn number_from(b: &[u8], at: usize) -> u32
     requires { ⌜ at + 4 ≤ length (now b) ⌝ }
@@ -23,7 +24,7 @@ pub fn tick(b: &mut [u8])
     ensures { λ _.
         ⌜ now (b .exit) ≡ puts (now (b .entry)) 0 (four 3 (number32 (now (b .entry)) 3 + 1)) ⌝ }
 {
-    let t = number_from(b, 3) + 1;
+    let t = number_from(b, header::CLOCK) + 1;
     b[3] = (t % 256) as u8;
     b[4] = (t / 256 % 256) as u8;
     b[5] = (t / 65536 % 256) as u8;

@@ -6,11 +6,13 @@ ghost use Rattle.rules.specs.declared.calls.Call.the-variants as call;
 use crate::choice::choose;
 use crate::stores::begin;
 use crate::stores::fill;
+use image::header;
 use image::layout::HEADER;
 use image::layout::NODE_BYTES;
 use image::layout::PROCESSOR_BYTES;
 use image::numbers::number_from;
 use image::numbers::tick;
+use image::tag;
 use image_parts::refused::refusal_at;
 use rules::Answer;
 use rules::Call;
@@ -25,14 +27,14 @@ pub fn begin_delete_min_at(image: &mut [u8], processor: u32) -> Answer
     if 0 < refusal {
         return Answer::Refused(refusal);
     }
-    let t = number_from(image, 3) + 1;
+    let t = number_from(image, header::CLOCK) + 1;
     tick(image);
     begin(
         image,
         HEADER + PROCESSOR_BYTES * (processor as usize),
         t,
         0,
-        11,
+        tag::READ_NEXT,
         1,
     );
     Answer::Began(t)
@@ -49,15 +51,15 @@ pub fn begin_insert_at(image: &mut [u8], processor: u32, due: u32, item: u32, he
     if 0 < refusal {
         return Answer::Refused(refusal);
     }
-    let base = HEADER + PROCESSOR_BYTES * (image[0] as usize);
+    let base = HEADER + PROCESSOR_BYTES * (image[header::PROCESSOR_COUNT] as usize);
     let x = choose(image, base);
     if x == 0 {
         return Answer::Refused(37);
     }
-    let l = image[2];
-    let tail = image[1] + 1;
+    let l = image[header::LEVEL_COUNT];
+    let tail = image[header::NODE_COUNT] + 1;
     let h = (processor as u8) + 1;
-    let t = number_from(image, 3) + 1;
+    let t = number_from(image, header::CLOCK) + 1;
     tick(image);
     fill(
         image,
@@ -75,7 +77,7 @@ pub fn begin_insert_at(image: &mut [u8], processor: u32, due: u32, item: u32, he
         HEADER + PROCESSOR_BYTES * (processor as usize),
         t,
         x,
-        1,
+        tag::INSERT_SEARCH,
         l,
     );
     Answer::Began(t)

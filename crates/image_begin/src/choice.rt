@@ -8,10 +8,14 @@ ghost use Rattle.image.specs.Image.{queueIn, Sound, startOf};
 ghost use Rattle.image_begin.specs.Stores.{Based, endOf};
 ghost use Rattle.image.specs.Layout.{processorBytes, processorStart};
 ghost use Rattle.record.specs.Limits.{maxProcessors};
+use image::header;
 use image::layout::HEADER;
 use image::layout::NODE_BYTES;
 use image::layout::PROCESSOR_BYTES;
+use image::node;
 use image::numbers::number_from;
+use image::processor;
+use image::tag;
 use record::levels::both;
 use record::limits::MAX_NUMBER;
 
@@ -33,10 +37,10 @@ fn began_after(b: &[u8], p: usize, t: u32) -> bool
         (processorAt (queueIn (now (b .entry))) p .begin) ⌝ }
 {
     let at = HEADER + PROCESSOR_BYTES * p;
-    if b[at + 5] == 0 {
+    if b[at + processor::TAG] == tag::IDLE {
         return true;
     }
-    t < number_from(b, at + 0)
+    t < number_from(b, at + processor::BEGIN)
 }
 
 // No busy processor began at t or before.
@@ -44,7 +48,7 @@ fn all_after(b: &[u8], t: u32) -> bool
     requires { ⌜ (startOf (now b) ≤ length (now b)) × (getD (now b) 0 0 ≤ maxProcessors) ⌝ }
     ensures { λ r. ⌜ r ≡ allBeganAfter (queueIn (now (b .entry))) t ⌝ }
 {
-    let end = b[0] as usize;
+    let end = b[header::PROCESSOR_COUNT] as usize;
     let mut ok = true;
     let mut p: usize = 0;
     while p < end {
@@ -60,13 +64,13 @@ pub fn choose(b: &[u8], base: usize) -> u8
     requires { ⌜ Based (now b) base × Sound (now b) ⌝ }
     ensures { λ r. ⌜ r ≡ chosen (queueIn (now (b .entry))) ⌝ }
 {
-    let end = b[1];
+    let end = b[header::NODE_COUNT];
     let mut best: u8 = 0;
     let mut least: u32 = LATE;
     let mut i: u8 = 0;
     while i < end {
         i = i + 1;
-        let used = number_from(b, base + NODE_BYTES * (i as usize) + 36);
+        let used = number_from(b, base + NODE_BYTES * (i as usize) + node::USE);
         if used == 0 {
             return i;
         }

@@ -7,9 +7,11 @@ ghost use Rattle.laws.specs.HowMany.{howMany};
 ghost use Rattle.record_check.specs.Backlog.{pendingAt};
 ghost use Rattle.image.specs.Image.{queueIn, Sound};
 ghost use Rattle.image_check.specs.Pending.{pendingBytes};
+use image::header;
 use image::layout::HEADER;
 use image::layout::NODE_BYTES;
 use image::layout::PROCESSOR_BYTES;
+use image::node;
 use record::levels::both;
 
 // 1 for a node that is counted, and 0 for any other.
@@ -29,14 +31,19 @@ pub fn pending(image: &[u8]) -> u8
     ensures { λ r.
         ⌜ r ≡ howMany (pendingAt (queueIn (now (image .entry)))) (getD (now (image .entry)) 1 0) ⌝ }
 {
-    let base = HEADER + PROCESSOR_BYTES * (image[0] as usize);
-    let end = image[1] as usize;
+    let base = HEADER + PROCESSOR_BYTES * (image[header::PROCESSOR_COUNT] as usize);
+    let end = image[header::NODE_COUNT] as usize;
     let mut count: u8 = 0;
     let mut i: usize = 0;
     while i < end {
         i = i + 1;
         let o = base + NODE_BYTES * i;
-        count = count + counted(image[o + 36], image[o + 18], image[o + 17]);
+        count = count
+            + counted(
+                image[o + node::USE],
+                image[o + node::STAMP],
+                image[o + node::MARK],
+            );
     }
     count
 }

@@ -12,9 +12,11 @@ use crate::levels::is_within;
 use crate::levels::levels_low;
 use crate::levels::stamp_passes;
 use crate::levels::use_passes;
+use image::header;
 use image::layout::HEADER;
 use image::layout::NODE_BYTES;
 use image::layout::PROCESSOR_BYTES;
+use image::node;
 use image::numbers::number_from;
 use record::levels::both;
 use record::limits::MAX_NUMBER;
@@ -25,8 +27,11 @@ fn links_pass(b: &[u8], o: usize, p: u8, n: u8, l: usize) -> bool
         × (n ≤ maxNodes) × (l ≤ maxLevels) ⌝ }
     ensures { λ r. ⌜ r ≡ linksTest (now (b .entry)) o p n l ⌝ }
 {
-    let levels = both(levels_low(b, o, 0, l, n + 1), levels_low(b, o, 8, l, p));
-    both(levels, b[o + 16] <= p)
+    let levels = both(
+        levels_low(b, o, node::FORWARD, l, n + 1),
+        levels_low(b, o, node::LEVEL_LOCKS, l, p),
+    );
+    both(levels, b[o + node::NODE_LOCK] <= p)
 }
 
 // The due minute, the item, the ticket and the height of the node at o.
@@ -35,11 +40,11 @@ fn entry_passes(b: &[u8], o: usize, l: usize, clock: u32) -> bool
     ensures { λ r. ⌜ r ≡ entryTest (now (b .entry)) o l clock ⌝ }
 {
     let low = both(
-        number_from(b, o + 23) <= MAX_NUMBER,
-        number_from(b, o + 31) <= MAX_NUMBER,
+        number_from(b, o + node::DUE) <= MAX_NUMBER,
+        number_from(b, o + node::ITEM) <= MAX_NUMBER,
     );
-    let old = both(low, number_from(b, o + 27) <= clock);
-    both(old, is_within(b[o + 35] as usize, l))
+    let old = both(low, number_from(b, o + node::TICKET) <= clock);
+    both(old, is_within(b[o + node::HEIGHT] as usize, l))
 }
 
 // Node x: its bytes are ones that are written, and it passes check 21. Bytes mostly pass: each test
@@ -50,10 +55,10 @@ pub(crate) fn node_passes(b: &[u8], x: usize) -> bool
         × (getD (now b) 2 0 ≤ maxLevels) ⌝ }
     ensures { λ r. ⌜ r ≡ nodeOk (now (b .entry)) x ⌝ }
 {
-    let p = b[0];
-    let n = b[1];
-    let l = b[2] as usize;
-    let clock = number_from(b, 3);
+    let p = b[header::PROCESSOR_COUNT];
+    let n = b[header::NODE_COUNT];
+    let l = b[header::LEVEL_COUNT] as usize;
+    let clock = number_from(b, header::CLOCK);
     let o = HEADER + PROCESSOR_BYTES * (p as usize) + NODE_BYTES * x;
     if !links_pass(b, o, p, n, l) {
         return false;
@@ -61,14 +66,19 @@ pub(crate) fn node_passes(b: &[u8], x: usize) -> bool
     if !entry_passes(b, o, l, clock) {
         return false;
     }
-    if 1 < b[o + 17] {
+    if node::MARKED < b[o + node::MARK] {
         return false;
     }
     let entry = is_within(x, n as usize);
-    if !stamp_passes(b[o + 18], number_from(b, o + 19), entry, clock) {
+    if !stamp_passes(
+        b[o + node::STAMP],
+        number_from(b, o + node::STAMP_TIME),
+        entry,
+        clock,
+    ) {
         return false;
     }
-    use_passes(b[o + 36], number_from(b, o + 37), clock)
+    use_passes(b[o + node::USE], number_from(b, o + node::USE_TIME), clock)
 }
 
 pub(crate) fn nodes_pass(b: &[u8]) -> bool
@@ -76,7 +86,7 @@ pub(crate) fn nodes_pass(b: &[u8]) -> bool
         × (getD (now b) 1 0 ≤ maxNodes) × (getD (now b) 2 0 ≤ maxLevels) ⌝ }
     ensures { λ r. ⌜ r ≡ everyBelow (nodeOk (now (b .entry))) (getD (now (b .entry)) 1 0 + 2) ⌝ }
 {
-    let end = (b[1] as usize) + 2;
+    let end = (b[header::NODE_COUNT] as usize) + 2;
     let mut x: usize = 0;
     while x < end {
         if !node_passes(b, x) {

@@ -8,10 +8,12 @@ ghost use Rattle.image_check.specs.Tests.{processorOk};
 ghost use Rattle.record.specs.Limits.{maxLevels, maxNodes, maxProcessors};
 use crate::levels::levels_low;
 use crate::tags::stage_passes;
+use image::header;
 use image::layout::HEADER;
 use image::layout::PROCESSOR_BYTES;
-use image::layout::TAG_COUNT;
 use image::numbers::number_from;
+use image::processor;
+use image::tag;
 
 // Processor p: its bytes are ones that are written, and it passes check 21.
 pub(crate) fn processor_passes(b: &[u8], p: usize) -> bool
@@ -20,20 +22,28 @@ pub(crate) fn processor_passes(b: &[u8], p: usize) -> bool
         × (1 ≤ getD (now b) 2 0) × (getD (now b) 2 0 ≤ maxLevels) ⌝ }
     ensures { λ r. ⌜ r ≡ processorOk (now (b .entry)) p ⌝ }
 {
-    let n = b[1];
-    let l = b[2];
+    let n = b[header::NODE_COUNT];
+    let l = b[header::LEVEL_COUNT];
     let at = HEADER + PROCESSOR_BYTES * p;
-    if number_from(b, 3) < number_from(b, at + 0) {
+    if number_from(b, header::CLOCK) < number_from(b, at + processor::BEGIN) {
         return false;
     }
-    if !levels_low(b, at, 9, l as usize, n + 1) {
+    if !levels_low(b, at, processor::SAVED, l as usize, n + 1) {
         return false;
     }
-    let tag = b[at + 5] as usize;
-    if TAG_COUNT <= tag {
+    let tag = b[at + processor::TAG] as usize;
+    if tag::COUNT <= tag {
         return false;
     }
-    stage_passes(tag, b[at + 6], b[at + 7], b[at + 8], b[at + 4], n, l)
+    stage_passes(
+        tag,
+        b[at + processor::PLACE],
+        b[at + processor::LEVEL],
+        b[at + processor::AHEAD],
+        b[at + processor::OWN],
+        n,
+        l,
+    )
 }
 
 pub(crate) fn processors_pass(b: &[u8]) -> bool
@@ -42,7 +52,7 @@ pub(crate) fn processors_pass(b: &[u8]) -> bool
         × (getD (now b) 2 0 ≤ maxLevels) ⌝ }
     ensures { λ r. ⌜ r ≡ everyBelow (processorOk (now (b .entry))) (getD (now (b .entry)) 0 0) ⌝ }
 {
-    let end = b[0] as usize;
+    let end = b[header::PROCESSOR_COUNT] as usize;
     let mut p: usize = 0;
     while p < end {
         if !processor_passes(b, p) {

@@ -6,6 +6,7 @@ ghost use Rattle.image_check.specs.Tests.{sizes};
 use crate::levels::is_within;
 use crate::nodes::nodes_pass;
 use crate::processors::processors_pass;
+use image::header;
 use image::layout::HEADER;
 use image::layout::NODE_BYTES;
 use image::layout::image_length;
@@ -40,10 +41,10 @@ pub fn passes(image: &[u8]) -> bool
     if length < SHORTEST {
         return false;
     }
-    let p = image[0];
-    let n = image[1];
-    let l = image[2];
-    if !sizes_pass(p, n, l, number_from(image, 3)) {
+    let p = image[header::PROCESSOR_COUNT];
+    let n = image[header::NODE_COUNT];
+    let l = image[header::LEVEL_COUNT];
+    if !sizes_pass(p, n, l, number_from(image, header::CLOCK)) {
         return false;
     }
     if length != image_length(p, n) {

@@ -1,36 +1,42 @@
 // The removal of a marked node, in place, but for its Search and its Lock-seek.
 ghost use mathlib.Core.Path.{_≡_};
+ghost use Rattle.record.specs.declared.stages.Removal.the-variants as rem;
+ghost use Rattle.image.specs.Tags.{anywhere, removalTag};
 ghost use Rattle.image_parts.specs.Given.{Stepped};
 ghost use Rattle.image_parts.specs.Ready.{Placed, Owned};
+use image::header;
 use image::layout::HEADER;
 use image::layout::NODE_BYTES;
 use image::layout::PROCESSOR_BYTES;
+use image::node;
 use image::numbers::clear;
 use image::numbers::number_from;
 use image::numbers::put_number;
 use image::numbers::tick;
+use image::processor;
+use image::tag;
 use rules::Answer;
 use rules::Deed;
 use rules::Entry;
 
 // L1.
 pub fn hold_node(image: &mut [u8], base: usize, p: usize) -> Answer
-    requires { ⌜ Owned (now image) base p 15 ⌝ }
+    requires { ⌜ Owned (now image) base p (removalTag rem.HoldNode) ⌝ }
     ensures { λ r. ⌜ Stepped (now (image .entry)) p (now (image .exit)) r ⌝ }
 {
     let at = HEADER + PROCESSOR_BYTES * p;
-    let own = image[at + 4];
+    let own = image[at + processor::OWN];
     let here = base + NODE_BYTES * (own as usize);
     let h = (p as u8) + 1;
-    let height = image[here + 35];
-    let top = image[at + (9 + ((height as usize) - 1))];
-    let holder = image[here + 16];
+    let height = image[here + node::HEIGHT];
+    let top = image[at + (processor::SAVED + ((height as usize) - 1))];
+    let holder = image[here + node::NODE_LOCK];
     tick(image);
     if holder == 0 {
-        image[here + 16] = h;
-        image[at + 5] = 16;
-        image[at + 6] = top;
-        image[at + 7] = height;
+        image[here + node::NODE_LOCK] = h;
+        image[at + processor::TAG] = tag::REMOVAL_SEEK;
+        image[at + processor::PLACE] = top;
+        image[at + processor::LEVEL] = height;
         return Answer::Moved;
     }
     Answer::Waits
@@ -38,19 +44,19 @@ pub fn hold_node(image: &mut [u8], base: usize, p: usize) -> Answer
 
 // L2.
 pub fn hold_own(image: &mut [u8], base: usize, p: usize) -> Answer
-    requires { ⌜ Placed (now image) base p 20 ⌝ }
+    requires { ⌜ Placed (now image) base p (removalTag (rem.HoldOwn anywhere)) ⌝ }
     ensures { λ r. ⌜ Stepped (now (image .entry)) p (now (image .exit)) r ⌝ }
 {
     let at = HEADER + PROCESSOR_BYTES * p;
-    let own = image[at + 4];
-    let i = image[at + 7];
+    let own = image[at + processor::OWN];
+    let i = image[at + processor::LEVEL];
     let k = (i as usize) - 1;
     let h = (p as u8) + 1;
-    let own_lock = image[base + NODE_BYTES * (own as usize) + (8 + k)];
+    let own_lock = image[base + NODE_BYTES * (own as usize) + (node::LEVEL_LOCKS + k)];
     tick(image);
     if own_lock == 0 {
-        image[base + NODE_BYTES * (own as usize) + (8 + k)] = h;
-        image[at + 5] = 21;
+        image[base + NODE_BYTES * (own as usize) + (node::LEVEL_LOCKS + k)] = h;
+        image[at + processor::TAG] = tag::UNLINK;
         return Answer::Moved;
     }
     Answer::Waits
@@ -58,107 +64,107 @@ pub fn hold_own(image: &mut [u8], base: usize, p: usize) -> Answer
 
 // L3.
 pub fn unlink(image: &mut [u8], base: usize, p: usize) -> Answer
-    requires { ⌜ Placed (now image) base p 21 ⌝ }
+    requires { ⌜ Placed (now image) base p (removalTag (rem.Unlink anywhere)) ⌝ }
     ensures { λ r. ⌜ Stepped (now (image .entry)) p (now (image .exit)) r ⌝ }
 {
     let at = HEADER + PROCESSOR_BYTES * p;
-    let own = image[at + 4];
-    let a = image[at + 6];
-    let i = image[at + 7];
+    let own = image[at + processor::OWN];
+    let a = image[at + processor::PLACE];
+    let i = image[at + processor::LEVEL];
     let k = (i as usize) - 1;
     let y = image[base + NODE_BYTES * (own as usize) + k];
     tick(image);
     image[base + NODE_BYTES * (a as usize) + k] = y;
-    image[at + 5] = 22;
+    image[at + processor::TAG] = tag::LEAD_BACK;
     Answer::Moved
 }
 
 // L4.
 pub fn back(image: &mut [u8], base: usize, p: usize) -> Answer
-    requires { ⌜ Placed (now image) base p 22 ⌝ }
+    requires { ⌜ Placed (now image) base p (removalTag (rem.LeadBack anywhere)) ⌝ }
     ensures { λ r. ⌜ Stepped (now (image .entry)) p (now (image .exit)) r ⌝ }
 {
     let at = HEADER + PROCESSOR_BYTES * p;
-    let own = image[at + 4];
-    let a = image[at + 6];
-    let i = image[at + 7];
+    let own = image[at + processor::OWN];
+    let a = image[at + processor::PLACE];
+    let i = image[at + processor::LEVEL];
     let k = (i as usize) - 1;
     tick(image);
     image[base + NODE_BYTES * (own as usize) + k] = a;
-    image[at + 5] = 23;
+    image[at + processor::TAG] = tag::FREE_OWN;
     Answer::Moved
 }
 
 // L5.
 pub fn free_own(image: &mut [u8], base: usize, p: usize) -> Answer
-    requires { ⌜ Placed (now image) base p 23 ⌝ }
+    requires { ⌜ Placed (now image) base p (removalTag (rem.FreeOwn anywhere)) ⌝ }
     ensures { λ r. ⌜ Stepped (now (image .entry)) p (now (image .exit)) r ⌝ }
 {
     let at = HEADER + PROCESSOR_BYTES * p;
-    let own = image[at + 4];
-    let i = image[at + 7];
+    let own = image[at + processor::OWN];
+    let i = image[at + processor::LEVEL];
     let k = (i as usize) - 1;
     tick(image);
-    image[base + NODE_BYTES * (own as usize) + (8 + k)] = 0;
-    image[at + 5] = 24;
+    image[base + NODE_BYTES * (own as usize) + (node::LEVEL_LOCKS + k)] = 0;
+    image[at + processor::TAG] = tag::REMOVAL_FREE_LEVEL;
     Answer::Moved
 }
 
 // L6.
 pub fn free_level(image: &mut [u8], base: usize, p: usize) -> Answer
-    requires { ⌜ Placed (now image) base p 24 ⌝ }
+    requires { ⌜ Placed (now image) base p (removalTag (rem.FreeLevel anywhere)) ⌝ }
     ensures { λ r. ⌜ Stepped (now (image .entry)) p (now (image .exit)) r ⌝ }
 {
     let at = HEADER + PROCESSOR_BYTES * p;
-    let a = image[at + 6];
-    let i = image[at + 7];
+    let a = image[at + processor::PLACE];
+    let i = image[at + processor::LEVEL];
     let k = (i as usize) - 1;
     if i <= 1 {
         tick(image);
-        image[base + NODE_BYTES * (a as usize) + (8 + k)] = 0;
-        image[at + 5] = 25;
-        image[at + 6] = 0;
-        image[at + 7] = 0;
+        image[base + NODE_BYTES * (a as usize) + (node::LEVEL_LOCKS + k)] = 0;
+        image[at + processor::TAG] = tag::REMOVAL_FREE_NODE;
+        image[at + processor::PLACE] = 0;
+        image[at + processor::LEVEL] = 0;
         return Answer::Moved;
     }
-    let down = image[at + (9 + (k - 1))];
+    let down = image[at + (processor::SAVED + (k - 1))];
     tick(image);
-    image[base + NODE_BYTES * (a as usize) + (8 + k)] = 0;
-    image[at + 5] = 16;
-    image[at + 6] = down;
-    image[at + 7] = i - 1;
+    image[base + NODE_BYTES * (a as usize) + (node::LEVEL_LOCKS + k)] = 0;
+    image[at + processor::TAG] = tag::REMOVAL_SEEK;
+    image[at + processor::PLACE] = down;
+    image[at + processor::LEVEL] = i - 1;
     Answer::Moved
 }
 
 // L7.
 pub fn free_node(image: &mut [u8], base: usize, p: usize) -> Answer
-    requires { ⌜ Owned (now image) base p 25 ⌝ }
+    requires { ⌜ Owned (now image) base p (removalTag rem.FreeNode) ⌝ }
     ensures { λ r. ⌜ Stepped (now (image .entry)) p (now (image .exit)) r ⌝ }
 {
     let at = HEADER + PROCESSOR_BYTES * p;
-    let own = image[at + 4];
+    let own = image[at + processor::OWN];
     tick(image);
-    image[base + NODE_BYTES * (own as usize) + 16] = 0;
-    image[at + 5] = 26;
+    image[base + NODE_BYTES * (own as usize) + node::NODE_LOCK] = 0;
+    image[at + processor::TAG] = tag::RETIRE;
     Answer::Moved
 }
 
 // L8.
 pub fn retire(image: &mut [u8], base: usize, p: usize) -> Answer
-    requires { ⌜ Owned (now image) base p 26 ⌝ }
+    requires { ⌜ Owned (now image) base p (removalTag rem.Retire) ⌝ }
     ensures { λ r. ⌜ Stepped (now (image .entry)) p (now (image .exit)) r ⌝ }
 {
     let at = HEADER + PROCESSOR_BYTES * p;
-    let own = image[at + 4];
-    let l = image[2] as usize;
+    let own = image[at + processor::OWN];
+    let l = image[header::LEVEL_COUNT] as usize;
     let here = base + NODE_BYTES * (own as usize);
-    let due = number_from(image, here + 23);
-    let ticket = number_from(image, here + 27);
-    let item = number_from(image, here + 31);
-    let t = number_from(image, 3) + 1;
+    let due = number_from(image, here + node::DUE);
+    let ticket = number_from(image, here + node::TICKET);
+    let item = number_from(image, here + node::ITEM);
+    let t = number_from(image, header::CLOCK) + 1;
     tick(image);
-    image[here + 36] = 2;
-    put_number(image, here, 37, t);
+    image[here + node::USE] = node::RETIRED;
+    put_number(image, here, node::USE_TIME, t);
     clear(image, at, l);
     Answer::Did(
         Deed::HandedOut,

@@ -1,86 +1,92 @@
 // The walk of a Delete_Min, in place: each stage reads what it reads, and stores what it changes.
 ghost use mathlib.Core.Path.{_≡_};
+ghost use Rattle.record.specs.declared.stages.Delete.the-variants as del;
+ghost use Rattle.image.specs.Tags.{anywhere, deleteTag};
 ghost use Rattle.image_parts.specs.Given.{Stepped};
 ghost use Rattle.image_parts.specs.Ready.{Walked};
+use image::header;
 use image::layout::HEADER;
 use image::layout::NODE_BYTES;
 use image::layout::PROCESSOR_BYTES;
+use image::node;
 use image::numbers::clear;
 use image::numbers::number_from;
 use image::numbers::tick;
+use image::processor;
+use image::tag;
 use rules::Answer;
 use rules::Deed;
 use rules::Entry;
 
 // W1.
 pub fn next(image: &mut [u8], base: usize, p: usize) -> Answer
-    requires { ⌜ Walked (now image) base p 11 ⌝ }
+    requires { ⌜ Walked (now image) base p (deleteTag (del.ReadNext anywhere)) ⌝ }
     ensures { λ r. ⌜ Stepped (now (image .entry)) p (now (image .exit)) r ⌝ }
 {
     let at = HEADER + PROCESSOR_BYTES * p;
-    let a = image[at + 6];
-    let n = image[1];
-    let l = image[2] as usize;
-    let x = image[base + NODE_BYTES * (a as usize) + 0];
+    let a = image[at + processor::PLACE];
+    let n = image[header::NODE_COUNT];
+    let l = image[header::LEVEL_COUNT] as usize;
+    let x = image[base + NODE_BYTES * (a as usize) + node::FORWARD];
     tick(image);
     if x == n + 1 {
         clear(image, at, l);
         return Answer::Empty;
     }
-    image[at + 5] = 12;
-    image[at + 6] = x;
-    image[at + 7] = 1;
+    image[at + processor::TAG] = tag::TEST_STAMP;
+    image[at + processor::PLACE] = x;
+    image[at + processor::LEVEL] = 1;
     Answer::Moved
 }
 
 // W2.
 pub fn stamped(image: &mut [u8], base: usize, p: usize) -> Answer
-    requires { ⌜ Walked (now image) base p 12 ⌝ }
+    requires { ⌜ Walked (now image) base p (deleteTag (del.TestStamp anywhere)) ⌝ }
     ensures { λ r. ⌜ Stepped (now (image .entry)) p (now (image .exit)) r ⌝ }
 {
     let at = HEADER + PROCESSOR_BYTES * p;
-    let a = image[at + 6];
+    let a = image[at + processor::PLACE];
     let here = base + NODE_BYTES * (a as usize);
-    let begin = number_from(image, at + 0);
-    let t = image[here + 18];
-    let u = number_from(image, here + 19);
+    let begin = number_from(image, at + processor::BEGIN);
+    let t = image[here + node::STAMP];
+    let u = number_from(image, here + node::STAMP_TIME);
     tick(image);
     if t != 1 {
-        image[at + 5] = 11;
+        image[at + processor::TAG] = tag::READ_NEXT;
         return Answer::Moved;
     }
     if begin <= u {
-        image[at + 5] = 11;
+        image[at + processor::TAG] = tag::READ_NEXT;
         return Answer::Moved;
     }
-    image[at + 5] = 13;
+    image[at + processor::TAG] = tag::SET_MARK;
     Answer::Moved
 }
 
 // W3.
 pub fn mark(image: &mut [u8], base: usize, p: usize) -> Answer
-    requires { ⌜ Walked (now image) base p 13 ⌝ }
+    requires { ⌜ Walked (now image) base p (deleteTag (del.SetMark anywhere)) ⌝ }
     ensures { λ r. ⌜ Stepped (now (image .entry)) p (now (image .exit)) r ⌝ }
 {
     let at = HEADER + PROCESSOR_BYTES * p;
-    let a = image[at + 6];
-    let l = image[2];
+    let a = image[at + processor::PLACE];
+    let l = image[header::LEVEL_COUNT];
     let here = base + NODE_BYTES * (a as usize);
-    let m = image[here + 17];
+    let m = image[here + node::MARK];
     if m == 1 {
         tick(image);
-        image[at + 5] = 11;
+        image[at + processor::TAG] = tag::READ_NEXT;
         return Answer::Moved;
     }
-    let due = number_from(image, here + 23);
-    let ticket = number_from(image, here + 27);
-    let item = number_from(image, here + 31);
+    let due = number_from(image, here + node::DUE);
+    let ticket = number_from(image, here + node::TICKET);
+    let item = number_from(image, here + node::ITEM);
     tick(image);
-    image[here + 17] = 1;
-    image[at + 4] = a;
-    image[at + 5] = 14;
-    image[at + 6] = 0;
-    image[at + 7] = l;
+    image[here + node::MARK] = node::MARKED;
+    image[at + processor::OWN] = a;
+    image[at + processor::TAG] = tag::REMOVAL_SEARCH;
+    image[at + processor::PLACE] = 0;
+    image[at + processor::LEVEL] = l;
     Answer::Did(
         Deed::Marked,
         Entry {

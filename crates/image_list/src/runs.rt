@@ -8,6 +8,7 @@ ghost use Rattle.image_parts.specs.Given.{Called};
 ghost use Rattle.image_list.specs.Plain.{callFrom, put as putOf};
 ghost use Rattle.image_list.specs.Plain.{smaller as smallerOf};
 ghost use Rattle.image_list.specs.Plain.{recordTo, writtenTo, turns};
+use image::header;
 use image::numbers::number_from;
 use image_begin::begin_delete_min_at;
 use image_begin::begin_insert_at;
@@ -70,7 +71,7 @@ pub fn run_calls(image: &mut [u8], calls: &[u32], answers: &mut [u32])
     while i < end {
         let from = i * 5;
         let r = turn(image, calls, from);
-        put(answers, from, plain(r), number_from(image, 3));
+        put(answers, from, plain(r), number_from(image, header::CLOCK));
         i = i + 1;
     }
 }

@@ -11,9 +11,11 @@ ghost use Rattle.image.specs.Lists.{storedAt};
 ghost use Rattle.image.specs.Pieces.{nodeImage};
 ghost use Rattle.image_make.specs.Fresh.{repeated, freshProcessors, freshNodes};
 ghost use Rattle.record.specs.Limits.{maxLevels, maxNodes, maxProcessors};
+use image::header;
 use image::layout::HEADER;
 use image::layout::NODE_BYTES;
 use image::layout::PROCESSOR_BYTES;
+use image::node;
 
 // The byte v, n times from o on.
 fn repeat(b: &mut [u8], o: usize, n: usize, v: u8)
@@ -32,9 +34,9 @@ fn put_header(b: &mut [u8], p: u8, n: u8, l: u8)
     requires { ⌜ (headerBytes ≤ length (now b)) × (length (now b) ≤ maxImageLength) ⌝ }
     ensures { λ _. ⌜ now (b .exit) ≡ storedAt (now (b .entry)) 0 (headerImage p n l 0) ⌝ }
 {
-    b[0] = p;
-    b[1] = n;
-    b[2] = l;
+    b[header::PROCESSOR_COUNT] = p;
+    b[header::NODE_COUNT] = n;
+    b[header::LEVEL_COUNT] = l;
     repeat(b, 3, 4, 0);
 }
 
@@ -57,8 +59,8 @@ fn put_node(b: &mut [u8], o: usize, tail: u8)
 {
     repeat(b, o, 8, tail);
     repeat(b, o + 8, 27, 0);
-    repeat(b, o + 35, 1, 1);
-    repeat(b, o + 36, 5, 0);
+    repeat(b, o + node::HEIGHT, 1, 1);
+    repeat(b, o + node::USE, 5, 0);
 }
 
 // So many nodes from base on.

@@ -6,7 +6,9 @@ ghost use Rattle.image_parts.specs.Ready.{keyIn};
 ghost use Rattle.record.specs.Keys.{keyBefore};
 ghost use Rattle.image.specs.Layout.{headerBytes, nodeBytes, processorStart};
 ghost use Rattle.record.specs.Limits.{maxNodes, maxProcessors};
+use image::header;
 use image::layout::NODE_BYTES;
+use image::node;
 use image::numbers::number_from;
 
 // Whether node x's key is before that of node y, which is an entry's.
@@ -21,16 +23,16 @@ pub fn before(b: &[u8], base: usize, x: u8, y: u8) -> bool
     if x == 0 {
         return true;
     }
-    let n = b[1];
+    let n = b[header::NODE_COUNT];
     if x - 1 == n {
         return false;
     }
     let s = base + NODE_BYTES * (x as usize);
     let t = base + NODE_BYTES * (y as usize);
-    let d = number_from(b, s + 23);
-    let e = number_from(b, t + 23);
+    let d = number_from(b, s + node::DUE);
+    let e = number_from(b, t + node::DUE);
     if d != e {
         return d < e;
     }
-    number_from(b, s + 27) < number_from(b, t + 27)
+    number_from(b, s + node::TICKET) < number_from(b, t + node::TICKET)
 }

@@ -8,8 +8,10 @@ ghost use Rattle.image_parts.specs.Given.{Called};
 ghost use Rattle.rules.specs.declared.calls.Call.the-variants as call;
 ghost use Rattle.image.specs.Layout.{tagIn};
 ghost use Rattle.record.specs.Limits.{maxNumber};
+use image::header;
 use image::layout::HEADER;
 use image::layout::PROCESSOR_BYTES;
+use image::processor;
 use image_delete::removals::back;
 use image_delete::removals::free_level;
 use image_delete::removals::free_node;
@@ -41,7 +43,7 @@ fn stage_step(image: &mut [u8], base: usize, p: usize) -> Answer
         × (number32 (now image) 3 < maxNumber) × (1 ≤ tagIn (now image) p) ⌝ }
     ensures { λ r. ⌜ Called (now (image .entry)) (call.Step p) (now (image .exit)) r ⌝ }
 {
-    let tag = image[HEADER + PROCESSOR_BYTES * p + 5];
+    let tag = image[HEADER + PROCESSOR_BYTES * p + processor::TAG];
     match tag {
         1 => return search(image, base, p, false),
         2 => return approach(image, base, p, false),
@@ -83,6 +85,6 @@ pub fn step_at(image: &mut [u8], processor: u32) -> Answer
     if 0 < refusal {
         return Answer::Refused(refusal);
     }
-    let base = HEADER + PROCESSOR_BYTES * (image[0] as usize);
+    let base = HEADER + PROCESSOR_BYTES * (image[header::PROCESSOR_COUNT] as usize);
     stage_step(image, base, processor as usize)
 }

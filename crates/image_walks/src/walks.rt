@@ -8,7 +8,10 @@ ghost use Rattle.image_walks.specs.Walks.{searchTag, seekTag};
 use image::layout::HEADER;
 use image::layout::NODE_BYTES;
 use image::layout::PROCESSOR_BYTES;
+use image::node;
 use image::numbers::tick;
+use image::processor;
+use image::tag;
 use image_parts::keys::before;
 use rules::Answer;
 
@@ -16,7 +19,11 @@ use rules::Answer;
 fn seek_tag(removal: bool) -> u8
     ensures { λ r. ⌜ (r ≡ seekTag removal) × (r ≤ 16) ⌝ }
 {
-    if removal { 16 } else { 2 }
+    if removal {
+        tag::REMOVAL_SEEK
+    } else {
+        tag::INSERT_SEEK
+    }
 }
 
 // Search.
@@ -25,29 +32,29 @@ pub fn search(image: &mut [u8], base: usize, p: usize, removal: bool) -> Answer
     ensures { λ r. ⌜ Stepped (now (image .entry)) p (now (image .exit)) r ⌝ }
 {
     let at = HEADER + PROCESSOR_BYTES * p;
-    let own = image[at + 4];
-    let a = image[at + 6];
-    let i = image[at + 7];
+    let own = image[at + processor::OWN];
+    let a = image[at + processor::PLACE];
+    let i = image[at + processor::LEVEL];
     let k = (i as usize) - 1;
     let x = image[base + NODE_BYTES * (a as usize) + k];
     if before(image, base, x, own) {
         tick(image);
-        image[at + 6] = x;
+        image[at + processor::PLACE] = x;
         return Answer::Moved;
     }
     tick(image);
-    image[at + (9 + k)] = a;
+    image[at + (processor::SAVED + k)] = a;
     if 1 < i {
-        image[at + 7] = i - 1;
+        image[at + processor::LEVEL] = i - 1;
         return Answer::Moved;
     }
     if removal {
-        image[at + 5] = 15;
-        image[at + 6] = 0;
-        image[at + 7] = 0;
+        image[at + processor::TAG] = tag::HOLD_NODE;
+        image[at + processor::PLACE] = 0;
+        image[at + processor::LEVEL] = 0;
         return Answer::Moved;
     }
-    image[at + 5] = 2;
+    image[at + processor::TAG] = tag::INSERT_SEEK;
     Answer::Moved
 }
 
@@ -57,19 +64,19 @@ pub fn approach(image: &mut [u8], base: usize, p: usize, removal: bool) -> Answe
     ensures { λ r. ⌜ Stepped (now (image .entry)) p (now (image .exit)) r ⌝ }
 {
     let at = HEADER + PROCESSOR_BYTES * p;
-    let own = image[at + 4];
-    let a = image[at + 6];
-    let i = image[at + 7];
+    let own = image[at + processor::OWN];
+    let a = image[at + processor::PLACE];
+    let i = image[at + processor::LEVEL];
     let k = (i as usize) - 1;
     let x = image[base + NODE_BYTES * (a as usize) + k];
     let first = seek_tag(removal);
     if before(image, base, x, own) {
         tick(image);
-        image[at + 6] = x;
+        image[at + processor::PLACE] = x;
         return Answer::Moved;
     }
     tick(image);
-    image[at + 5] = first + 1;
+    image[at + processor::TAG] = first + 1;
     Answer::Moved
 }
 
@@ -79,16 +86,16 @@ pub fn take(image: &mut [u8], base: usize, p: usize, removal: bool) -> Answer
     ensures { λ r. ⌜ Stepped (now (image .entry)) p (now (image .exit)) r ⌝ }
 {
     let at = HEADER + PROCESSOR_BYTES * p;
-    let a = image[at + 6];
-    let i = image[at + 7];
+    let a = image[at + processor::PLACE];
+    let i = image[at + processor::LEVEL];
     let k = (i as usize) - 1;
     let h = (p as u8) + 1;
-    let place_lock = image[base + NODE_BYTES * (a as usize) + (8 + k)];
+    let place_lock = image[base + NODE_BYTES * (a as usize) + (node::LEVEL_LOCKS + k)];
     let first = seek_tag(removal);
     tick(image);
     if place_lock == 0 {
-        image[base + NODE_BYTES * (a as usize) + (8 + k)] = h;
-        image[at + 5] = first + 2;
+        image[base + NODE_BYTES * (a as usize) + (node::LEVEL_LOCKS + k)] = h;
+        image[at + processor::TAG] = first + 2;
         return Answer::Moved;
     }
     Answer::Waits
@@ -100,20 +107,20 @@ pub fn confirm(image: &mut [u8], base: usize, p: usize, removal: bool) -> Answer
     ensures { λ r. ⌜ Stepped (now (image .entry)) p (now (image .exit)) r ⌝ }
 {
     let at = HEADER + PROCESSOR_BYTES * p;
-    let own = image[at + 4];
-    let a = image[at + 6];
-    let i = image[at + 7];
+    let own = image[at + processor::OWN];
+    let a = image[at + processor::PLACE];
+    let i = image[at + processor::LEVEL];
     let k = (i as usize) - 1;
     let x = image[base + NODE_BYTES * (a as usize) + k];
     let first = seek_tag(removal);
     if before(image, base, x, own) {
         tick(image);
-        image[at + 5] = first + 3;
-        image[at + 8] = x;
+        image[at + processor::TAG] = first + 3;
+        image[at + processor::AHEAD] = x;
         return Answer::Moved;
     }
     tick(image);
-    image[at + 5] = first + 4;
+    image[at + processor::TAG] = first + 4;
     Answer::Moved
 }
 
@@ -123,15 +130,15 @@ pub fn release(image: &mut [u8], base: usize, p: usize, removal: bool) -> Answer
     ensures { λ r. ⌜ Stepped (now (image .entry)) p (now (image .exit)) r ⌝ }
 {
     let at = HEADER + PROCESSOR_BYTES * p;
-    let a = image[at + 6];
-    let i = image[at + 7];
+    let a = image[at + processor::PLACE];
+    let i = image[at + processor::LEVEL];
     let k = (i as usize) - 1;
-    let x = image[at + 8];
+    let x = image[at + processor::AHEAD];
     let first = seek_tag(removal);
     tick(image);
-    image[base + NODE_BYTES * (a as usize) + (8 + k)] = 0;
-    image[at + 5] = first + 1;
-    image[at + 6] = x;
-    image[at + 8] = 0;
+    image[base + NODE_BYTES * (a as usize) + (node::LEVEL_LOCKS + k)] = 0;
+    image[at + processor::TAG] = first + 1;
+    image[at + processor::PLACE] = x;
+    image[at + processor::AHEAD] = 0;
     Answer::Moved
 }

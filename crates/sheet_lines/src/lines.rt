@@ -11,6 +11,7 @@ use crate::calls::left_after;
 use crate::printing::event_for;
 use crate::printing::is_silent;
 use crate::waits::pass_waits;
+use image::header;
 use image::numbers::number_from;
 use rules::answers::is_waits;
 use sheet_format::SheetOutcome;
@@ -66,7 +67,7 @@ pub fn run_lines(
             if is_silent(l, answer) {
                 continue;
             }
-            let t = number_from(image, 3);
+            let t = number_from(image, header::CLOCK);
             let e = event_for(l, t, answer);
             if !append_event(area, at, e, writing) {
                 return SheetOutcome::Refused(43, 0);

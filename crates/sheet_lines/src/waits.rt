@@ -3,6 +3,7 @@ ghost use mathlib.Core.Path.{_≡_};
 ghost use Prim.Native.Nat.{_-_};
 ghost use Rattle.image.specs.Image.{imageOf, queueIn, Sound};
 ghost use Rattle.sheet_lines.specs.Waiting.{later, waitsLeft};
+use image::header;
 use image::numbers::number_from;
 use image::numbers::put_number;
 use record::limits::MAX_NUMBER;
@@ -17,12 +18,12 @@ pub fn pass_waits(image: &mut [u8], left: u32) -> u32
         ≡ imageOf (later (queueIn (now (image .entry)))
         (waitsLeft left (queueIn (now (image .entry)) .clock))) ⌝ }
 {
-    let t = number_from(image, 3);
+    let t = number_from(image, header::CLOCK);
     let most = MAX_NUMBER - t;
     if left < most {
-        put_number(image, 0, 3, t + left);
+        put_number(image, 0, header::CLOCK, t + left);
         return 0;
     }
-    put_number(image, 0, 3, MAX_NUMBER);
+    put_number(image, 0, header::CLOCK, MAX_NUMBER);
     left - most
 }
