@@ -18,7 +18,10 @@ use record::levels::both;
 fn counted(used: u8, stamped: u8, marked: u8) -> u8
     ensures { λ r. ⌜ (r ≡ cond (pendingBytes used stamped marked) 1 0) × (r ≤ 1) ⌝ }
 {
-    if both(used == 1, both(stamped == 1, marked != 1)) {
+    if both(
+        used == node::IN_USE,
+        both(stamped == node::STAMPED, marked != node::MARKED),
+    ) {
         1
     } else {
         0

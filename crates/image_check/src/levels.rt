@@ -10,6 +10,7 @@ ghost use Rattle.image.specs.Tags.{timed, stampOf, stampTaken, useOf, useTaken}
 ghost use Rattle.image.specs.Puts.{piece};
 ghost use Rattle.image.specs.Layout.{maxImageLength};
 ghost use Rattle.record.specs.Limits.{maxLevels};
+use image::node;
 use record::levels::both;
 
 // A number of slot k is at most top, or the slot is past l.
@@ -45,7 +46,7 @@ pub(crate) fn stamp_passes(tag: u8, time: u32, entry: bool, clock: u32) -> bool
     ensures { λ r.
         ⌜ r ≡ (stampTaken (timed tag time) && stampValid (stampOf (timed tag time)) entry clock) ⌝ }
 {
-    if tag == 1 {
+    if tag == node::STAMPED {
         return both(entry, time <= clock);
     }
     both(tag == 0, time == 0)
@@ -54,8 +55,8 @@ pub(crate) fn stamp_passes(tag: u8, time: u32, entry: bool, clock: u32) -> bool
 pub(crate) fn use_passes(tag: u8, time: u32, clock: u32) -> bool
     ensures { λ r. ⌜ r ≡ (useTaken (timed tag time) && useValid (useOf (timed tag time)) clock) ⌝ }
 {
-    if tag == 2 {
+    if tag == node::RETIRED {
         return time <= clock;
     }
-    both(tag <= 1, time == 0)
+    both(tag <= node::IN_USE, time == 0)
 }

@@ -43,7 +43,7 @@ fn put_header(b: &mut [u8], p: u8, n: u8, l: u8)
 // The first n processors, idle.
 fn put_processors(b: &mut [u8], n: usize)
     requires { ⌜ (processorStart n ≤ length (now b)) × (length (now b) ≤ maxImageLength) ⌝ }
-    ensures { λ _. ⌜ now (b .exit) ≡ storedAt (now (b .entry)) 7 (freshProcessors n) ⌝ }
+    ensures { λ _. ⌜ now (b .exit) ≡ storedAt (now (b .entry)) headerBytes (freshProcessors n) ⌝ }
 {
     let mut p: usize = 0;
     while p < n {
