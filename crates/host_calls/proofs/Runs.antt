@@ -129,4 +129,4 @@ same-run q S T cs =
 pub bytes-are-the-record : BytesAreTheRecord
 bytes-are-the-record P N L R cs =
     same-run (freshQueue P N L) (fresh-sized P N L)
-    (fresh-trim P N L (R .processors-high) (R .entries-high)) cs
+    (fresh-trim P N L (R .processors-high) (R .nodes-high)) cs

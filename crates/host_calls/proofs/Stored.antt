@@ -172,5 +172,5 @@ pub outside-not :
 outside-not p n l z =
     let t = made-sizes p n l z in (
       rw (le-ltb p 1 (t .processors-low), le-ltb maxProcessors p (t .processors-high)) refl,
-      rw (le-ltb n 1 (t .entries-low), le-ltb maxNodes n (t .entries-high)) refl,
+      rw (le-ltb n 1 (t .nodes-low), le-ltb maxNodes n (t .nodes-high)) refl,
     )

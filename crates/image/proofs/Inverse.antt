@@ -63,7 +63,7 @@ module _ (q : Queue) where
         (readNode (nodePart (imageOf q) x) .node ≡ nodeAt q x) ×
         (readNode (nodePart (imageOf q) x) .ok ≡ true)
     node-read x h =
-        let l : x < nodeSlots = omega (arith, t .entries-high) in
+        let l : x < nodeSlots = omega (arith, t .nodes-high) in
         let e = node-part x h in
         let f = node-back (nodeAt q x) (s .forward-long x l) (s .locks-long x l) in
         (rw (e, f) refl, rw (e, f) refl)
@@ -102,7 +102,7 @@ module _ (q : Queue) where
         and-both _ _ (and-both _ _
         (and-both _ _
         (and-both _ _ (le-leb (q .processorCount) maxProcessors (t .processors-high))
-        (le-leb (q .nodeCount + 2) nodeSlots (t .entries-high)))
+        (le-leb (q .nodeCount + 2) nodeSlots (t .nodes-high)))
         (eq-eqb _ _ (length-image q)))
         (all-of (λ p. readProcessor (processorPart (imageOf q) p) .ok) (q .processorCount)
         (λ p h. processor-read p h .1)))
@@ -200,7 +200,7 @@ pub trim-in : (b : List ℕ) → getD b 0 0 ≤ 16 → getD b 1 0 ≤ 200 → Tr
 unfolding queueIn
 trim-in b few short = record {
   processors-high = few;
-  entries-high = omega arith;
+  nodes-high = omega arith;
   nodes = λ x h l. getD-listed (nodeIn b) nodeSlots x (freshNode 0) l
       ∙ rw (le-ltb x (getD b 1 0 + 2) (omega arith)) refl;
   processors =

@@ -22,7 +22,7 @@ pub record Sized (q : Queue) : Type 0 where
 -- the slots past P and N + 1 are as made
 pub record Trim (q : Queue) : Type 0 where
   pub processors-high : q .processorCount ≤ maxProcessors
-  pub entries-high : q .nodeCount + 2 ≤ nodeSlots
+  pub nodes-high : q .nodeCount + 2 ≤ nodeSlots
   pub nodes :
       (x : ℕ) → q .nodeCount + 1 < x → x < nodeSlots → nodeAt q x ≡ freshNode (q .nodeCount + 1)
   pub processors : (p : ℕ) → q .processorCount ≤ p → p < maxProcessors

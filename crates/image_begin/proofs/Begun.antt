@@ -48,7 +48,7 @@ based b s =
       start = refl;
       long = s .long;
       processors-high = v .processorCount .high;
-      entries-high =
+      nodes-high =
           v .nodeCount .high;
       levels-high = v .levelCount .high;
     }
@@ -122,7 +122,7 @@ module _ (b : List ℕ) (p due item height : ℕ) (s : Sound b)
       let none : refusalOf q k ≡ 0 =
       first-none (refusalIn b k) (nodeRefusal k (taken q k)) e ∙ rw (ne-eqb (chosen q) 0 there) refl in
       let x≤ : x ≤ getD b 1 0 = rw is (chosen-high q) in
-      let x< : x < 202 = omega (arith, B .entries-high) in
+      let x< : x < 202 = omega (arith, B .nodes-high) in
       let S = sized-in b in
       let d = insertDecision q x due item height in
       kept-sound b s k after r

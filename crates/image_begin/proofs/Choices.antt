@@ -158,7 +158,7 @@ module _ (b : List ℕ) (base : ℕ) (p : Based b base) (s : Sound b) where
   taken : isImage b ≡ true
   taken =
       rw (sym (s .image))
-      (image-taken (queueIn b) (sized-in b) (trim-in b (p .processors-high) (p .entries-high)))
+      (image-taken (queueIn b) (sized-in b) (trim-in b (p .processors-high) (p .nodes-high)))
 
   early : (x : ℕ) → x ≤ getD b 1 0 → retirement (stateOf (queueIn b) x) ≤ maxNumber
   unfolding queueIn
@@ -192,7 +192,7 @@ module _ (b : List ℕ) (base : ℕ) (p : Based b base) (s : Sound b) where
 
     state-is : stateOf (queueIn b) x ≡ useOf here
     state-is =
-        ap (λ (n : Node). n .state) (node-is b base (p .start) (p .entries-high) x (omega arith))
+        ap (λ (n : Node). n .state) (node-is b base (p .start) (p .nodes-high) x (omega arith))
 
     word-is : number32 b (base + 41 * x + 36) ≡ wordOf (stateOf (queueIn b) x)
     word-is =

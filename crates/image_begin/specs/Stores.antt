@@ -38,7 +38,7 @@ pub record Based (b : List ℕ) (base : ℕ) : Type 0 where
   pub start : base ≡ startOf b
   pub long : length b ≡ base + nodeBytes * (getD b 1 0 + 2)
   pub processors-high : getD b 0 0 ≤ maxProcessors
-  pub entries-high : getD b 1 0 ≤ maxNodes
+  pub nodes-high : getD b 1 0 ≤ maxNodes
   pub levels-high : getD b 2 0 ≤ maxLevels
 
 -- A use is read as one number, tag + 256 * time: 0 never used, 1 in use, and 2 + 256 * t where the

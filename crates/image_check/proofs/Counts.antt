@@ -44,7 +44,7 @@ few b s = valid-sizes (queueIn b) (s .passes) .processors-high
 
 pub short : (b : List ℕ) → Sound b → getD b 1 0 ≤ 200
 unfolding queueIn
-short b s = valid-sizes (queueIn b) (s .passes) .entries-high
+short b s = valid-sizes (queueIn b) (s .passes) .nodes-high
 
 module _ (b : List ℕ) (s : Sound b) where
   pending-is :

@@ -53,8 +53,8 @@ module _ (b : List ℕ) (base p tag : ℕ) (r : Placed b base p tag) where
       let k = mine b p 7 - 1 in
       ap (λ (x : ℕ). lockAt (nodeAt (queueIn b) x) (mine b p 7)) (own-is b base p tag r)
       ∙ ap (λ (n : Node). getD (n .levelLocks) k 0)
-      (node-is b base (r .start) (r .entries-high) (mine b p 4)
-      (omega (arith, r .own-high, r .entries-high)))
+      (node-is b base (r .start) (r .nodes-high) (mine b p 4)
+      (omega (arith, r .own-high, r .nodes-high)))
       ∙ eight-at (piece b (base + 41 * mine b p 4)) 8 k (omega (arith, r .level-low, r .level-high))
 
   onward-is : forwardAt (nodeAt (queueIn b) (processorAt (queueIn b) p .own)) (mine b p 7)
@@ -64,8 +64,8 @@ module _ (b : List ℕ) (base p tag : ℕ) (r : Placed b base p tag) where
       let z : 0 + k ≡ k = omega arith in
       ap (λ (x : ℕ). forwardAt (nodeAt (queueIn b) x) (mine b p 7)) (own-is b base p tag r)
       ∙ ap (λ (n : Node). getD (n .forward) k 0)
-      (node-is b base (r .start) (r .entries-high) (mine b p 4)
-      (omega (arith, r .own-high, r .entries-high)))
+      (node-is b base (r .start) (r .nodes-high) (mine b p 4)
+      (omega (arith, r .own-high, r .nodes-high)))
       ∙ eight-at (piece b (base + 41 * mine b p 4)) 0 k (omega (arith, r .level-low, r .level-high))
       ∙ ap (piece b (base + 41 * mine b p 4)) z
 
@@ -83,14 +83,14 @@ module _ (b : List ℕ) (base p tag : ℕ) (r : Owned b base p tag) where
   tall-is =
       ap (λ (x : ℕ). nodeAt (queueIn b) x .height) (mine-is b base p tag r)
       ∙ ap (λ (n : Node). n .height)
-      (node-is b base (r .start) (r .entries-high) (mine b p 4) (own-low b base p tag r))
+      (node-is b base (r .start) (r .nodes-high) (mine b p 4) (own-low b base p tag r))
 
   holder-is : nodeAt (queueIn b) (processorAt (queueIn b) p .own) .nodeLock
       ≡ getD b (base + 41 * mine b p 4 + 16) 0
   holder-is =
       ap (λ (x : ℕ). nodeAt (queueIn b) x .nodeLock) (mine-is b base p tag r)
       ∙ ap (λ (n : Node). n .nodeLock)
-      (node-is b base (r .start) (r .entries-high) (mine b p 4) (own-low b base p tag r))
+      (node-is b base (r .start) (r .nodes-high) (mine b p 4) (own-low b base p tag r))
 
   top-is : savedAt (processorAt (queueIn b) p) (getD b (base + 41 * mine b p 4 + 35) 0)
       ≡ mine b p (9 + (getD b (base + 41 * mine b p 4 + 35) 0 - 1))
@@ -110,7 +110,7 @@ module _ (b : List ℕ) (base p tag : ℕ) (r : Walked b base p tag) where
   after-is : nextOf (queueIn b) (place (mine b p 6) 1) ≡ getD b (base + 41 * mine b p 6 + 0) 0
   after-is =
       ap (λ (n : Node). getD (n .forward) 0 0)
-      (node-is b base (r .start) (r .entries-high) (mine b p 6) (omega (arith, r .node-low)))
+      (node-is b base (r .start) (r .nodes-high) (mine b p 6) (omega (arith, r .node-low)))
 
   stamped-is :
       stampedBefore (nodeAt (queueIn b) (mine b p 6) .stamp) (processorAt (queueIn b) p .begin)
@@ -118,7 +118,7 @@ module _ (b : List ℕ) (base p tag : ℕ) (r : Walked b base p tag) where
       (ltb (number32 b (base + 41 * mine b p 6 + 19)) (number32 b (7 + 17 * p + 0))) false
   stamped-is =
       ap (λ (n : Node). stampedBefore (n .stamp) (processorAt (queueIn b) p .begin))
-      (node-is b base (r .start) (r .entries-high) (mine b p 6) (omega (arith, r .node-low)))
+      (node-is b base (r .start) (r .nodes-high) (mine b p 6) (omega (arith, r .node-low)))
       ∙ ap (λ (c : Processor). stampedBefore (nodeFrom (piece b (base + 41 * mine b p 6)) .stamp)
       (c .begin)) (processor-is b p (r .processors-high) (r .low))
       ∙ stamped-cases (getD b (base + 41 * mine b p 6 + 18) 0)
@@ -128,7 +128,7 @@ module _ (b : List ℕ) (base p tag : ℕ) (r : Walked b base p tag) where
   marked-is : nodeAt (queueIn b) (mine b p 6) .mark ≡ eqb (getD b (base + 41 * mine b p 6 + 17) 0) 1
   marked-is =
       ap (λ (n : Node). n .mark)
-      (node-is b base (r .start) (r .entries-high) (mine b p 6) (omega (arith, r .node-low)))
+      (node-is b base (r .start) (r .nodes-high) (mine b p 6) (omega (arith, r .node-low)))
 
 entries-is : (b : List ℕ) → queueIn b .nodeCount ≡ getD b 1 0
 unfolding queueIn
@@ -147,7 +147,7 @@ module _ (b : List ℕ) (base p : ℕ) (r : Walked b base p 11) (after : List �
       let c = processorAt q p in
       let a = place (mine b p 6) (mine b p 7) in
       let s = stepViewOf q c (place (mine b p 6) 1) in
-      arm b base p 11 (r .sound) (r .start) (r .entries-high) (r .processors-high) (r .low)
+      arm b base p 11 (r .sound) (r .start) (r .nodes-high) (r .processors-high) (r .low)
       (r .few) (r .early) (r .tagged) (stage.Delete (del.ReadNext a)) refl refl
       (answers eff.Keep ans.Empty) (rw (after-is b base p 11 r, entries-is b, eq-eqb _ _ h) refl)
       ([]) (clears (getD b 2 0) ++ rests) (omega arith) tt
@@ -180,7 +180,7 @@ module _ (b : List ℕ) (base p : ℕ) (r : Walked b base p 11) (after : List �
       let c = processorAt q p in
       let a = place (mine b p 6) (mine b p 7) in
       let s = stepViewOf q c (place (mine b p 6) 1) in
-      arm b base p 11 (r .sound) (r .start) (r .entries-high) (r .processors-high) (r .low)
+      arm b base p 11 (r .sound) (r .start) (r .nodes-high) (r .processors-high) (r .low)
       (r .few) (r .early) (r .tagged) (stage.Delete (del.ReadNext a)) refl refl
       (moved s eff.Keep
       (stage.Delete (del.TestStamp (place (getD b (base + 41 * mine b p 6 + 0) 0) 1))))
@@ -202,7 +202,7 @@ module _ (b : List ℕ) (base p : ℕ) (r : Walked b base p 12) (after : List �
       let c = processorAt q p in
       let a = place (mine b p 6) (mine b p 7) in
       let s = stepViewOf q c (place (mine b p 6) 1) in
-      arm b base p 12 (r .sound) (r .start) (r .entries-high) (r .processors-high) (r .low)
+      arm b base p 12 (r .sound) (r .start) (r .nodes-high) (r .processors-high) (r .low)
       (r .few) (r .early) (r .tagged) (stage.Delete (del.TestStamp a)) refl refl
       (moved s eff.Keep (stage.Delete (del.ReadNext a)))
       (rw (stamped-is b base p 12 r, ne-eqb _ _ h) refl)
@@ -221,7 +221,7 @@ module _ (b : List ℕ) (base p : ℕ) (r : Walked b base p 12) (after : List �
       let c = processorAt q p in
       let a = place (mine b p 6) (mine b p 7) in
       let s = stepViewOf q c (place (mine b p 6) 1) in
-      arm b base p 12 (r .sound) (r .start) (r .entries-high) (r .processors-high) (r .low)
+      arm b base p 12 (r .sound) (r .start) (r .nodes-high) (r .processors-high) (r .low)
       (r .few) (r .early) (r .tagged) (stage.Delete (del.TestStamp a)) refl refl
       (moved s eff.Keep (stage.Delete (del.ReadNext a)))
       (rw (stamped-is b base p 12 r, eq-eqb _ _ h, le-ltb _ _ l) refl)
@@ -240,7 +240,7 @@ module _ (b : List ℕ) (base p : ℕ) (r : Walked b base p 12) (after : List �
       let c = processorAt q p in
       let a = place (mine b p 6) (mine b p 7) in
       let s = stepViewOf q c (place (mine b p 6) 1) in
-      arm b base p 12 (r .sound) (r .start) (r .entries-high) (r .processors-high) (r .low)
+      arm b base p 12 (r .sound) (r .start) (r .nodes-high) (r .processors-high) (r .low)
       (r .few) (r .early) (r .tagged) (stage.Delete (del.TestStamp a)) refl refl
       (moved s eff.Keep (stage.Delete (del.SetMark a)))
       (rw (stamped-is b base p 12 r, eq-eqb _ _ h, lt-ltb _ _ l) refl)
@@ -260,7 +260,7 @@ module _ (b : List ℕ) (base p : ℕ) (r : Walked b base p 13) (after : List �
       let c = processorAt q p in
       let a = place (mine b p 6) (mine b p 7) in
       let s = stepViewOf q c (place (mine b p 6) 1) in
-      arm b base p 13 (r .sound) (r .start) (r .entries-high) (r .processors-high) (r .low)
+      arm b base p 13 (r .sound) (r .start) (r .nodes-high) (r .processors-high) (r .low)
       (r .few) (r .early) (r .tagged) (stage.Delete (del.SetMark a)) refl refl
       (moved s eff.Keep (stage.Delete (del.ReadNext a)))
       (rw (marked-is b base p 13 r, eq-eqb _ _ h) refl)
@@ -280,7 +280,7 @@ module _ (b : List ℕ) (base p : ℕ) (r : Walked b base p 13) (after : List �
       let c = processorAt q p in
       let a = place (mine b p 6) (mine b p 7) in
       let s = stepViewOf q c (place (mine b p 6) 1) in
-      arm b base p 13 (r .sound) (r .start) (r .entries-high) (r .processors-high) (r .low)
+      arm b base p 13 (r .sound) (r .start) (r .nodes-high) (r .processors-high) (r .low)
       (r .few) (r .early) (r .tagged) (stage.Delete (del.SetMark a)) refl refl
       (record {
         effect = eff.Mark (mine b p 6);
@@ -294,7 +294,7 @@ module _ (b : List ℕ) (base p : ℕ) (r : Walked b base p 13) (after : List �
       (rw (
         marked-is b base p 13 r,
         ne-eqb _ _ h,
-        entry-is b base (r .start) (r .entries-high)
+        entry-is b base (r .start) (r .nodes-high)
             (mine b p 6) (omega (arith, r .node-low)),
         levels-is b,
       ) refl)
@@ -319,7 +319,7 @@ module _ (b : List ℕ) (base p : ℕ) (r : Owned b base p 15) (after : List ℕ
       let q = queueIn b in
       let c = processorAt q p in
       let s = stepViewOf q c (place 0 1) in
-      arm b base p 15 (r .sound) (r .start) (r .entries-high) (r .processors-high) (r .low)
+      arm b base p 15 (r .sound) (r .start) (r .nodes-high) (r .processors-high) (r .low)
       (r .few) (r .early) (r .tagged) (deliver (rem.HoldNode)) refl refl
       (moved s (eff.HoldNode (mine b p 4))
       (deliver
@@ -350,7 +350,7 @@ module _ (b : List ℕ) (base p : ℕ) (r : Owned b base p 15) (after : List ℕ
       let q = queueIn b in
       let c = processorAt q p in
       let s = stepViewOf q c (place 0 1) in
-      arm b base p 15 (r .sound) (r .start) (r .entries-high) (r .processors-high) (r .low)
+      arm b base p 15 (r .sound) (r .start) (r .nodes-high) (r .processors-high) (r .low)
       (r .few) (r .early) (r .tagged) (deliver (rem.HoldNode)) refl refl
       (waits s (deliver (rem.HoldNode))) (rw (holder-is b base p 15 r, ne-eqb _ _ h) refl)
       ([]) ([]) (omega arith) tt tt
@@ -373,14 +373,14 @@ module _ (b : List ℕ) (base p : ℕ) (r : Placed b base p 20) (after : List �
       let k = mine b p 7 - 1 in
       let s = stepViewOf q c a in
       let k< : k < 8 = omega (arith, r .level-high, r .level-low) in
-      arm b base p 20 (r .sound) (r .start) (r .entries-high) (r .processors-high) (r .low)
+      arm b base p 20 (r .sound) (r .start) (r .nodes-high) (r .processors-high) (r .low)
       (r .few) (r .early) (r .tagged) (deliver (rem.HoldOwn a)) refl refl
       (moved s (eff.HoldLevel (place (mine b p 4) (mine b p 7))) (deliver (rem.Unlink a)))
       (rw (own-lock-is b base p 20 r, eq-eqb _ 0 h, own-is b base p 20 r) refl)
-      ((8 + k, p + 1) ∷ []) ((5, 21) ∷ []) (omega (arith, r .own-high, r .entries-high))
+      ((8 + k, p + 1) ∷ []) ((5, 21) ∷ []) (omega (arith, r .own-high, r .nodes-high))
       (omega arith, tt) (omega arith, tt)
       (put-lock (nodeAt q (mine b p 4)) (mine b p 7 - 1) (p + 1) [] k<
-      (sized-in b .locks-long (mine b p 4) (omega (arith, r .own-high, r .entries-high))))
+      (sized-in b .locks-long (mine b p 4) (omega (arith, r .own-high, r .nodes-high))))
       (refl) after e answer f
 
   pub own-waits :
@@ -396,7 +396,7 @@ module _ (b : List ℕ) (base p : ℕ) (r : Placed b base p 20) (after : List �
       let k = mine b p 7 - 1 in
       let s = stepViewOf q c a in
       let k< : k < 8 = omega (arith, r .level-high, r .level-low) in
-      arm b base p 20 (r .sound) (r .start) (r .entries-high) (r .processors-high) (r .low)
+      arm b base p 20 (r .sound) (r .start) (r .nodes-high) (r .processors-high) (r .low)
       (r .few) (r .early) (r .tagged) (deliver (rem.HoldOwn a)) refl refl
       (waits s (deliver (rem.HoldOwn a))) (rw (own-lock-is b base p 20 r, ne-eqb _ 0 h) refl)
       ([]) ([]) (omega arith) tt tt
@@ -419,7 +419,7 @@ module _ (b : List ℕ) (base p : ℕ) (r : Placed b base p 21) (after : List �
       let k = mine b p 7 - 1 in
       let s = stepViewOf q c a in
       let k< : k < 8 = omega (arith, r .level-high, r .level-low) in
-      arm b base p 21 (r .sound) (r .start) (r .entries-high) (r .processors-high) (r .low)
+      arm b base p 21 (r .sound) (r .start) (r .nodes-high) (r .processors-high) (r .low)
       (r .few) (r .early) (r .tagged) (deliver (rem.Unlink a)) refl refl
       (moved s (eff.SetForward a (getD b (base + 41 * mine b p 4 + (mine b p 7 - 1)) 0))
       (deliver (rem.LeadBack a))) (rw (onward-is b base p 21 r) refl)
@@ -446,14 +446,14 @@ module _ (b : List ℕ) (base p : ℕ) (r : Placed b base p 22) (after : List �
       let k = mine b p 7 - 1 in
       let s = stepViewOf q c a in
       let k< : k < 8 = omega (arith, r .level-high, r .level-low) in
-      arm b base p 22 (r .sound) (r .start) (r .entries-high) (r .processors-high) (r .low)
+      arm b base p 22 (r .sound) (r .start) (r .nodes-high) (r .processors-high) (r .low)
       (r .few) (r .early) (r .tagged) (deliver (rem.LeadBack a)) refl refl
       (moved s (eff.SetForward (place (mine b p 4) (mine b p 7)) (mine b p 6))
       (deliver (rem.FreeOwn a))) (rw (own-is b base p 22 r) refl)
-      ((k, mine b p 6) ∷ []) ((5, 23) ∷ []) (omega (arith, r .own-high, r .entries-high))
+      ((k, mine b p 6) ∷ []) ((5, 23) ∷ []) (omega (arith, r .own-high, r .nodes-high))
       (omega arith, tt) (omega arith, tt)
       (put-forward (nodeAt q (mine b p 4)) (mine b p 7 - 1) (mine b p 6) [] k<
-      (sized-in b .forward-long (mine b p 4) (omega (arith, r .own-high, r .entries-high))))
+      (sized-in b .forward-long (mine b p 4) (omega (arith, r .own-high, r .nodes-high))))
       (refl) after e answer f
 
 -- L5
@@ -472,14 +472,14 @@ module _ (b : List ℕ) (base p : ℕ) (r : Placed b base p 23) (after : List �
       let k = mine b p 7 - 1 in
       let s = stepViewOf q c a in
       let k< : k < 8 = omega (arith, r .level-high, r .level-low) in
-      arm b base p 23 (r .sound) (r .start) (r .entries-high) (r .processors-high) (r .low)
+      arm b base p 23 (r .sound) (r .start) (r .nodes-high) (r .processors-high) (r .low)
       (r .few) (r .early) (r .tagged) (deliver (rem.FreeOwn a)) refl refl
       (moved s (eff.FreeLevel (place (mine b p 4) (mine b p 7))) (deliver (rem.FreeLevel a)))
       (rw (own-is b base p 23 r) refl)
-      ((8 + k, 0) ∷ []) ((5, 24) ∷ []) (omega (arith, r .own-high, r .entries-high))
+      ((8 + k, 0) ∷ []) ((5, 24) ∷ []) (omega (arith, r .own-high, r .nodes-high))
       (omega arith, tt) (omega arith, tt)
       (put-lock (nodeAt q (mine b p 4)) (mine b p 7 - 1) 0 [] k<
-      (sized-in b .locks-long (mine b p 4) (omega (arith, r .own-high, r .entries-high))))
+      (sized-in b .locks-long (mine b p 4) (omega (arith, r .own-high, r .nodes-high))))
       (refl) after e answer f
 
 -- L6
@@ -499,7 +499,7 @@ module _ (b : List ℕ) (base p : ℕ) (r : Placed b base p 24) (after : List �
       let k = mine b p 7 - 1 in
       let s = stepViewOf q c a in
       let k< : k < 8 = omega (arith, r .level-high, r .level-low) in
-      arm b base p 24 (r .sound) (r .start) (r .entries-high) (r .processors-high) (r .low)
+      arm b base p 24 (r .sound) (r .start) (r .nodes-high) (r .processors-high) (r .low)
       (r .few) (r .early) (r .tagged) (deliver (rem.FreeLevel a)) refl refl
       (moved s (eff.FreeLevel a) (deliver (rem.FreeNode))) (rw (le-leb _ _ h) refl)
       ((8 + k, 0) ∷ []) ((5, 25) ∷ (6, 0) ∷ (7, 0) ∷ []) (omega (arith, r .node-low))
@@ -524,7 +524,7 @@ module _ (b : List ℕ) (base p : ℕ) (r : Placed b base p 24) (after : List �
       let k = mine b p 7 - 1 in
       let s = stepViewOf q c a in
       let k< : k < 8 = omega (arith, r .level-high, r .level-low) in
-      arm b base p 24 (r .sound) (r .start) (r .entries-high) (r .processors-high) (r .low)
+      arm b base p 24 (r .sound) (r .start) (r .nodes-high) (r .processors-high) (r .low)
       (r .few) (r .early) (r .tagged) (deliver (rem.FreeLevel a)) refl refl
       (moved s (eff.FreeLevel a)
       (deliver
@@ -551,7 +551,7 @@ module _ (b : List ℕ) (base p : ℕ) (r : Owned b base p 25) (after : List ℕ
       let q = queueIn b in
       let c = processorAt q p in
       let s = stepViewOf q c (place 0 1) in
-      arm b base p 25 (r .sound) (r .start) (r .entries-high) (r .processors-high) (r .low)
+      arm b base p 25 (r .sound) (r .start) (r .nodes-high) (r .processors-high) (r .low)
       (r .few) (r .early) (r .tagged) (deliver (rem.FreeNode)) refl refl
       (moved s (eff.FreeNode (mine b p 4)) (deliver (rem.Retire)))
       (rw (mine-is b base p 25 r) refl)
@@ -570,12 +570,12 @@ module _ (b : List ℕ) (base p : ℕ) (r : Owned b base p 26) (after : List ℕ
       let q = queueIn b in
       let c = processorAt q p in
       let s = stepViewOf q c (place 0 1) in
-      arm b base p 26 (r .sound) (r .start) (r .entries-high) (r .processors-high) (r .low)
+      arm b base p 26 (r .sound) (r .start) (r .nodes-high) (r .processors-high) (r .low)
       (r .few) (r .early) (r .tagged) (deliver (rem.Retire)) refl refl
       (answers (eff.Retire (mine b p 4)) (ans.Did deed.HandedOut (entryIn b (base + 41 * mine b p 4))))
       (rw (
         mine-is b base p 26 r,
-        entry-is b base (r .start) (r .entries-high) (mine b p 4)
+        entry-is b base (r .start) (r .nodes-high) (mine b p 4)
             (own-low b base p 26 r),
       ) refl)
       ((36, 2) ∷ four 37 (number32 b 3 + 1)) (clears (getD b 2 0) ++ rests) (own-low b base p 26 r)

@@ -45,14 +45,14 @@ module _ (b : List ℕ) (base p : ℕ) (r : Placed b base p 6) (after : List ℕ
       let k = mine b p 7 - 1 in
       let s = stepViewOf q c a in
       let k< : k < 8 = omega (arith, r .level-high, r .level-low) in
-      arm b base p 6 (r .sound) (r .start) (r .entries-high) (r .processors-high) (r .low) (r .few)
+      arm b base p 6 (r .sound) (r .start) (r .nodes-high) (r .processors-high) (r .low) (r .few)
       (r .early) (r .tagged) (stage.Insert (ins.Copy a)) refl refl
       (moved s (eff.SetForward (place (mine b p 4) (mine b p 7)) (onward b base p))
       (stage.Insert (ins.Link a))) (rw (next-is b base p 6 r, own-is b base p 6 r) refl)
-      ((k, onward b base p) ∷ []) ((5, 7) ∷ []) (omega (arith, r .own-high, r .entries-high))
+      ((k, onward b base p) ∷ []) ((5, 7) ∷ []) (omega (arith, r .own-high, r .nodes-high))
       (omega arith, tt) (omega arith, tt)
       (put-forward (nodeAt q (mine b p 4)) (mine b p 7 - 1) (onward b base p) [] k<
-      (sized-in b .forward-long (mine b p 4) (omega (arith, r .own-high, r .entries-high))))
+      (sized-in b .forward-long (mine b p 4) (omega (arith, r .own-high, r .nodes-high))))
       refl after e answer f
 
 -- I2
@@ -71,7 +71,7 @@ module _ (b : List ℕ) (base p : ℕ) (r : Placed b base p 7) (after : List ℕ
       let k = mine b p 7 - 1 in
       let s = stepViewOf q c a in
       let k< : k < 8 = omega (arith, r .level-high, r .level-low) in
-      arm b base p 7 (r .sound) (r .start) (r .entries-high) (r .processors-high) (r .low) (r .few)
+      arm b base p 7 (r .sound) (r .start) (r .nodes-high) (r .processors-high) (r .low) (r .few)
       (r .early) (r .tagged) (stage.Insert (ins.Link a)) refl refl
       (moved s (eff.SetForward a (mine b p 4)) (stage.Insert (ins.FreeLevel a)))
       (rw (own-is b base p 7 r) refl)
@@ -99,7 +99,7 @@ module _ (b : List ℕ) (base p : ℕ) (r : Placed b base p 8) (after : List ℕ
       let k = mine b p 7 - 1 in
       let s = stepViewOf q c a in
       let k< : k < 8 = omega (arith, r .level-high, r .level-low) in
-      arm b base p 8 (r .sound) (r .start) (r .entries-high) (r .processors-high) (r .low) (r .few)
+      arm b base p 8 (r .sound) (r .start) (r .nodes-high) (r .processors-high) (r .low) (r .few)
       (r .early) (r .tagged) (stage.Insert (ins.FreeLevel a)) refl refl
       (moved s (eff.FreeLevel a)
       (stage.Insert
@@ -131,7 +131,7 @@ module _ (b : List ℕ) (base p : ℕ) (r : Placed b base p 8) (after : List ℕ
       let k = mine b p 7 - 1 in
       let s = stepViewOf q c a in
       let k< : k < 8 = omega (arith, r .level-high, r .level-low) in
-      arm b base p 8 (r .sound) (r .start) (r .entries-high) (r .processors-high) (r .low) (r .few)
+      arm b base p 8 (r .sound) (r .start) (r .nodes-high) (r .processors-high) (r .low) (r .few)
       (r .early) (r .tagged) (stage.Insert (ins.FreeLevel a)) refl refl
       (moved s (eff.FreeLevel a) (stage.Insert ins.FreeNode))
       (rw (height-is b base p 8 r, le-ltb _ _ h) refl)
@@ -153,7 +153,7 @@ module _ (b : List ℕ) (base p : ℕ) (r : Owned b base p 9) (after : List ℕ)
       let q = queueIn b in
       let c = processorAt q p in
       let s = stepViewOf q c (place 0 1) in
-      arm b base p 9 (r .sound) (r .start) (r .entries-high) (r .processors-high) (r .low) (r .few)
+      arm b base p 9 (r .sound) (r .start) (r .nodes-high) (r .processors-high) (r .low) (r .few)
       (r .early) (r .tagged) (stage.Insert ins.FreeNode) refl refl
       (moved s (eff.FreeNode (mine b p 4)) (stage.Insert ins.Stamp))
       (ap (λ (x : ℕ). moved s (eff.FreeNode x) (stage.Insert ins.Stamp)) (mine-is b base p 9 r))
@@ -172,13 +172,13 @@ module _ (b : List ℕ) (base p : ℕ) (r : Owned b base p 10) (after : List ℕ
       let c = processorAt q p in
       let g = stage.Insert ins.Stamp in
       let E = entryIn b (base + 41 * mine b p 4) in
-      arm b base p 10 (r .sound) (r .start) (r .entries-high) (r .processors-high) (r .low)
+      arm b base p 10 (r .sound) (r .start) (r .nodes-high) (r .processors-high) (r .low)
       (r .few) (r .early) (r .tagged) g refl refl
       (answers (eff.Stamp (mine b p 4)) (ans.Did deed.Inserted E))
       (ap (λ (x : ℕ). answers (eff.Stamp x) (ans.Did deed.Inserted (entryOf (nodeAt q x))))
       (mine-is b base p 10 r)
       ∙ ap (λ (x : Entry). answers (eff.Stamp (mine b p 4)) (ans.Did deed.Inserted x))
-      (entry-is b base (r .start) (r .entries-high) (mine b p 4) (own-low b base p 10 r)))
+      (entry-is b base (r .start) (r .nodes-high) (mine b p 4) (own-low b base p 10 r)))
       ((18, 1) ∷ four 19 (number32 b 3 + 1)) (clears (getD b 2 0) ++ rests) (own-low b base p 10 r)
       (omega arith, (omega arith, (omega arith, (omega arith, (omega arith, tt)))))
       (clears-below (getD b 2 0) rests (r .levels-high) (

@@ -134,7 +134,7 @@ after-both q (c ∷ cs) ds = after-both (after q c) cs ds
 pub agreed : (b l a : List ℕ) → ListAgrees b l a
 agreed b l a P N L R cs e =
     let j = demand-three P N L R (cs ++ callsTo l (turns l a)) in
-    let r = reached-read P N L (R .processors-high) (R .entries-high) cs in
+    let r = reached-read P N L (R .processors-high) (R .nodes-high) cs in
     let h = ap queueIn e ∙ r in
     record {
       read = h;

@@ -32,7 +32,7 @@ module _ (P N L : ℕ) where
   pub fresh-trim : P ≤ 16 → N ≤ 200 → Trim (freshQueue P N L)
   fresh-trim few short = record {
     processors-high = few;
-    entries-high = omega arith;
+    nodes-high = omega arith;
     nodes = λ x h l. node-fresh x l;
     processors = λ p h l. processor-fresh p;
   }

@@ -97,7 +97,7 @@ module _ (b : List ℕ) (base p tag : ℕ) (r : Placed b base p tag) where
 
   pub next-is : nextOf (queueIn b) (place (mine b p 6) (mine b p 7)) ≡ onward b base p
   next-is =
-      next-at b base (r .start) (r .entries-high) p (r .node-low) (r .level-low) (r .level-high)
+      next-at b base (r .start) (r .nodes-high) p (r .node-low) (r .level-low) (r .level-high)
 
   pub before-is :
       stepViewOf (queueIn b) (processorAt (queueIn b) p) (place (mine b p 6) (mine b p 7)) .nextBeforeKey
@@ -110,10 +110,10 @@ module _ (b : List ℕ) (base p tag : ℕ) (r : Placed b base p tag) where
       ∙ ap (λ (y : ℕ). keyBefore (k y) (k (processorAt q p .own))) next-is
       ∙ ap (λ (y : ℕ). keyBefore (k (onward b base p)) (k y)) own-is
       ∙ ap (λ (y : Key). keyBefore y (k (mine b p 4)))
-      (key-is b base (r .start) (r .entries-high) (onward b base p) (r .next-low))
+      (key-is b base (r .start) (r .nodes-high) (onward b base p) (r .next-low))
       ∙ ap (λ (y : Key). keyBefore (keyIn b base (onward b base p)) y)
-      (key-is b base (r .start) (r .entries-high) (mine b p 4)
-      (omega (arith, r .own-high, r .entries-high)))
+      (key-is b base (r .start) (r .nodes-high) (mine b p 4)
+      (omega (arith, r .own-high, r .nodes-high)))
 
 -- a step at the stage g, whose bytes are read: what is decided, and what is stored in one node and in the processor
 module _ (b : List ℕ) (base p tag : ℕ) (s : Sound b) (start : base ≡ startOf b)
@@ -165,7 +165,7 @@ module _ (b : List ℕ) (base p tag : ℕ) (r : Placed b base p tag) where
   place-lock-is =
       let k = mine b p 7 - 1 in
       ap (λ (n : Node). getD (n .levelLocks) k 0)
-      (node-is b base (r .start) (r .entries-high) (mine b p 6) (omega (arith, r .node-low)))
+      (node-is b base (r .start) (r .nodes-high) (mine b p 6) (omega (arith, r .node-low)))
       ∙ eight-at (piece b (base + 41 * mine b p 6)) 8 k (omega (arith, r .level-low, r .level-high))
 
   pub height-is : nodeAt (queueIn b) (processorAt (queueIn b) p .own) .height
@@ -173,8 +173,8 @@ module _ (b : List ℕ) (base p tag : ℕ) (r : Placed b base p tag) where
   height-is =
       ap (λ (x : ℕ). nodeAt (queueIn b) x .height) (own-is b base p tag r)
       ∙ ap (λ (n : Node). n .height)
-      (node-is b base (r .start) (r .entries-high) (mine b p 4)
-      (omega (arith, r .own-high, r .entries-high)))
+      (node-is b base (r .start) (r .nodes-high) (mine b p 4)
+      (omega (arith, r .own-high, r .nodes-high)))
 
   pub up-is : mine b p 7 < 8 → savedAt (processorAt (queueIn b) p) (mine b p 7 + 1)
       ≡ mine b p (9 + mine b p 7)
@@ -200,7 +200,7 @@ module _ (b : List ℕ) (base p tag : ℕ) (r : Owned b base p tag) where
   mine-is = ap (λ (c : Processor). c .own) (processor-is b p (r .processors-high) (r .low))
 
   pub own-low : mine b p 4 < getD b 1 0 + 2
-  own-low = omega (arith, r .own-high, r .entries-high)
+  own-low = omega (arith, r .own-high, r .nodes-high)
 
 abbrev pub entryIn : List ℕ → ℕ → Entry
 entryIn b o =

@@ -97,7 +97,7 @@ module _ (b : List ℕ) (base p tag : ℕ) (s : Sound b) (start : base ≡ start
         level-high = omega arith;
         own-low = rw o at (w .low);
         own-high = rw o at (w .high);
-        entries-high = n;
+        nodes-high = n;
         height-low = rw (h≡) at (height .low);
         height-high = omega (arith, rw (h≡) at (height .high));
         next-low = omega (arith, rw (next-at b base start n p node l (omega arith)) at next);
@@ -136,7 +136,7 @@ module _ (b : List ℕ) (base p tag : ℕ) (s : Sound b) (start : base ≡ start
         tagged = tagged;
         own-low = rw o at (w .low);
         own-high = rw o at (w .high);
-        entries-high = v .sizes .nodeCount .high;
+        nodes-high = v .sizes .nodeCount .high;
         levels-high = v .sizes .levelCount .high;
       }
 
@@ -167,7 +167,7 @@ module _ (b : List ℕ) (base p tag : ℕ) (s : Sound b) (start : base ≡ start
         early = early;
         tagged = tagged;
         node-low = node;
-        entries-high = n;
+        nodes-high = n;
         levels-high = v .sizes .levelCount .high;
       }
 
@@ -178,7 +178,7 @@ trim-after q u o t =
     let n = o .nodeCount in
     record {
       processors-high = omega (arith, t .processors-high);
-      entries-high = omega (arith, t .entries-high);
+      nodes-high = omega (arith, t .nodes-high);
       nodes = λ x h l. o .nodes x (omega arith) ∙ t .nodes x (omega arith) l
           ∙ ap (λ (k : ℕ). freshNode (k + 1)) (sym n);
       processors = λ x h l. o .processors x (omega arith) ∙ t .processors x (omega arith) l;

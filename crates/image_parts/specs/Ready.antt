@@ -36,7 +36,7 @@ pub record Placed (b : List ℕ) (base p tag : ℕ) : Type 0 where
   pub level-high : levelIn b p ≤ maxLevels
   pub own-low : 1 ≤ ownIn b p
   pub own-high : ownIn b p ≤ getD b 1 0
-  pub entries-high : getD b 1 0 ≤ maxNodes
+  pub nodes-high : getD b 1 0 ≤ maxNodes
   pub height-low : 1 ≤ heightIn b base (ownIn b p)
   pub height-high : heightIn b base (ownIn b p) ≤ maxLevels
   pub next-low : nextIn b base (placeIn b p) (levelIn b p) ≤ getD b 1 0 + 1
@@ -53,7 +53,7 @@ pub record Owned (b : List ℕ) (base p tag : ℕ) : Type 0 where
   pub tagged : tagIn b p ≡ tag
   pub own-low : 1 ≤ ownIn b p
   pub own-high : ownIn b p ≤ getD b 1 0
-  pub entries-high : getD b 1 0 ≤ maxNodes
+  pub nodes-high : getD b 1 0 ≤ maxNodes
   pub levels-high : getD b 2 0 ≤ maxLevels
   pub height-low : 1 ≤ heightIn b base (ownIn b p)
   pub height-high : heightIn b base (ownIn b p) ≤ maxLevels
@@ -69,5 +69,5 @@ pub record Walked (b : List ℕ) (base p tag : ℕ) : Type 0 where
   pub early : number32 b 3 < maxNumber
   pub tagged : tagIn b p ≡ tag
   pub node-low : placeIn b p ≤ getD b 1 0 + 1
-  pub entries-high : getD b 1 0 ≤ maxNodes
+  pub nodes-high : getD b 1 0 ≤ maxNodes
   pub levels-high : getD b 2 0 ≤ maxLevels

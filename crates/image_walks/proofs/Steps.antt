@@ -73,7 +73,7 @@ module _ (w : Bool) (b : List ℕ) (base p : ℕ) (r : Placed b base p (searchTa
       let a = place (mine b p 6) (mine b p 7) in
       let s = stepViewOf q c a in
       let k< : mine b p 7 - 1 < 8 = omega (arith, r .level-high, r .level-low) in
-      arm b base p (searchTag w) (r .sound) (r .start) (r .entries-high) (r .processors-high)
+      arm b base p (searchTag w) (r .sound) (r .start) (r .nodes-high) (r .processors-high)
       (r .low) (r .few)
       (r .early) (r .tagged) (searching w a) (search-tag w (mine b p 6) (mine b p 7) (mine b p 8))
       (search-busy w a)
@@ -98,7 +98,7 @@ module _ (w : Bool) (b : List ℕ) (base p : ℕ) (r : Placed b base p (searchTa
       let a = place (mine b p 6) (mine b p 7) in
       let s = stepViewOf q c a in
       let k< : mine b p 7 - 1 < 8 = omega (arith, r .level-high, r .level-low) in
-      arm b base p (searchTag w) (r .sound) (r .start) (r .entries-high) (r .processors-high)
+      arm b base p (searchTag w) (r .sound) (r .start) (r .nodes-high) (r .processors-high)
       (r .low) (r .few)
       (r .early) (r .tagged) (searching w a) (search-tag w (mine b p 6) (mine b p 7) (mine b p 8))
       (search-busy w a)
@@ -124,7 +124,7 @@ module _ (b : List ℕ) (base p : ℕ) (r : Placed b base p 1) (after : List ℕ
       let a = place (mine b p 6) (mine b p 7) in
       let s = stepViewOf q c a in
       let k< : mine b p 7 - 1 < 8 = omega (arith, r .level-high, r .level-low) in
-      arm b base p 1 (r .sound) (r .start) (r .entries-high) (r .processors-high) (r .low) (r .few)
+      arm b base p 1 (r .sound) (r .start) (r .nodes-high) (r .processors-high) (r .low) (r .few)
       (r .early) (r .tagged) (searching false a) refl refl
       (saving s a (left false a))
       (search-ends (stepViewOf q c) a false (before-is b base p 1 r ∙ sym h) (le-leb _ _ i))
@@ -148,7 +148,7 @@ module _ (b : List ℕ) (base p : ℕ) (r : Placed b base p 14) (after : List �
       let a = place (mine b p 6) (mine b p 7) in
       let s = stepViewOf q c a in
       let k< : mine b p 7 - 1 < 8 = omega (arith, r .level-high, r .level-low) in
-      arm b base p 14 (r .sound) (r .start) (r .entries-high) (r .processors-high) (r .low) (r .few)
+      arm b base p 14 (r .sound) (r .start) (r .nodes-high) (r .processors-high) (r .low) (r .few)
       (r .early) (r .tagged) (searching true a) refl refl
       (saving s a (left true a))
       (search-ends (stepViewOf q c) a true (before-is b base p 14 r ∙ sym h) (le-leb _ _ i))
@@ -172,7 +172,7 @@ module _ (w : Bool) (b : List ℕ) (base p : ℕ) (r : Placed b base p (seekTag 
       let a = place (mine b p 6) (mine b p 7) in
       let s = stepViewOf q c a in
       let k< : mine b p 7 - 1 < 8 = omega (arith, r .level-high, r .level-low) in
-      arm b base p (seekTag w) (r .sound) (r .start) (r .entries-high) (r .processors-high)
+      arm b base p (seekTag w) (r .sound) (r .start) (r .nodes-high) (r .processors-high)
       (r .low) (r .few)
       (r .early) (r .tagged) (seeking w (seek.Approach a))
       (approach-tag w (mine b p 6) (mine b p 7) (mine b p 8)) (seek-busy w (seek.Approach a))
@@ -195,7 +195,7 @@ module _ (w : Bool) (b : List ℕ) (base p : ℕ) (r : Placed b base p (seekTag 
       let a = place (mine b p 6) (mine b p 7) in
       let s = stepViewOf q c a in
       let k< : mine b p 7 - 1 < 8 = omega (arith, r .level-high, r .level-low) in
-      arm b base p (seekTag w) (r .sound) (r .start) (r .entries-high) (r .processors-high)
+      arm b base p (seekTag w) (r .sound) (r .start) (r .nodes-high) (r .processors-high)
       (r .low) (r .few)
       (r .early) (r .tagged) (seeking w (seek.Approach a))
       (approach-tag w (mine b p 6) (mine b p 7) (mine b p 8)) (seek-busy w (seek.Approach a))
@@ -221,7 +221,7 @@ module _ (w : Bool) (b : List ℕ) (base p : ℕ) (r : Placed b base p (seekTag 
       let a = place (mine b p 6) (mine b p 7) in
       let s = stepViewOf q c a in
       let k< : mine b p 7 - 1 < 8 = omega (arith, r .level-high, r .level-low) in
-      arm b base p (seekTag w + 1) (r .sound) (r .start) (r .entries-high) (r .processors-high)
+      arm b base p (seekTag w + 1) (r .sound) (r .start) (r .nodes-high) (r .processors-high)
       (r .low) (r .few)
       (r .early) (r .tagged) (seeking w (seek.Take a))
       (take-tag w (mine b p 6) (mine b p 7) (mine b p 8)) (seek-busy w (seek.Take a))
@@ -231,7 +231,7 @@ module _ (w : Bool) (b : List ℕ) (base p : ℕ) (r : Placed b base p (seekTag 
       ((8 + (mine b p 7 - 1), p + 1) ∷ []) ((5, seekTag w + 2) ∷ []) (omega (arith, r .node-low))
       (omega arith, tt) (omega arith, tt)
       (put-lock (nodeAt q (mine b p 6)) (mine b p 7 - 1) (p + 1) [] k<
-      (sized-in b .locks-long (mine b p 6) (omega (arith, r .node-low, r .entries-high))))
+      (sized-in b .locks-long (mine b p 6) (omega (arith, r .node-low, r .nodes-high))))
       (confirms-next c a w) after e answer f
 
   pub take-waits :
@@ -245,7 +245,7 @@ module _ (w : Bool) (b : List ℕ) (base p : ℕ) (r : Placed b base p (seekTag 
       let a = place (mine b p 6) (mine b p 7) in
       let s = stepViewOf q c a in
       let k< : mine b p 7 - 1 < 8 = omega (arith, r .level-high, r .level-low) in
-      arm b base p (seekTag w + 1) (r .sound) (r .start) (r .entries-high) (r .processors-high)
+      arm b base p (seekTag w + 1) (r .sound) (r .start) (r .nodes-high) (r .processors-high)
       (r .low) (r .few)
       (r .early) (r .tagged) (seeking w (seek.Take a))
       (take-tag w (mine b p 6) (mine b p 7) (mine b p 8)) (seek-busy w (seek.Take a))
@@ -271,7 +271,7 @@ module _ (w : Bool) (b : List ℕ) (base p : ℕ) (r : Placed b base p (seekTag 
       let a = place (mine b p 6) (mine b p 7) in
       let s = stepViewOf q c a in
       let k< : mine b p 7 - 1 < 8 = omega (arith, r .level-high, r .level-low) in
-      arm b base p (seekTag w + 2) (r .sound) (r .start) (r .entries-high) (r .processors-high)
+      arm b base p (seekTag w + 2) (r .sound) (r .start) (r .nodes-high) (r .processors-high)
       (r .low) (r .few)
       (r .early) (r .tagged) (seeking w (seek.Confirm a))
       (confirm-tag w (mine b p 6) (mine b p 7) (mine b p 8)) (seek-busy w (seek.Confirm a))
@@ -295,7 +295,7 @@ module _ (w : Bool) (b : List ℕ) (base p : ℕ) (r : Placed b base p (seekTag 
       let a = place (mine b p 6) (mine b p 7) in
       let s = stepViewOf q c a in
       let k< : mine b p 7 - 1 < 8 = omega (arith, r .level-high, r .level-low) in
-      arm b base p (seekTag w + 2) (r .sound) (r .start) (r .entries-high) (r .processors-high)
+      arm b base p (seekTag w + 2) (r .sound) (r .start) (r .nodes-high) (r .processors-high)
       (r .low) (r .few)
       (r .early) (r .tagged) (seeking w (seek.Confirm a))
       (confirm-tag w (mine b p 6) (mine b p 7) (mine b p 8)) (seek-busy w (seek.Confirm a))
@@ -321,7 +321,7 @@ module _ (w : Bool) (b : List ℕ) (base p : ℕ) (r : Placed b base p (seekTag 
       let a = place (mine b p 6) (mine b p 7) in
       let s = stepViewOf q c a in
       let k< : mine b p 7 - 1 < 8 = omega (arith, r .level-high, r .level-low) in
-      arm b base p (seekTag w + 3) (r .sound) (r .start) (r .entries-high) (r .processors-high)
+      arm b base p (seekTag w + 3) (r .sound) (r .start) (r .nodes-high) (r .processors-high)
       (r .low) (r .few)
       (r .early) (r .tagged) (seeking w (seek.Release a (mine b p 8)))
       (release-tag w (mine b p 6) (mine b p 7) (mine b p 8))
@@ -332,5 +332,5 @@ module _ (w : Bool) (b : List ℕ) (base p : ℕ) (r : Placed b base p (seekTag 
       (omega (arith, r .node-low)) (omega arith, tt)
       (omega arith, (omega arith, (omega arith, tt)))
       (put-lock (nodeAt q (mine b p 6)) (mine b p 7 - 1) 0 [] k<
-      (sized-in b .locks-long (mine b p 6) (omega (arith, r .node-low, r .entries-high))))
+      (sized-in b .locks-long (mine b p 6) (omega (arith, r .node-low, r .nodes-high))))
       (takes-again c a w (mine b p 8)) after e answer f

@@ -31,8 +31,8 @@ nodes-long q h = unmapped Node (node-type.the-field .row .Denot) (node-type.the-
 pub processors-long : (q : Queue) → length (map (processor-type.the-field .into) (q .processors)) ≡ maxProcessors → length (q .processors) ≡ maxProcessors
 processors-long q h = unmapped Processor (processor-type.the-field .row .Denot) (processor-type.the-field .into) (q .processors) maxProcessors h
 
-pub entries-high : (q : Queue) → valid q ≡ true → q .nodeCount ≤ maxNodes
-entries-high q v = valid-facts q v .sizes .nodeCount .high
+pub nodes-high : (q : Queue) → valid q ≡ true → q .nodeCount ≤ maxNodes
+nodes-high q v = valid-facts q v .sizes .nodeCount .high
 
 pub processors-high : (q : Queue) → valid q ≡ true → q .processorCount ≤ maxProcessors
 processors-high q v = valid-facts q v .sizes .processorCount .high
@@ -48,15 +48,15 @@ module _ (q : Queue) (p : ℕ) (v : valid q ≡ true) (h : p < q .processorCount
   placed = reading-valid (sizesOf q) (valid-facts q v .sizes .levelCount .low) (processorAt q p .stage) (processorAt q p .own) (processor .carries)
 
   pub place-low : readingPlace (processorAt q p .stage) .node < nodeSlots
-  place-low = omega (arith, placed .node, entries-high q v)
+  place-low = omega (arith, placed .node, nodes-high q v)
 
   pub own-low : processorAt q p .own < nodeSlots
-  own-low = omega (arith, processor .carries .own-high, entries-high q v)
+  own-low = omega (arith, processor .carries .own-high, nodes-high q v)
 
   pub next-low : nextOf q (readingPlace (processorAt q p .stage)) < nodeSlots
   next-low =
       let s = step-view-valid q (processorAt q p) (readingPlace (processorAt q p .stage)) (valid-facts q v) processor placed in
-      omega (arith, s .next, entries-high q v)
+      omega (arith, s .next, nodes-high q v)
 
 -- a call that is not refused, on a record that passes check 21
 module _ (q : Queue) (v : valid q ≡ true) where
@@ -65,7 +65,7 @@ module _ (q : Queue) (v : valid q ≡ true) where
   changed-low c A =
       let d = decides-valid q c A (valid-facts q v) in
       let n = node-high (sizesOf q) (decisionOf q c .effect) (d .effect) in
-      omega (arith, n, entries-high q v)
+      omega (arith, n, nodes-high q v)
 
   -- the height of an Insert
   pub height-high :

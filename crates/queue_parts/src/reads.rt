@@ -74,10 +74,10 @@ pub fn entry_of(n: Node) -> Entry
 }
 
 // Whether x is the tail's number in a queue with `entries` nodes for entries.
-fn is_tail(x: u8, entries: u8) -> bool
-    ensures { λ r. ⌜ r ≡ eqb x (entries + 1) ⌝ }
+fn is_tail(x: u8, nodes: u8) -> bool
+    ensures { λ r. ⌜ r ≡ eqb x (nodes + 1) ⌝ }
 {
-    if x == 0 { false } else { x - 1 == entries }
+    if x == 0 { false } else { x - 1 == nodes }
 }
 
 // The saved nodes one level up and one level down.
@@ -106,13 +106,13 @@ pub fn step_view_from(
     next: u8,
     c: Processor,
     a: Place,
-    entries: u8,
+    nodes: u8,
     levels: u8,
 ) -> StepView
-    ensures { λ r. ⌜ r ≡ stepViewFrom here own ahead next c a entries levels ⌝ }
+    ensures { λ r. ⌜ r ≡ stepViewFrom here own ahead next c a nodes levels ⌝ }
 {
-    let ahead_key = ahead.key(next, entries);
-    let own_key = own.key(c.own, entries);
+    let ahead_key = ahead.key(next, nodes);
+    let own_key = own.key(c.own, nodes);
     let stage = c.stage;
     let goal = key_for(stage, own_key);
     let stamp = here.stamp;
@@ -122,7 +122,7 @@ pub fn step_view_from(
         ownNodeLock: own.nodeLock,
         next: next,
         nextBeforeKey: ahead_key.before(goal),
-        nextIsTail: is_tail(next, entries),
+        nextIsTail: is_tail(next, nodes),
         placeLock: here.lock_at(a.level),
         ownNext: own.forward_at(a.level),
         ownLock: own.lock_at(a.level),

@@ -51,8 +51,8 @@ within-range x top h =
 pub record MadeSizes (p n l : ℕ) : Type 0 where
   pub processors-low : 1 ≤ p
   pub processors-high : p ≤ maxProcessors
-  pub entries-low : 1 ≤ n
-  pub entries-high : n ≤ maxNodes
+  pub nodes-low : 1 ≤ n
+  pub nodes-high : n ≤ maxNodes
   pub levels-low : 1 ≤ l
   pub levels-high : l ≤ maxLevels
 
@@ -67,8 +67,8 @@ module _ (p n l : ℕ) where
       record {
         processors-low = x .0;
         processors-high = x .1;
-        entries-low = y .0;
-        entries-high = y .1;
+        nodes-low = y .0;
+        nodes-high = y .1;
         levels-low = z .0;
         levels-high = z .1;
       }

@@ -15,8 +15,8 @@ use Rattle.record_check.specs.Check.{within, sizesOf, sizesValid, nodeVa
 pub record SizeBounds (s : Sizes) : Type 0 where
   pub processors-low : 1 ≤ s .processorCount
   pub processors-high : s .processorCount ≤ maxProcessors
-  pub entries-low : 1 ≤ s .nodeCount
-  pub entries-high : s .nodeCount ≤ maxNodes
+  pub nodes-low : 1 ≤ s .nodeCount
+  pub nodes-high : s .nodeCount ≤ maxNodes
   pub levels-low : 1 ≤ s .levelCount
   pub levels-high : s .levelCount ≤ maxLevels
   pub clock-high : s .clock ≤ maxNumber
@@ -41,8 +41,8 @@ sizes-bounds s h =
     record {
       processors-low = within-low (s .processorCount) maxProcessors hp;
       processors-high = within-high (s .processorCount) maxProcessors hp;
-      entries-low = within-low (s .nodeCount) maxNodes hn;
-      entries-high = within-high (s .nodeCount) maxNodes hn;
+      nodes-low = within-low (s .nodeCount) maxNodes hn;
+      nodes-high = within-high (s .nodeCount) maxNodes hn;
       levels-low = within-low (s .levelCount) maxLevels hl;
       levels-high = within-high (s .levelCount) maxLevels hl;
       clock-high = leb-true (s .clock) maxNumber (and-right (p && n && l) t h);

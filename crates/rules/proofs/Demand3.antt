@@ -43,13 +43,13 @@ all-judged (c ∷ cs) q b S =
 
 -- a list of calls on a queue that is just made
 pub reached : (P N L : ℕ) → InRange P N L → (cs : List Turn) → Judged (freshQueue P N L) emptyBook cs
-reached P N L R cs = all-judged cs (freshQueue P N L) emptyBook (fresh-sound P N L (R .processors-high) (R .entries-high) (R .levels-low) (R .levels-high))
+reached P N L R cs = all-judged cs (freshQueue P N L) emptyBook (fresh-sound P N L (R .processors-high) (R .nodes-high) (R .levels-low) (R .levels-high))
 
 pub demand-three : Demand3
 demand-three P N L R cs = let J = reached P N L R cs in (J .book, J .judges)
 
 pub reached-is-valid : ReachedIsValid
-reached-is-valid P N L R cs = reached-valid P N L (R .processors-low) (R .processors-high) (R .entries-low) (R .entries-high) (R .levels-low) (R .levels-high) cs
+reached-is-valid P N L R cs = reached-valid P N L (R .processors-low) (R .processors-high) (R .nodes-low) (R .nodes-high) (R .levels-low) (R .levels-high) cs
 
 pub outside-is-untouched : OutsideIsUntouched
 outside-is-untouched q cs = untouched-all q cs

@@ -57,14 +57,14 @@ nextOf q a = forwardAt (nodeAt q (a .node)) (a .level)
 -- what a step of the processor c at the place a reads, from three nodes: the place's (here), the
 -- operation's own, and the one after the place (ahead, whose number is next)
 abbrev pub stepViewFrom : Node → Node → Node → ℕ → Processor → Place → ℕ → ℕ → StepView
-stepViewFrom here own ahead next c a entries levels = record {
+stepViewFrom here own ahead next c a nodes levels = record {
   own = c .own;
   height = own .height;
   ownNodeLock = own .nodeLock;
   next = next;
   nextBeforeKey =
-      keyBefore (keyOf entries next ahead) (keyFor (c .stage) (keyOf entries (c .own) own));
-  nextIsTail = eqb next (entries + 1);
+      keyBefore (keyOf nodes next ahead) (keyFor (c .stage) (keyOf nodes (c .own) own));
+  nextIsTail = eqb next (nodes + 1);
   placeLock = lockAt here (a .level);
   ownNext = forwardAt own (a .level);
   ownLock = lockAt own (a .level);

@@ -23,8 +23,8 @@ use Rattle.rules.specs.Runs.{Turn, stepBy, backlog, Reply, answered, cou
 pub record InRange (P N L : ℕ) : Type 0 where
   pub processors-low : 1 ≤ P
   pub processors-high : P ≤ maxProcessors
-  pub entries-low : 1 ≤ N
-  pub entries-high : N ≤ maxNodes
+  pub nodes-low : 1 ≤ N
+  pub nodes-high : N ≤ maxNodes
   pub levels-low : 1 ≤ L
   pub levels-high : L ≤ maxLevels
 

@@ -330,7 +330,7 @@ later-read b s m =
     let t = trimmed b s in
     read-write (later (queueIn b) m)
     (record { nodes-long = e .nodes-long; processors-long = e .processors-long; forward-long = e .forward-long; locks-long = e .locks-long; saved-long = e .saved-long })
-    (record { processors-high = t .processors-high; entries-high = t .entries-high; nodes = t .nodes; processors = t .processors })
+    (record { processors-high = t .processors-high; nodes-high = t .nodes-high; nodes = t .nodes; processors = t .processors })
 
 -- the bytes of the clock
 clock-put : (b : List ℕ) → Sound b → (t m : ℕ) → t ≡ queueIn b .clock + m → puts b 0 (four 3 t) ≡ imageOf (later (queueIn b) m)

@@ -24,12 +24,12 @@ made-judged p n l cs = at (made p n l .refusal) refl
         let s = made-sizes p n l e in
         rw (made-fresh p n l e)
         (demand-three p n l
-        (record { processors-low = s .processors-low; processors-high = s .processors-high; entries-low = s .entries-low; entries-high = s .entries-high; levels-low = s .levels-low; levels-high = s .levels-high })
+        (record { processors-low = s .processors-low; processors-high = s .processors-high; nodes-low = s .nodes-low; nodes-high = s .nodes-high; levels-low = s .levels-low; levels-high = s .levels-high })
         cs)
     at (suc k) e =
         rw (sym (made-not p n l (omega arith)))
         (demand-three 1 1 1
-        (record { processors-low = omega arith; processors-high = omega arith; entries-low = omega arith; entries-high = omega arith; levels-low = omega arith; levels-high = omega arith })
+        (record { processors-low = omega arith; processors-high = omega arith; nodes-low = omega arith; nodes-high = omega arith; levels-low = omega arith; levels-high = omega arith })
         cs)
 
 pub sheet-agrees : (s : List ℕ) → SheetAgrees s

@@ -51,7 +51,7 @@ cast-make-at c =
     let z : made p n l .refusal ≡ 0 = omega (arith, e, c .before .before .before .if1 .left) in
     let t = made-sizes p n l z in
     let k = some-length p n (outside-not p n l z .0) (outside-not p n l z .1) in
-    omega (arith, t .processors-high, t .entries-high, t .levels-high)
+    omega (arith, t .processors-high, t .nodes-high, t .levels-high)
 
 cast-make-at-2 : tie.Need-cast-make-at-2
 cast-make-at-2 c =
@@ -64,7 +64,7 @@ cast-make-at-2 c =
     let z : made p n l .refusal ≡ 0 = omega (arith, e, c .before .before .before .if1 .left) in
     let t = made-sizes p n l z in
     let k = some-length p n (outside-not p n l z .0) (outside-not p n l z .1) in
-    omega (arith, t .processors-high, t .entries-high, t .levels-high)
+    omega (arith, t .processors-high, t .nodes-high, t .levels-high)
 
 cast-make-at-3 : tie.Need-cast-make-at-3
 cast-make-at-3 c =
@@ -77,7 +77,7 @@ cast-make-at-3 c =
     let z : made p n l .refusal ≡ 0 = omega (arith, e, c .before .before .before .if1 .left) in
     let t = made-sizes p n l z in
     let k = some-length p n (outside-not p n l z .0) (outside-not p n l z .1) in
-    omega (arith, t .processors-high, t .entries-high, t .levels-high)
+    omega (arith, t .processors-high, t .nodes-high, t .levels-high)
 
 make-at-requires : tie.Need-make-at-requires
 make-at-requires c κs =
@@ -94,8 +94,8 @@ make-at-requires c κs =
           ∙ sym k,
       t .processors-low,
       t .processors-high,
-      t .entries-low,
-      t .entries-high,
+      t .nodes-low,
+      t .nodes-high,
       t .levels-low,
       t .levels-high,
     )

@@ -51,7 +51,7 @@ begin-requires c κs =
     let low = here b (s .pre) (call.DeleteMin (s .args .processor)) (sym (c .before .before .before .before .before .before .before .before .refusal-at .ensures) ∙ none-left _ (c .before .before .before .before .before .before .before .if1 .left)) in
     let B = based b (s .pre) in
     let k = c .before .before .before .tick .kept .0 in
-    (omega (arith, k, B .long, low), omega (arith, k, B .long, B .processors-high, B .entries-high))
+    (omega (arith, k, B .long, low), omega (arith, k, B .long, B .processors-high, B .nodes-high))
 
 same-length-2 : tie.Need-same-length-2
 same-length-2 c = search needs

@@ -58,7 +58,7 @@ add-tail : tie.Need-add-tail
 add-tail c =
     let s = c .before .before .before .before .before .before .before .before .before .before in
     let b = s .args .image .now in
-    let B = based b (s .pre) in omega (arith, B .entries-high)
+    let B = based b (s .pre) in omega (arith, B .nodes-high)
 
 cast-h : tie.Need-cast-h
 cast-h c =
@@ -127,7 +127,7 @@ fill-requires c κs =
     let k = c .before .before .before .tick .kept .0 in
     let x = chosen-low b _ (c .before .before .before .before .before .before .before .before .before .before .choose .ensures) in (
       omega (arith, k, x, B .long),
-      omega (arith, k, B .long, B .processors-high, B .entries-high),
+      omega (arith, k, B .long, B .processors-high, B .nodes-high),
       B .levels-high,
     )
 
@@ -144,7 +144,7 @@ begin-requires c κs =
     let low = here b (s .pre) (call.Insert (s .args .processor) (s .args .due) (s .args .item) (s .args .height)) (sym (c .before .before .before .before .before .before .before .before .before .before .before .before .before .before .before .before .before .before .refusal-at .ensures) ∙ none-left _ (c .before .before .before .before .before .before .before .before .before .before .before .before .before .before .before .before .before .if1 .left)) in
     let B = based b (s .pre) in
     let k = c .before .before .before .fill .kept .0 ∙ c .before .before .before .before .before .before .before .tick .kept .0 in
-    (omega (arith, k, B .long, low), omega (arith, k, B .long, B .processors-high, B .entries-high))
+    (omega (arith, k, B .long, low), omega (arith, k, B .long, B .processors-high, B .nodes-high))
 
 same-length-3 : tie.Need-same-length-3
 same-length-3 c = search needs

@@ -52,7 +52,7 @@ processors-pass-requires c κs =
     (rw (c .before .before .before .before .number-from .ensures)
     at (c .before .before .before .sizes-pass .ensures)) ∙ not-false _ (c .before .before .if2 .left) in
     let z = sizes-bounds (sizes (getD b 0 0) (getD b 1 0) (getD b 2 0) (number32 b 3)) ok in
-    (c .if3 .left ∙ c .before .image-length .ensures, z .processors-high, z .entries-high, z .levels-low, z .levels-high)
+    (c .if3 .left ∙ c .before .image-length .ensures, z .processors-high, z .nodes-high, z .levels-low, z .levels-high)
 
 nodes-pass-requires : tie.Need-nodes-pass-requires
 nodes-pass-requires c κs =
@@ -62,7 +62,7 @@ nodes-pass-requires c κs =
     at (c .before .before .before .before .sizes-pass .ensures))
     ∙ not-false _ (c .before .before .before .if2 .left) in
     let z = sizes-bounds (sizes (getD b 0 0) (getD b 1 0) (getD b 2 0) (number32 b 3)) ok in
-    (c .before .if3 .left ∙ c .before .before .image-length .ensures, z .processors-high, z .entries-high, z .levels-high)
+    (c .before .if3 .left ∙ c .before .before .image-length .ensures, z .processors-high, z .nodes-high, z .levels-high)
 
 both-requires : tie.Need-both-requires
 both-requires c κs = search needs
@@ -81,7 +81,7 @@ returns-4 c =
       c .before .before .processors-pass .ensures,
     )
     (all-tests b (sym ok) (c .before .before .before .if3 .left ∙ d .image-length .ensures) (z .processors-high)
-    (z .entries-high))
+    (z .nodes-high))
 
 pub passes-spec : {M : Type 1} → statement M
 passes-spec =

@@ -7,7 +7,7 @@ use Rattle.rules.specs.Calls.{processorOf, refusalOf}
 use Rattle.rules.specs.Effects.{nodeOf}
 use Rattle.rules.proofs.Allowed.{allowed}
 use Rattle.rules.proofs.Inner.{call-kept, call-told}
-use Rattle.queue_begin.proofs.Bounds.{entries-high, processors-high, processor-low, changed-low}
+use Rattle.queue_begin.proofs.Bounds.{nodes-high, processors-high, processor-low, changed-low}
 use Rattle.queue.proofs.Refused.{refused-early, refused-late, call-made}
 use borrow.Author.Needs.{needs}
 use Rattle.queue.proofs.calls.call_valid.Statement.{statement}
@@ -90,7 +90,7 @@ applied-requires c κs =
     let v = top .pre in
     let low = processor-low q (processorOf f) v (a .here) in
     let d≡ = c .decision-of .ensures in (
-      (a .ticks, entries-high q v),
+      (a .ticks, nodes-high q v),
       (
         subst (λ (k : ℕ). k < maxProcessors) (sym p) low,
         subst (λ (d : Decision). nodeOf (d .effect) < nodeSlots) (sym d≡) (changed-low q v f a),

@@ -10,7 +10,7 @@ use Rattle.record.specs.Limits.{nodeSlots, maxProcessors, maxNodes}
 use Rattle.record_check.proofs.Reading.{node-read}
 use Rattle.rules.specs.Choice.{retirement, neverUsed, longestRetired, stateOf}
 use Rattle.rules.proofs.ValidDecisions.{longest-retired-high}
-use Rattle.queue_begin.proofs.Bounds.{nodes-long, processors-long, entries-high, processors-high}
+use Rattle.queue_begin.proofs.Bounds.{nodes-long, processors-long, nodes-high, processors-high}
 use Rattle.rules.proofs.Chosen.{afterTo, chosen-never, chosen-none, chosen-retired}
 use Rattle.queue_begin.proofs.Choosing.{never-more, longest-more, after-more}
 use Rattle.queue_begin.proofs.choice.choose.Statement.{statement}
@@ -32,7 +32,7 @@ cast-end : tie.Need-cast-end Inv-loop μ-loop Inv-loop2 μ-loop2
 cast-end c = search needs
 
 loop-holds : tie.Need-loop-holds Inv-loop μ-loop Inv-loop2 μ-loop2
-loop-holds c = (entries-high (c .args .t1) (c .pre), omega arith, refl, refl, omega arith)
+loop-holds c = (nodes-high (c .args .t1) (c .pre), omega arith, refl, refl, omega arith)
 
 add-i : tie.Need-add-i Inv-loop μ-loop Inv-loop2 μ-loop2
 add-i c = search needs

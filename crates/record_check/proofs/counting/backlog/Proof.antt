@@ -47,7 +47,7 @@ loop-holds : tie.Need-loop-holds Inv-loop μ-loop
 loop-holds c =
     let q = c .before .before .args .t1 in
     let b = valid-sizes q (sym (c .before .valid .ensures) ∙ not-false _ (c .if1 .left)) in
-    (b .entries-high, omega arith, omega arith, refl)
+    (b .nodes-high, omega arith, omega arith, refl)
 
 add-i : tie.Need-add-i Inv-loop μ-loop
 add-i c = search needs

@@ -24,7 +24,7 @@ cast-fresh c =
     let e = c .before .making-refusal .ensures in
     let z : made (a .p) (a .n) (a .l) .refusal ≡ 0 = omega (arith, e, c .if1 .left) in
     let s = made-sizes (a .p) (a .n) (a .l) z in
-    omega (arith, s .processors-high, s .entries-high, s .levels-high)
+    omega (arith, s .processors-high, s .nodes-high, s .levels-high)
 
 cast-fresh-2 : tie.Need-cast-fresh-2
 cast-fresh-2 c =
@@ -32,7 +32,7 @@ cast-fresh-2 c =
     let e = c .before .making-refusal .ensures in
     let z : made (a .p) (a .n) (a .l) .refusal ≡ 0 = omega (arith, e, c .if1 .left) in
     let s = made-sizes (a .p) (a .n) (a .l) z in
-    omega (arith, s .processors-high, s .entries-high, s .levels-high)
+    omega (arith, s .processors-high, s .nodes-high, s .levels-high)
 
 cast-fresh-3 : tie.Need-cast-fresh-3
 cast-fresh-3 c =
@@ -40,7 +40,7 @@ cast-fresh-3 c =
     let e = c .before .making-refusal .ensures in
     let z : made (a .p) (a .n) (a .l) .refusal ≡ 0 = omega (arith, e, c .if1 .left) in
     let s = made-sizes (a .p) (a .n) (a .l) z in
-    omega (arith, s .processors-high, s .entries-high, s .levels-high)
+    omega (arith, s .processors-high, s .nodes-high, s .levels-high)
 
 fresh-requires : tie.Need-fresh-requires
 fresh-requires c κs =
@@ -48,7 +48,7 @@ fresh-requires c κs =
     let e = c .before .making-refusal .ensures in
     let z : made (a .p) (a .n) (a .l) .refusal ≡ 0 = omega (arith, e, c .if1 .left) in
     let s = made-sizes (a .p) (a .n) (a .l) z in
-    omega (arith, s .processors-high, s .entries-high, s .levels-high)
+    omega (arith, s .processors-high, s .nodes-high, s .levels-high)
 
 returns-2 : tie.Need-returns-2
 returns-2 c =

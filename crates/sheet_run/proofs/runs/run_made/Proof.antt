@@ -13,14 +13,14 @@ cast-p c =
     let s = (c .before .before .before .before) in
     let l = s .args .l in
     let z = made-sizes (l .first) (l .second) (l .third) (s .pre .0) in
-    omega (arith, z .processors-high, z .entries-high, z .levels-high)
+    omega (arith, z .processors-high, z .nodes-high, z .levels-high)
 
 cast-n : tie.Need-cast-n
 cast-n c =
     let s = (c .before .before .before .before .before) in
     let l = s .args .l in
     let z = made-sizes (l .first) (l .second) (l .third) (s .pre .0) in
-    omega (arith, z .processors-high, z .entries-high, z .levels-high)
+    omega (arith, z .processors-high, z .nodes-high, z .levels-high)
 
 image-length-requires : tie.Need-image-length-requires
 image-length-requires c κs = search needs
@@ -30,7 +30,7 @@ array-borrow-prefix-store c =
     let s = (c .before .before .before .before .before .before) in
     let l = s .args .l in
     let z = made-sizes (l .first) (l .second) (l .third) (s .pre .0) in
-    omega (arith, c .image-length .ensures, z .processors-high, z .entries-high)
+    omega (arith, c .image-length .ensures, z .processors-high, z .nodes-high)
 
 slice-aggregate-image : tie.Need-slice-aggregate-image
 slice-aggregate-image c =
@@ -39,7 +39,7 @@ slice-aggregate-image c =
     let z = made-sizes (l .first) (l .second) (l .third) (s .pre .0) in
     let long = c .before .image-length .ensures in
     let fits : c .before .image-length .result ≤ maxImageLength =
-    omega (arith, long, z .processors-high, z .entries-high) in
+    omega (arith, long, z .processors-high, z .nodes-high) in
     sym (length-take-le _ _ fits)
 
 cast-run-twice : tie.Need-cast-run-twice
@@ -47,7 +47,7 @@ cast-run-twice c =
     let s = (c .before .before .before .before .before .before .before .before) in
     let l = s .args .l in
     let z = made-sizes (l .first) (l .second) (l .third) (s .pre .0) in
-    omega (arith, z .processors-high, z .entries-high, z .levels-high)
+    omega (arith, z .processors-high, z .nodes-high, z .levels-high)
 
 run-twice-requires : tie.Need-run-twice-requires
 run-twice-requires c κs =
@@ -56,9 +56,9 @@ run-twice-requires c κs =
     let z = made-sizes (l .first) (l .second) (l .third) (s .pre .0) in
     let long = c .before .before .before .image-length .ensures in
     let fits : c .before .before .before .image-length .result ≤ maxImageLength =
-    omega (arith, long, z .processors-high, z .entries-high) in (
+    omega (arith, long, z .processors-high, z .nodes-high) in (
       length-take-le _ _ fits ∙ long,
-      ((z .processors-low, z .processors-high, z .entries-low, z .entries-high, z .levels-low, z .levels-high), s .pre .1),
+      ((z .processors-low, z .processors-high, z .nodes-low, z .nodes-high, z .levels-low, z .levels-high), s .pre .1),
     )
 
 same-length : tie.Need-same-length
