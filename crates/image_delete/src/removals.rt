@@ -80,7 +80,7 @@ pub fn unlink(image: &mut [u8], base: usize, p: usize) -> Answer
 }
 
 // L4.
-pub fn back(image: &mut [u8], base: usize, p: usize) -> Answer
+pub fn lead_back(image: &mut [u8], base: usize, p: usize) -> Answer
     requires { ⌜ Placed (now image) base p (removalTag (rem.LeadBack anywhere)) ⌝ }
     ensures { λ r. ⌜ Stepped (now (image .entry)) p (now (image .exit)) r ⌝ }
 {

@@ -19,7 +19,7 @@ use rules::Deed;
 use rules::Entry;
 
 // W1.
-pub fn next(image: &mut [u8], base: usize, p: usize) -> Answer
+pub fn read_next(image: &mut [u8], base: usize, p: usize) -> Answer
     requires { ⌜ Walked (now image) base p (deleteTag (del.ReadNext anywhere)) ⌝ }
     ensures { λ r. ⌜ Stepped (now (image .entry)) p (now (image .exit)) r ⌝ }
 {
@@ -40,7 +40,7 @@ pub fn next(image: &mut [u8], base: usize, p: usize) -> Answer
 }
 
 // W2.
-pub fn stamped(image: &mut [u8], base: usize, p: usize) -> Answer
+pub fn test_stamp(image: &mut [u8], base: usize, p: usize) -> Answer
     requires { ⌜ Walked (now image) base p (deleteTag (del.TestStamp anywhere)) ⌝ }
     ensures { λ r. ⌜ Stepped (now (image .entry)) p (now (image .exit)) r ⌝ }
 {
@@ -64,7 +64,7 @@ pub fn stamped(image: &mut [u8], base: usize, p: usize) -> Answer
 }
 
 // W3.
-pub fn mark(image: &mut [u8], base: usize, p: usize) -> Answer
+pub fn set_mark(image: &mut [u8], base: usize, p: usize) -> Answer
     requires { ⌜ Walked (now image) base p (deleteTag (del.SetMark anywhere)) ⌝ }
     ensures { λ r. ⌜ Stepped (now (image .entry)) p (now (image .exit)) r ⌝ }
 {

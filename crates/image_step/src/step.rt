@@ -12,17 +12,17 @@ use image::header;
 use image::layout::HEADER;
 use image::layout::PROCESSOR_BYTES;
 use image::processor;
-use image_delete::removals::back;
 use image_delete::removals::free_level;
 use image_delete::removals::free_node;
 use image_delete::removals::free_own;
 use image_delete::removals::hold_node;
 use image_delete::removals::hold_own;
+use image_delete::removals::lead_back;
 use image_delete::removals::retire;
 use image_delete::removals::unlink;
-use image_delete::walk::mark;
-use image_delete::walk::next;
-use image_delete::walk::stamped;
+use image_delete::walk::read_next;
+use image_delete::walk::set_mark;
+use image_delete::walk::test_stamp;
 use image_insert::inserts::copy;
 use image_insert::inserts::free_level as insert_free_level;
 use image_insert::inserts::free_node as insert_free_node;
@@ -55,9 +55,9 @@ fn stage_step(image: &mut [u8], base: usize, p: usize) -> Answer
         8 => return insert_free_level(image, base, p),
         9 => return insert_free_node(image, base, p),
         10 => return stamp(image, base, p),
-        11 => return next(image, base, p),
-        12 => return stamped(image, base, p),
-        13 => return mark(image, base, p),
+        11 => return read_next(image, base, p),
+        12 => return test_stamp(image, base, p),
+        13 => return set_mark(image, base, p),
         14 => return search(image, base, p, true),
         15 => return hold_node(image, base, p),
         16 => return approach(image, base, p, true),
@@ -66,7 +66,7 @@ fn stage_step(image: &mut [u8], base: usize, p: usize) -> Answer
         19 => return release(image, base, p, true),
         20 => return hold_own(image, base, p),
         21 => return unlink(image, base, p),
-        22 => return back(image, base, p),
+        22 => return lead_back(image, base, p),
         23 => return free_own(image, base, p),
         24 => return free_level(image, base, p),
         25 => return free_node(image, base, p),

@@ -168,8 +168,8 @@ returns-10 c =
     let s = c .before .before .before .before .before .before .before in
     kept-sound (s .args .image .now) (s .pre .0) (call.Step (s .args .p)) _ _ (c .before .before .stamp .ensures)
 
-next-requires : tie.Need-next-requires
-next-requires c κs =
+read-next-requires : tie.Need-read-next-requires
+read-next-requires c κs =
     let s = c .before .before .before .before in
     let b = s .args .image .now in
     walked b _ (s .args .p) 11 (s .pre .0) (s .pre .1) (s .pre .2) (s .pre .3)
@@ -181,10 +181,10 @@ same-length-11 c = search needs
 returns-11 : tie.Need-returns-11
 returns-11 c =
     let s = c .before .before .before .before .before .before .before in
-    kept-sound (s .args .image .now) (s .pre .0) (call.Step (s .args .p)) _ _ (c .before .before .next .ensures)
+    kept-sound (s .args .image .now) (s .pre .0) (call.Step (s .args .p)) _ _ (c .before .before .read-next .ensures)
 
-stamped-requires : tie.Need-stamped-requires
-stamped-requires c κs =
+test-stamp-requires : tie.Need-test-stamp-requires
+test-stamp-requires c κs =
     let s = c .before .before .before .before in
     let b = s .args .image .now in
     walked b _ (s .args .p) 12 (s .pre .0) (s .pre .1) (s .pre .2) (s .pre .3)
@@ -196,10 +196,10 @@ same-length-12 c = search needs
 returns-12 : tie.Need-returns-12
 returns-12 c =
     let s = c .before .before .before .before .before .before .before in
-    kept-sound (s .args .image .now) (s .pre .0) (call.Step (s .args .p)) _ _ (c .before .before .stamped .ensures)
+    kept-sound (s .args .image .now) (s .pre .0) (call.Step (s .args .p)) _ _ (c .before .before .test-stamp .ensures)
 
-mark-requires : tie.Need-mark-requires
-mark-requires c κs =
+set-mark-requires : tie.Need-set-mark-requires
+set-mark-requires c κs =
     let s = c .before .before .before .before in
     let b = s .args .image .now in
     walked b _ (s .args .p) 13 (s .pre .0) (s .pre .1) (s .pre .2) (s .pre .3)
@@ -211,7 +211,7 @@ same-length-13 c = search needs
 returns-13 : tie.Need-returns-13
 returns-13 c =
     let s = c .before .before .before .before .before .before .before in
-    kept-sound (s .args .image .now) (s .pre .0) (call.Step (s .args .p)) _ _ (c .before .before .mark .ensures)
+    kept-sound (s .args .image .now) (s .pre .0) (call.Step (s .args .p)) _ _ (c .before .before .set-mark .ensures)
 
 search-requires-2 : tie.Need-search-requires-2
 search-requires-2 c κs =
@@ -333,8 +333,8 @@ returns-21 c =
     let s = c .before .before .before .before .before .before .before in
     kept-sound (s .args .image .now) (s .pre .0) (call.Step (s .args .p)) _ _ (c .before .before .unlink .ensures)
 
-back-requires : tie.Need-back-requires
-back-requires c κs =
+lead-back-requires : tie.Need-lead-back-requires
+lead-back-requires c κs =
     let s = c .before .before .before .before in
     let b = s .args .image .now in
     placed b _ (s .args .p) 22 (s .pre .0) (s .pre .1) (s .pre .2) (s .pre .3)
@@ -346,7 +346,7 @@ same-length-22 c = search needs
 returns-22 : tie.Need-returns-22
 returns-22 c =
     let s = c .before .before .before .before .before .before .before in
-    kept-sound (s .args .image .now) (s .pre .0) (call.Step (s .args .p)) _ _ (c .before .before .back .ensures)
+    kept-sound (s .args .image .now) (s .pre .0) (call.Step (s .args .p)) _ _ (c .before .before .lead-back .ensures)
 
 free-own-requires : tie.Need-free-own-requires
 free-own-requires c κs =
@@ -454,13 +454,13 @@ stage-step-spec =
     stamp-requires
     same-length-10
     returns-10
-    next-requires
+    read-next-requires
     same-length-11
     returns-11
-    stamped-requires
+    test-stamp-requires
     same-length-12
     returns-12
-    mark-requires
+    set-mark-requires
     same-length-13
     returns-13
     search-requires-2
@@ -487,7 +487,7 @@ stage-step-spec =
     unlink-requires
     same-length-21
     returns-21
-    back-requires
+    lead-back-requires
     same-length-22
     returns-22
     free-own-requires

@@ -1,8 +1,8 @@
 use mathlib.Core.Path.{refl}
 use Rattle.image_delete.proofs.Steps.{stamp-none, stamp-late, stamp-early}
 use borrow.Author.Needs.{needs}
-use Rattle.image_delete.proofs.walk.stamped.Statement.{statement}
-use Rattle.image_delete.proofs.walk.stamped.Tie as tie
+use Rattle.image_delete.proofs.walk.test_stamp.Statement.{statement}
+use Rattle.image_delete.proofs.walk.test_stamp.Tie as tie
 
 mul-at : tie.Need-mul-at
 mul-at c = search needs
@@ -89,8 +89,8 @@ returns-3 c =
     let s = c .before .before .before .before .before .before .before .before .before .before .before .before .before in
     stamp-early (s .args .image .now) (s .args .base) (s .args .p) (s .pre) _ _ (c .before .if1 .left) (rw (c .before .before .before .before .before .before .before .before .before .number-from .ensures, c .before .before .before .before .before .before .number-from2 .ensures) at (c .if2 .left)) (simp (c .before .before .before .before .tick .ensures)) refl
 
-pub stamped-spec : {M : Type 1} → statement M
-stamped-spec =
+pub test-stamp-spec : {M : Type 1} → statement M
+test-stamp-spec =
     tie.close
     (tie.spec
     mul-at

@@ -3,8 +3,8 @@ use native.Mathlib.Omega.{arith}
 use lib.ListN.{length-set}
 use Rattle.image_delete.proofs.Steps.{leads-back}
 use borrow.Author.Needs.{needs}
-use Rattle.image_delete.proofs.removals.back.Statement.{statement}
-use Rattle.image_delete.proofs.removals.back.Tie as tie
+use Rattle.image_delete.proofs.removals.lead_back.Statement.{statement}
+use Rattle.image_delete.proofs.removals.lead_back.Tie as tie
 
 mul-at : tie.Need-mul-at
 mul-at c = search needs
@@ -69,8 +69,8 @@ returns c =
     leads-back (s .args .image .now) (s .args .base) (s .args .p) (s .pre) _ _
     (simp (c .before .before .tick .ensures)) refl
 
-pub back-spec : {M : Type 1} → statement M
-back-spec =
+pub lead-back-spec : {M : Type 1} → statement M
+lead-back-spec =
     tie.close
     (tie.spec
     mul-at

@@ -3,8 +3,8 @@ use native.Mathlib.Omega.{arith}
 use lib.ListN.{length-set}
 use Rattle.image_delete.proofs.Steps.{walks-empty, walks-on}
 use borrow.Author.Needs.{needs}
-use Rattle.image_delete.proofs.walk.next.Statement.{statement}
-use Rattle.image_delete.proofs.walk.next.Tie as tie
+use Rattle.image_delete.proofs.walk.read_next.Statement.{statement}
+use Rattle.image_delete.proofs.walk.read_next.Tie as tie
 
 mul-at : tie.Need-mul-at
 mul-at c = search needs
@@ -91,8 +91,8 @@ returns-2 c =
     walks-on (s .args .image .now) (s .args .base) (s .args .p) (s .pre) _ _ (c .if1 .left)
     (simp (c .before .before .before .tick .ensures)) refl
 
-pub next-spec : {M : Type 1} → statement M
-next-spec =
+pub read-next-spec : {M : Type 1} → statement M
+read-next-spec =
     tie.close
     (tie.spec
     mul-at

@@ -3,8 +3,8 @@ use native.Mathlib.Omega.{arith}
 use lib.ListN.{length-set}
 use Rattle.image_delete.proofs.Steps.{mark-set, marks}
 use borrow.Author.Needs.{needs}
-use Rattle.image_delete.proofs.walk.mark.Statement.{statement}
-use Rattle.image_delete.proofs.walk.mark.Tie as tie
+use Rattle.image_delete.proofs.walk.set_mark.Statement.{statement}
+use Rattle.image_delete.proofs.walk.set_mark.Tie as tie
 
 mul-at : tie.Need-mul-at
 mul-at c = search needs
@@ -114,8 +114,8 @@ returns-2 c =
     let s = c .before .before .before .before .before .before .before .before .before .before .before .before .before .before .before in
     marks (s .args .image .now) (s .args .base) (s .args .p) (s .pre) _ _ (c .before .before .before .before .before .before .before .before .before .before .if1 .left) (simp (c .before .before .tick2 .ensures)) (simp (c .before .before .before .before .before .before .before .before .number-from .ensures, c .before .before .before .before .before .before .number-from2 .ensures, c .before .before .before .before .number-from3 .ensures))
 
-pub mark-spec : {M : Type 1} → statement M
-mark-spec =
+pub set-mark-spec : {M : Type 1} → statement M
+set-mark-spec =
     tie.close
     (tie.spec
     mul-at
