@@ -1,4 +1,4 @@
--- What each stage of a Delete_Min stores is what the definition says. Assumes nothing.
+-- What each stage of a Delete_Min's walk stores is what the definition says. Assumes nothing.
 use mathlib.Core.Path.{_≡_, refl, _∙_, ap}
 use mathlib.Core.Bool.{Bool, true, false, cond}
 use mathlib.Core.List.{List, [], _∷_, _++_}
@@ -6,19 +6,16 @@ use Prim.Native.Nat.{ℕ, _+_, _*_, _-_, _≤_, _<_}
 use native.Mathlib.Omega.{arith}
 use lib.Dec.{ltb, eqb}
 use lib.ListN.{getD}
-use borrow.Author.Tests.{le-leb, lt-leb, eq-eqb, ne-eqb, lt-ltb, le-ltb}
+use borrow.Author.Tests.{eq-eqb, ne-eqb, lt-ltb, le-ltb}
 use Rattle.record.specs.declared.nodes.Node.{Node}
 use Rattle.record.specs.declared.queues.Processor.{Processor}
-use Rattle.record.specs.declared.stages.Seek.the-variants as seek
 use Rattle.record.specs.declared.nodes.Stamp.the-variants as stamp
-use Rattle.record.specs.declared.stages.Removal.{Removal}
 use Rattle.record.specs.declared.stages.Removal.the-variants as rem
 use Rattle.record.specs.declared.stages.Job.the-variants as jobs
 use Rattle.record.specs.declared.stages.Delete.the-variants as del
-use Rattle.record.specs.declared.stages.Stage.{Stage}
 use Rattle.record.specs.declared.stages.Stage.the-variants as stage
-use Rattle.record.specs.Nodes.{forwardAt, lockAt, stampedBefore}
-use Rattle.record.specs.Queues.{nodeAt, processorAt, savedAt}
+use Rattle.record.specs.Nodes.{stampedBefore}
+use Rattle.record.specs.Queues.{nodeAt, processorAt}
 use Rattle.record.specs.Stages.{place}
 use Rattle.image.specs.Tags.{timed, stampOf}
 use Rattle.image.specs.Numbers.{number32}
@@ -28,76 +25,18 @@ use Rattle.rules.specs.declared.answers.Answer.the-variants as ans
 use Rattle.rules.specs.declared.answers.Deed.the-variants as deed
 use Rattle.rules.specs.declared.decisions.Effect.the-variants as eff
 use Rattle.rules.specs.Calls.{nextOf, stepViewOf}
-use Rattle.rules.specs.Decide.{moved, waits, answers, removing}
+use Rattle.rules.specs.Decide.{moved, answers, removing}
 use Rattle.image.specs.Puts.{puts, four, piece, clears, rests}
 use Rattle.image.specs.Image.{queueIn}
 use Rattle.image_parts.specs.Given.{Stepped}
-use Rattle.image.proofs.Fields.{number, nodeFrom, node-is, processor-is, eight-at, number-at}
-use Rattle.image_parts.specs.Ready.{Placed, Owned, Walked}
-use Rattle.image_parts.proofs.Pieces.{moves, put-forward, put-lock, put-holder, put-mark}
-use Rattle.image_parts.proofs.Pieces.{put-retired, put-idle}
+use Rattle.image.proofs.Fields.{number, nodeFrom, node-is, processor-is, number-at}
+use Rattle.image_parts.specs.Ready.{Walked}
+use Rattle.image_parts.proofs.Pieces.{moves, put-mark}
+use Rattle.image_parts.proofs.Pieces.{put-idle}
 use Rattle.rules.specs.declared.decisions.ProcessorChange.the-variants as change
 use Rattle.image.proofs.Sizes.{sized-in}
-use Rattle.image_parts.proofs.Readings.{mine, arm, clock-is, levels-is, clears-below, own-is}
-use Rattle.image_parts.proofs.Readings.{mine-is, own-low, entryIn, entry-is}
-
--- a stage of a Delete_Min's removal
-abbrev deliver : Removal → Stage
-deliver r = removing jobs.Deliver r
-
--- what the stages of a removal read besides
-module _ (b : List ℕ) (base p tag : ℕ) (r : Placed b base p tag) where
-  own-lock-is : lockAt (nodeAt (queueIn b) (processorAt (queueIn b) p .own)) (mine b p 7)
-      ≡ getD b (base + 41 * mine b p 4 + (8 + (mine b p 7 - 1))) 0
-  own-lock-is =
-      let k = mine b p 7 - 1 in
-      ap (λ (x : ℕ). lockAt (nodeAt (queueIn b) x) (mine b p 7)) (own-is b base p tag r)
-      ∙ ap (λ (n : Node). getD (n .levelLocks) k 0)
-      (node-is b base (r .start) (r .nodes-high) (mine b p 4)
-      (omega (arith, r .own-high, r .nodes-high)))
-      ∙ eight-at (piece b (base + 41 * mine b p 4)) 8 k (omega (arith, r .level-low, r .level-high))
-
-  onward-is : forwardAt (nodeAt (queueIn b) (processorAt (queueIn b) p .own)) (mine b p 7)
-      ≡ getD b (base + 41 * mine b p 4 + (mine b p 7 - 1)) 0
-  onward-is =
-      let k = mine b p 7 - 1 in
-      let z : 0 + k ≡ k = omega arith in
-      ap (λ (x : ℕ). forwardAt (nodeAt (queueIn b) x) (mine b p 7)) (own-is b base p tag r)
-      ∙ ap (λ (n : Node). getD (n .forward) k 0)
-      (node-is b base (r .start) (r .nodes-high) (mine b p 4)
-      (omega (arith, r .own-high, r .nodes-high)))
-      ∙ eight-at (piece b (base + 41 * mine b p 4)) 0 k (omega (arith, r .level-low, r .level-high))
-      ∙ ap (piece b (base + 41 * mine b p 4)) z
-
-  down-is : savedAt (processorAt (queueIn b) p) (mine b p 7 - 1)
-      ≡ mine b p (9 + (mine b p 7 - 1 - 1))
-  down-is =
-      ap (λ (c : Processor). getD (c .saved) (mine b p 7 - 1 - 1) 0)
-      (processor-is b p (r .processors-high) (r .low))
-      ∙ eight-at (piece b (7 + 17 * p)) 9 (mine b p 7 - 1 - 1)
-      (omega (arith, r .level-low, r .level-high))
-
-module _ (b : List ℕ) (base p tag : ℕ) (r : Owned b base p tag) where
-  tall-is : nodeAt (queueIn b) (processorAt (queueIn b) p .own) .height
-      ≡ getD b (base + 41 * mine b p 4 + 35) 0
-  tall-is =
-      ap (λ (x : ℕ). nodeAt (queueIn b) x .height) (mine-is b base p tag r)
-      ∙ ap (λ (n : Node). n .height)
-      (node-is b base (r .start) (r .nodes-high) (mine b p 4) (own-low b base p tag r))
-
-  holder-is : nodeAt (queueIn b) (processorAt (queueIn b) p .own) .nodeLock
-      ≡ getD b (base + 41 * mine b p 4 + 16) 0
-  holder-is =
-      ap (λ (x : ℕ). nodeAt (queueIn b) x .nodeLock) (mine-is b base p tag r)
-      ∙ ap (λ (n : Node). n .nodeLock)
-      (node-is b base (r .start) (r .nodes-high) (mine b p 4) (own-low b base p tag r))
-
-  top-is : savedAt (processorAt (queueIn b) p) (getD b (base + 41 * mine b p 4 + 35) 0)
-      ≡ mine b p (9 + (getD b (base + 41 * mine b p 4 + 35) 0 - 1))
-  top-is =
-      let k = getD b (base + 41 * mine b p 4 + 35) 0 - 1 in
-      ap (λ (c : Processor). getD (c .saved) k 0) (processor-is b p (r .processors-high) (r .low))
-      ∙ eight-at (piece b (7 + 17 * p)) 9 k (omega (arith, r .height-low, r .height-high))
+use Rattle.image_parts.proofs.Readings.{mine, arm, levels-is, clears-below}
+use Rattle.image_parts.proofs.Readings.{entryIn, entry-is}
 
 stamped-cases : (t u g : ℕ) → stampedBefore (stampOf (timed t u)) g ≡ cond (eqb t 1) (ltb u g) false
 stamped-cases t u g = go (eqb t 1)
@@ -285,7 +224,7 @@ module _ (b : List ℕ) (base p : ℕ) (r : Walked b base p 13) (after : List �
       (record {
         effect = eff.Mark (mine b p 6);
         stage =
-            deliver (rem.Search (place 0 (getD b 2 0)));
+            removing jobs.Deliver (rem.Search (place 0 (getD b 2 0)));
         own = mine b p 6;
         change =
             change.Keep;
@@ -302,298 +241,3 @@ module _ (b : List ℕ) (base p : ℕ) (r : Walked b base p 13) (after : List �
       (omega (arith, r .node-low)) (omega arith, tt)
       (omega arith, (omega arith, (omega arith, (omega arith, tt))))
       (put-mark (nodeAt q (mine b p 6))) (refl) after e answer f
-
--- L1
-module _ (b : List ℕ) (base p : ℕ) (r : Owned b base p 15) (after : List ℕ) (answer : Answer) where
-  pub holds-node :
-      getD b (base + 41 * mine b p 4 + 16) 0 ≡ 0 →
-      after ≡ puts
-      (puts (puts b 0 (four 3 (number32 b 3 + 1))) (base + 41 * mine b p 4) ((16, p + 1) ∷ []))
-      (7 + 17 * p)
-      ((5, 16) ∷ (6, mine b p (9 + (getD b (base + 41 * mine b p 4 + 35) 0 - 1))) ∷
-      (7, getD b (base + 41 * mine b p 4 + 35) 0) ∷ []) →
-      answer ≡ ans.Moved →
-      Stepped b p after answer
-  unfolding processorImage
-  holds-node h e f =
-      let q = queueIn b in
-      let c = processorAt q p in
-      let s = stepViewOf q c (place 0 1) in
-      arm b base p 15 (r .sound) (r .start) (r .nodes-high) (r .processors-high) (r .low)
-      (r .few) (r .early) (r .tagged) (deliver (rem.HoldNode)) refl refl
-      (moved s (eff.HoldNode (mine b p 4))
-      (deliver
-      (rem.Seek
-      (seek.Approach
-      (place (mine b p (9 + (getD b (base + 41 * mine b p 4 + 35) 0 - 1)))
-      (getD b (base + 41 * mine b p 4 + 35) 0))))))
-      (rw (
-        holder-is b base p 15 r,
-        eq-eqb _ _ h,
-        tall-is b base p 15 r,
-        top-is b base p 15 r,
-        mine-is b base p 15 r,
-      ) refl)
-      ((16, p + 1) ∷ [])
-      ((5, 16) ∷ (6, mine b p (9 + (getD b (base + 41 * mine b p 4 + 35) 0 - 1))) ∷
-      (7, getD b (base + 41 * mine b p 4 + 35) 0) ∷ []) (own-low b base p 15 r)
-      (omega arith, tt) (omega arith, (omega arith, (omega arith, tt)))
-      (put-holder (nodeAt q (mine b p 4)) (p + 1)) (refl) after e answer f
-
-  pub node-waits :
-      (getD b (base + 41 * mine b p 4 + 16) 0 ≡ 0 → ⊥) →
-      after ≡ puts (puts b 0 (four 3 (number32 b 3 + 1))) (7 + 17 * p) ([]) →
-      answer ≡ ans.Waits →
-      Stepped b p after answer
-  unfolding processorImage
-  node-waits h e f =
-      let q = queueIn b in
-      let c = processorAt q p in
-      let s = stepViewOf q c (place 0 1) in
-      arm b base p 15 (r .sound) (r .start) (r .nodes-high) (r .processors-high) (r .low)
-      (r .few) (r .early) (r .tagged) (deliver (rem.HoldNode)) refl refl
-      (waits s (deliver (rem.HoldNode))) (rw (holder-is b base p 15 r, ne-eqb _ _ h) refl)
-      ([]) ([]) (omega arith) tt tt
-      (refl) (refl) after e answer f
-
--- L2
-module _ (b : List ℕ) (base p : ℕ) (r : Placed b base p 20) (after : List ℕ) (answer : Answer) where
-  pub holds-own :
-      getD b (base + 41 * mine b p 4 + (8 + (mine b p 7 - 1))) 0 ≡ 0 →
-      after ≡ puts
-      (puts (puts b 0 (four 3 (number32 b 3 + 1))) (base + 41 * mine b p 4)
-      ((8 + (mine b p 7 - 1), p + 1) ∷ [])) (7 + 17 * p) ((5, 21) ∷ []) →
-      answer ≡ ans.Moved →
-      Stepped b p after answer
-  unfolding processorImage
-  holds-own h e f =
-      let q = queueIn b in
-      let c = processorAt q p in
-      let a = place (mine b p 6) (mine b p 7) in
-      let k = mine b p 7 - 1 in
-      let s = stepViewOf q c a in
-      let k< : k < 8 = omega (arith, r .level-high, r .level-low) in
-      arm b base p 20 (r .sound) (r .start) (r .nodes-high) (r .processors-high) (r .low)
-      (r .few) (r .early) (r .tagged) (deliver (rem.HoldOwn a)) refl refl
-      (moved s (eff.HoldLevel (place (mine b p 4) (mine b p 7))) (deliver (rem.Unlink a)))
-      (rw (own-lock-is b base p 20 r, eq-eqb _ 0 h, own-is b base p 20 r) refl)
-      ((8 + k, p + 1) ∷ []) ((5, 21) ∷ []) (omega (arith, r .own-high, r .nodes-high))
-      (omega arith, tt) (omega arith, tt)
-      (put-lock (nodeAt q (mine b p 4)) (mine b p 7 - 1) (p + 1) [] k<
-      (sized-in b .locks-long (mine b p 4) (omega (arith, r .own-high, r .nodes-high))))
-      (refl) after e answer f
-
-  pub own-waits :
-      (getD b (base + 41 * mine b p 4 + (8 + (mine b p 7 - 1))) 0 ≡ 0 → ⊥) →
-      after ≡ puts (puts b 0 (four 3 (number32 b 3 + 1))) (7 + 17 * p) ([]) →
-      answer ≡ ans.Waits →
-      Stepped b p after answer
-  unfolding processorImage
-  own-waits h e f =
-      let q = queueIn b in
-      let c = processorAt q p in
-      let a = place (mine b p 6) (mine b p 7) in
-      let k = mine b p 7 - 1 in
-      let s = stepViewOf q c a in
-      let k< : k < 8 = omega (arith, r .level-high, r .level-low) in
-      arm b base p 20 (r .sound) (r .start) (r .nodes-high) (r .processors-high) (r .low)
-      (r .few) (r .early) (r .tagged) (deliver (rem.HoldOwn a)) refl refl
-      (waits s (deliver (rem.HoldOwn a))) (rw (own-lock-is b base p 20 r, ne-eqb _ 0 h) refl)
-      ([]) ([]) (omega arith) tt tt
-      (refl) (refl) after e answer f
-
--- L3
-module _ (b : List ℕ) (base p : ℕ) (r : Placed b base p 21) (after : List ℕ) (answer : Answer) where
-  pub unlinks :
-      after ≡ puts
-      (puts (puts b 0 (four 3 (number32 b 3 + 1))) (base + 41 * mine b p 6)
-      ((mine b p 7 - 1, getD b (base + 41 * mine b p 4 + (mine b p 7 - 1)) 0) ∷ []))
-      (7 + 17 * p) ((5, 22) ∷ []) →
-      answer ≡ ans.Moved →
-      Stepped b p after answer
-  unfolding processorImage
-  unlinks e f =
-      let q = queueIn b in
-      let c = processorAt q p in
-      let a = place (mine b p 6) (mine b p 7) in
-      let k = mine b p 7 - 1 in
-      let s = stepViewOf q c a in
-      let k< : k < 8 = omega (arith, r .level-high, r .level-low) in
-      arm b base p 21 (r .sound) (r .start) (r .nodes-high) (r .processors-high) (r .low)
-      (r .few) (r .early) (r .tagged) (deliver (rem.Unlink a)) refl refl
-      (moved s (eff.SetForward a (getD b (base + 41 * mine b p 4 + (mine b p 7 - 1)) 0))
-      (deliver (rem.LeadBack a))) (rw (onward-is b base p 21 r) refl)
-      ((k, getD b (base + 41 * mine b p 4 + (mine b p 7 - 1)) 0) ∷ []) ((5, 22) ∷ [])
-      (omega (arith, r .node-low)) (omega arith, tt) (omega arith, tt)
-      (put-forward (nodeAt q (mine b p 6)) (mine b p 7 - 1)
-      (getD b (base + 41 * mine b p 4 + (mine b p 7 - 1)) 0) [] k<
-      (sized-in b .forward-long (mine b p 6) (omega (arith, r .node-low)))) (refl) after e
-      answer f
-
--- L4
-module _ (b : List ℕ) (base p : ℕ) (r : Placed b base p 22) (after : List ℕ) (answer : Answer) where
-  pub leads-back :
-      after ≡ puts
-      (puts (puts b 0 (four 3 (number32 b 3 + 1))) (base + 41 * mine b p 4)
-      ((mine b p 7 - 1, mine b p 6) ∷ [])) (7 + 17 * p) ((5, 23) ∷ []) →
-      answer ≡ ans.Moved →
-      Stepped b p after answer
-  unfolding processorImage
-  leads-back e f =
-      let q = queueIn b in
-      let c = processorAt q p in
-      let a = place (mine b p 6) (mine b p 7) in
-      let k = mine b p 7 - 1 in
-      let s = stepViewOf q c a in
-      let k< : k < 8 = omega (arith, r .level-high, r .level-low) in
-      arm b base p 22 (r .sound) (r .start) (r .nodes-high) (r .processors-high) (r .low)
-      (r .few) (r .early) (r .tagged) (deliver (rem.LeadBack a)) refl refl
-      (moved s (eff.SetForward (place (mine b p 4) (mine b p 7)) (mine b p 6))
-      (deliver (rem.FreeOwn a))) (rw (own-is b base p 22 r) refl)
-      ((k, mine b p 6) ∷ []) ((5, 23) ∷ []) (omega (arith, r .own-high, r .nodes-high))
-      (omega arith, tt) (omega arith, tt)
-      (put-forward (nodeAt q (mine b p 4)) (mine b p 7 - 1) (mine b p 6) [] k<
-      (sized-in b .forward-long (mine b p 4) (omega (arith, r .own-high, r .nodes-high))))
-      (refl) after e answer f
-
--- L5
-module _ (b : List ℕ) (base p : ℕ) (r : Placed b base p 23) (after : List ℕ) (answer : Answer) where
-  pub frees-own :
-      after ≡ puts
-      (puts (puts b 0 (four 3 (number32 b 3 + 1))) (base + 41 * mine b p 4)
-      ((8 + (mine b p 7 - 1), 0) ∷ [])) (7 + 17 * p) ((5, 24) ∷ []) →
-      answer ≡ ans.Moved →
-      Stepped b p after answer
-  unfolding processorImage
-  frees-own e f =
-      let q = queueIn b in
-      let c = processorAt q p in
-      let a = place (mine b p 6) (mine b p 7) in
-      let k = mine b p 7 - 1 in
-      let s = stepViewOf q c a in
-      let k< : k < 8 = omega (arith, r .level-high, r .level-low) in
-      arm b base p 23 (r .sound) (r .start) (r .nodes-high) (r .processors-high) (r .low)
-      (r .few) (r .early) (r .tagged) (deliver (rem.FreeOwn a)) refl refl
-      (moved s (eff.FreeLevel (place (mine b p 4) (mine b p 7))) (deliver (rem.FreeLevel a)))
-      (rw (own-is b base p 23 r) refl)
-      ((8 + k, 0) ∷ []) ((5, 24) ∷ []) (omega (arith, r .own-high, r .nodes-high))
-      (omega arith, tt) (omega arith, tt)
-      (put-lock (nodeAt q (mine b p 4)) (mine b p 7 - 1) 0 [] k<
-      (sized-in b .locks-long (mine b p 4) (omega (arith, r .own-high, r .nodes-high))))
-      (refl) after e answer f
-
--- L6
-module _ (b : List ℕ) (base p : ℕ) (r : Placed b base p 24) (after : List ℕ) (answer : Answer) where
-  pub frees-last :
-      mine b p 7 ≤ 1 →
-      after ≡ puts
-      (puts (puts b 0 (four 3 (number32 b 3 + 1))) (base + 41 * mine b p 6)
-      ((8 + (mine b p 7 - 1), 0) ∷ [])) (7 + 17 * p) ((5, 25) ∷ (6, 0) ∷ (7, 0) ∷ []) →
-      answer ≡ ans.Moved →
-      Stepped b p after answer
-  unfolding processorImage
-  frees-last h e f =
-      let q = queueIn b in
-      let c = processorAt q p in
-      let a = place (mine b p 6) (mine b p 7) in
-      let k = mine b p 7 - 1 in
-      let s = stepViewOf q c a in
-      let k< : k < 8 = omega (arith, r .level-high, r .level-low) in
-      arm b base p 24 (r .sound) (r .start) (r .nodes-high) (r .processors-high) (r .low)
-      (r .few) (r .early) (r .tagged) (deliver (rem.FreeLevel a)) refl refl
-      (moved s (eff.FreeLevel a) (deliver (rem.FreeNode))) (rw (le-leb _ _ h) refl)
-      ((8 + k, 0) ∷ []) ((5, 25) ∷ (6, 0) ∷ (7, 0) ∷ []) (omega (arith, r .node-low))
-      (omega arith, tt) (omega arith, (omega arith, (omega arith, tt)))
-      (put-lock (nodeAt q (mine b p 6)) (mine b p 7 - 1) 0 [] k<
-      (sized-in b .locks-long (mine b p 6) (omega (arith, r .node-low)))) (refl) after e answer
-      f
-
-  pub frees-down :
-      1 < mine b p 7 →
-      after ≡ puts
-      (puts (puts b 0 (four 3 (number32 b 3 + 1))) (base + 41 * mine b p 6)
-      ((8 + (mine b p 7 - 1), 0) ∷ [])) (7 + 17 * p)
-      ((5, 16) ∷ (6, mine b p (9 + ((mine b p 7 - 1) - 1))) ∷ (7, (mine b p 7 - 1)) ∷ []) →
-      answer ≡ ans.Moved →
-      Stepped b p after answer
-  unfolding processorImage
-  frees-down h e f =
-      let q = queueIn b in
-      let c = processorAt q p in
-      let a = place (mine b p 6) (mine b p 7) in
-      let k = mine b p 7 - 1 in
-      let s = stepViewOf q c a in
-      let k< : k < 8 = omega (arith, r .level-high, r .level-low) in
-      arm b base p 24 (r .sound) (r .start) (r .nodes-high) (r .processors-high) (r .low)
-      (r .few) (r .early) (r .tagged) (deliver (rem.FreeLevel a)) refl refl
-      (moved s (eff.FreeLevel a)
-      (deliver
-      (rem.Seek
-      (seek.Approach (place (mine b p (9 + (mine b p 7 - 1 - 1))) (mine b p 7 - 1))))))
-      (rw (lt-leb _ _ h, down-is b base p 24 r) refl)
-      ((8 + k, 0) ∷ []) ((5, 16) ∷ (6, mine b p (9 + (k - 1))) ∷ (7, k) ∷ [])
-      (omega (arith, r .node-low)) (omega arith, tt)
-      (omega arith, (omega arith, (omega arith, tt)))
-      (put-lock (nodeAt q (mine b p 6)) (mine b p 7 - 1) 0 [] k<
-      (sized-in b .locks-long (mine b p 6) (omega (arith, r .node-low)))) (refl) after e answer
-      f
-
--- L7
-module _ (b : List ℕ) (base p : ℕ) (r : Owned b base p 25) (after : List ℕ) (answer : Answer) where
-  pub frees-node :
-      after ≡ puts
-      (puts (puts b 0 (four 3 (number32 b 3 + 1))) (base + 41 * mine b p 4) ((16, 0) ∷ []))
-      (7 + 17 * p) ((5, 26) ∷ []) →
-      answer ≡ ans.Moved →
-      Stepped b p after answer
-  unfolding processorImage
-  frees-node e f =
-      let q = queueIn b in
-      let c = processorAt q p in
-      let s = stepViewOf q c (place 0 1) in
-      arm b base p 25 (r .sound) (r .start) (r .nodes-high) (r .processors-high) (r .low)
-      (r .few) (r .early) (r .tagged) (deliver (rem.FreeNode)) refl refl
-      (moved s (eff.FreeNode (mine b p 4)) (deliver (rem.Retire)))
-      (rw (mine-is b base p 25 r) refl)
-      ((16, 0) ∷ []) ((5, 26) ∷ []) (own-low b base p 25 r) (omega arith, tt) (omega arith, tt)
-      (put-holder (nodeAt q (mine b p 4)) 0) (refl) after e answer f
-
--- L8
-module _ (b : List ℕ) (base p : ℕ) (r : Owned b base p 26) (after : List ℕ) (answer : Answer) where
-  pub retires :
-      after ≡ puts
-      (puts (puts b 0 (four 3 (number32 b 3 + 1))) (base + 41 * mine b p 4)
-      ((36, 2) ∷ four 37 (number32 b 3 + 1))) (7 + 17 * p) (clears (getD b 2 0) ++ rests) →
-      answer ≡ ans.Did deed.HandedOut (entryIn b (base + 41 * mine b p 4)) →
-      Stepped b p after answer
-  retires e f =
-      let q = queueIn b in
-      let c = processorAt q p in
-      let s = stepViewOf q c (place 0 1) in
-      arm b base p 26 (r .sound) (r .start) (r .nodes-high) (r .processors-high) (r .low)
-      (r .few) (r .early) (r .tagged) (deliver (rem.Retire)) refl refl
-      (answers (eff.Retire (mine b p 4)) (ans.Did deed.HandedOut (entryIn b (base + 41 * mine b p 4))))
-      (rw (
-        mine-is b base p 26 r,
-        entry-is b base (r .start) (r .nodes-high) (mine b p 4)
-            (own-low b base p 26 r),
-      ) refl)
-      ((36, 2) ∷ four 37 (number32 b 3 + 1)) (clears (getD b 2 0) ++ rests) (own-low b base p 26 r)
-      (omega arith, (omega arith, (omega arith, (omega arith, (omega arith, tt)))))
-      (clears-below (getD b 2 0) rests (r .levels-high) (
-        omega arith,
-        (
-          omega arith,
-          (
-            omega arith,
-            (
-              omega arith,
-              (omega arith, (omega arith, (omega arith, (omega arith, (omega arith, tt))))),
-            ),
-          ),
-        ),
-      ))
-      (rw (clock-is b) (put-retired (nodeAt q (mine b p 4)) (number32 b 3 + 1)))
-      (rw (levels-is b)
-      (put-idle (moves c (deliver (rem.Retire)) (c .saved)) (getD b 2 0)
-      (sized-in b .saved-long p (r .few)))) after e answer f

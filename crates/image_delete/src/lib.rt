@@ -1,3 +1,2 @@
-// The stages of a Delete_Min, in place.
-pub mod removals;
+// The walk of a Delete_Min, in place.
 pub mod walk;

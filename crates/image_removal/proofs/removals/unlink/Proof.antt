@@ -1,10 +1,10 @@
 use mathlib.Core.Path.{refl}
 use native.Mathlib.Omega.{arith}
 use lib.ListN.{length-set}
-use Rattle.image_delete.proofs.Steps.{leads-back}
+use Rattle.image_removal.proofs.Steps.{unlinks}
 use borrow.Author.Needs.{needs}
-use Rattle.image_delete.proofs.removals.lead_back.Statement.{statement}
-use Rattle.image_delete.proofs.removals.lead_back.Tie as tie
+use Rattle.image_removal.proofs.removals.unlink.Statement.{statement}
+use Rattle.image_removal.proofs.removals.unlink.Tie as tie
 
 mul-at : tie.Need-mul-at
 mul-at c = search needs
@@ -36,6 +36,21 @@ cast-k c = search needs
 sub-k : tie.Need-sub-k
 sub-k c = search needs
 
+cast-y : tie.Need-cast-y
+cast-y c = search needs
+
+mul-y : tie.Need-mul-y
+mul-y c = search needs
+
+add-y : tie.Need-add-y
+add-y c = search needs
+
+add-y-2 : tie.Need-add-y-2
+add-y-2 c = search needs
+
+slice-read-y : tie.Need-slice-read-y
+slice-read-y c = search needs
+
 tick-requires : tie.Need-tick-requires
 tick-requires c κs = search needs
 
@@ -65,12 +80,12 @@ same-length c = search needs
 
 returns : tie.Need-returns
 returns c =
-    let s = c .before .before .before .before .before .before .before .before in
-    leads-back (s .args .image .now) (s .args .base) (s .args .p) (s .pre) _ _
+    let s = c .before .before .before .before .before .before .before .before .before in
+    unlinks (s .args .image .now) (s .args .base) (s .args .p) (s .pre) _ _
     (simp (c .before .before .tick .ensures)) refl
 
-pub lead-back-spec : {M : Type 1} → statement M
-lead-back-spec =
+pub unlink-spec : {M : Type 1} → statement M
+unlink-spec =
     tie.close
     (tie.spec
     mul-at
@@ -83,6 +98,11 @@ lead-back-spec =
     slice-read-i
     cast-k
     sub-k
+    cast-y
+    mul-y
+    add-y
+    add-y-2
+    slice-read-y
     tick-requires
     cast-image
     mul-image

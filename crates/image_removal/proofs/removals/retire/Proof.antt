@@ -1,10 +1,10 @@
 use mathlib.Core.Path.{_∙_}
 use native.Mathlib.Omega.{arith}
 use lib.ListN.{length-set}
-use Rattle.image_delete.proofs.Steps.{retires}
+use Rattle.image_removal.proofs.Steps.{retires}
 use borrow.Author.Needs.{needs}
-use Rattle.image_delete.proofs.removals.retire.Statement.{statement}
-use Rattle.image_delete.proofs.removals.retire.Tie as tie
+use Rattle.image_removal.proofs.removals.retire.Statement.{statement}
+use Rattle.image_removal.proofs.removals.retire.Tie as tie
 
 mul-at : tie.Need-mul-at
 mul-at c = search needs

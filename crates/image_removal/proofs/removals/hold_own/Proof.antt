@@ -1,10 +1,10 @@
 use mathlib.Core.Path.{refl}
 use native.Mathlib.Omega.{arith}
 use lib.ListN.{length-set}
-use Rattle.image_delete.proofs.Steps.{holds-own, own-waits}
+use Rattle.image_removal.proofs.Steps.{holds-own, own-waits}
 use borrow.Author.Needs.{needs}
-use Rattle.image_delete.proofs.removals.hold_own.Statement.{statement}
-use Rattle.image_delete.proofs.removals.hold_own.Tie as tie
+use Rattle.image_removal.proofs.removals.hold_own.Statement.{statement}
+use Rattle.image_removal.proofs.removals.hold_own.Tie as tie
 
 mul-at : tie.Need-mul-at
 mul-at c = search needs

@@ -1,10 +1,10 @@
 use mathlib.Core.Path.{refl}
 use native.Mathlib.Omega.{arith}
 use lib.ListN.{length-set}
-use Rattle.image_delete.proofs.Steps.{holds-node, node-waits}
+use Rattle.image_removal.proofs.Steps.{holds-node, node-waits}
 use borrow.Author.Needs.{needs}
-use Rattle.image_delete.proofs.removals.hold_node.Statement.{statement}
-use Rattle.image_delete.proofs.removals.hold_node.Tie as tie
+use Rattle.image_removal.proofs.removals.hold_node.Statement.{statement}
+use Rattle.image_removal.proofs.removals.hold_node.Tie as tie
 
 mul-at : tie.Need-mul-at
 mul-at c = search needs

@@ -1,10 +1,10 @@
 use mathlib.Core.Path.{refl}
 use native.Mathlib.Omega.{arith}
 use lib.ListN.{length-set}
-use Rattle.image_delete.proofs.Steps.{unlinks}
+use Rattle.image_removal.proofs.Steps.{frees-own}
 use borrow.Author.Needs.{needs}
-use Rattle.image_delete.proofs.removals.unlink.Statement.{statement}
-use Rattle.image_delete.proofs.removals.unlink.Tie as tie
+use Rattle.image_removal.proofs.removals.free_own.Statement.{statement}
+use Rattle.image_removal.proofs.removals.free_own.Tie as tie
 
 mul-at : tie.Need-mul-at
 mul-at c = search needs
@@ -18,12 +18,6 @@ add-own c = search needs
 slice-read-own : tie.Need-slice-read-own
 slice-read-own c = search needs
 
-add-a : tie.Need-add-a
-add-a c = search needs
-
-slice-read-a : tie.Need-slice-read-a
-slice-read-a c = search needs
-
 add-i : tie.Need-add-i
 add-i c = search needs
 
@@ -35,21 +29,6 @@ cast-k c = search needs
 
 sub-k : tie.Need-sub-k
 sub-k c = search needs
-
-cast-y : tie.Need-cast-y
-cast-y c = search needs
-
-mul-y : tie.Need-mul-y
-mul-y c = search needs
-
-add-y : tie.Need-add-y
-add-y c = search needs
-
-add-y-2 : tie.Need-add-y-2
-add-y-2 c = search needs
-
-slice-read-y : tie.Need-slice-read-y
-slice-read-y c = search needs
 
 tick-requires : tie.Need-tick-requires
 tick-requires c κs = search needs
@@ -66,11 +45,14 @@ add-image c = search needs
 add-image-2 : tie.Need-add-image-2
 add-image-2 c = search needs
 
+add-image-3 : tie.Need-add-image-3
+add-image-3 c = search needs
+
 slice-write-image : tie.Need-slice-write-image
 slice-write-image c = search needs
 
-add-image-3 : tie.Need-add-image-3
-add-image-3 c = search needs
+add-image-4 : tie.Need-add-image-4
+add-image-4 c = search needs
 
 slice-write-image-2 : tie.Need-slice-write-image-2
 slice-write-image-2 c = simp length-set (omega arith)
@@ -80,36 +62,30 @@ same-length c = search needs
 
 returns : tie.Need-returns
 returns c =
-    let s = c .before .before .before .before .before .before .before .before .before in
-    unlinks (s .args .image .now) (s .args .base) (s .args .p) (s .pre) _ _
+    let s = c .before .before .before .before .before .before .before in
+    frees-own (s .args .image .now) (s .args .base) (s .args .p) (s .pre) _ _
     (simp (c .before .before .tick .ensures)) refl
 
-pub unlink-spec : {M : Type 1} → statement M
-unlink-spec =
+pub free-own-spec : {M : Type 1} → statement M
+free-own-spec =
     tie.close
     (tie.spec
     mul-at
     add-at
     add-own
     slice-read-own
-    add-a
-    slice-read-a
     add-i
     slice-read-i
     cast-k
     sub-k
-    cast-y
-    mul-y
-    add-y
-    add-y-2
-    slice-read-y
     tick-requires
     cast-image
     mul-image
     add-image
     add-image-2
-    slice-write-image
     add-image-3
+    slice-write-image
+    add-image-4
     slice-write-image-2
     same-length
     returns)

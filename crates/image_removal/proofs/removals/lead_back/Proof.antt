@@ -1,10 +1,10 @@
 use mathlib.Core.Path.{refl}
 use native.Mathlib.Omega.{arith}
 use lib.ListN.{length-set}
-use Rattle.image_delete.proofs.Steps.{frees-own}
+use Rattle.image_removal.proofs.Steps.{leads-back}
 use borrow.Author.Needs.{needs}
-use Rattle.image_delete.proofs.removals.free_own.Statement.{statement}
-use Rattle.image_delete.proofs.removals.free_own.Tie as tie
+use Rattle.image_removal.proofs.removals.lead_back.Statement.{statement}
+use Rattle.image_removal.proofs.removals.lead_back.Tie as tie
 
 mul-at : tie.Need-mul-at
 mul-at c = search needs
@@ -17,6 +17,12 @@ add-own c = search needs
 
 slice-read-own : tie.Need-slice-read-own
 slice-read-own c = search needs
+
+add-a : tie.Need-add-a
+add-a c = search needs
+
+slice-read-a : tie.Need-slice-read-a
+slice-read-a c = search needs
 
 add-i : tie.Need-add-i
 add-i c = search needs
@@ -45,14 +51,11 @@ add-image c = search needs
 add-image-2 : tie.Need-add-image-2
 add-image-2 c = search needs
 
-add-image-3 : tie.Need-add-image-3
-add-image-3 c = search needs
-
 slice-write-image : tie.Need-slice-write-image
 slice-write-image c = search needs
 
-add-image-4 : tie.Need-add-image-4
-add-image-4 c = search needs
+add-image-3 : tie.Need-add-image-3
+add-image-3 c = search needs
 
 slice-write-image-2 : tie.Need-slice-write-image-2
 slice-write-image-2 c = simp length-set (omega arith)
@@ -62,18 +65,20 @@ same-length c = search needs
 
 returns : tie.Need-returns
 returns c =
-    let s = c .before .before .before .before .before .before .before in
-    frees-own (s .args .image .now) (s .args .base) (s .args .p) (s .pre) _ _
+    let s = c .before .before .before .before .before .before .before .before in
+    leads-back (s .args .image .now) (s .args .base) (s .args .p) (s .pre) _ _
     (simp (c .before .before .tick .ensures)) refl
 
-pub free-own-spec : {M : Type 1} → statement M
-free-own-spec =
+pub lead-back-spec : {M : Type 1} → statement M
+lead-back-spec =
     tie.close
     (tie.spec
     mul-at
     add-at
     add-own
     slice-read-own
+    add-a
+    slice-read-a
     add-i
     slice-read-i
     cast-k
@@ -83,9 +88,8 @@ free-own-spec =
     mul-image
     add-image
     add-image-2
-    add-image-3
     slice-write-image
-    add-image-4
+    add-image-3
     slice-write-image-2
     same-length
     returns)
