@@ -20,7 +20,8 @@ nextIn b base x i = getD b (base + nodeBytes * x + (i - 1)) 0
 -- the key of node x
 abbrev pub keyIn : List ℕ → ℕ → ℕ → Key
 keyIn b base x =
-    nodeKey (getD b 1 0) x (number32 b (base + nodeBytes * x + 23)) (number32 b (base + nodeBytes * x + 27))
+    nodeKey (getD b 1 0) x (number32 b (base + nodeBytes * x + 23))
+    (number32 b (base + nodeBytes * x + 27))
 
 pub record Placed (b : List ℕ) (base p tag : ℕ) : Type 0 where
   pub sound : Sound b
