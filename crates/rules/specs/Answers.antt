@@ -16,7 +16,7 @@ use Rattle.rules.specs.declared.answers.PlainAnswer.{PlainAnswer}
 use Rattle.rules.specs.declared.answers.Outcome.{Outcome}
 
 abbrev pub entryValues : Entry → List ℕ
-entryValues e = e .due ∷ (e .item ∷ (e .ticket ∷ []))
+entryValues e = e .due ∷ e .item ∷ e .ticket ∷ []
 
 abbrev pub deedCode : Deed → ℕ
 deedCode deed.Marked = 4

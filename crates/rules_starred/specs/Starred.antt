@@ -33,13 +33,13 @@ pub data Question : Type 0 where
   backlogs : Queue → List Turn → Question
 
 abbrev pub minutesNumbers : Minutes → List ℕ
-minutesNumbers (minutes.Refused n) = n ∷ (0 ∷ [])
-minutesNumbers (minutes.Due m) = 0 ∷ (m ∷ [])
+minutesNumbers (minutes.Refused n) = n ∷ 0 ∷ []
+minutesNumbers (minutes.Due m) = 0 ∷ m ∷ []
 
 abbrev pub replyNumbers : Reply → List ℕ
 replyNumbers (answered a) = reported a .number ∷ reported a .values
 replyNumbers (counted (count.Refused n)) = n ∷ []
-replyNumbers (counted (count.Pending k)) = 0 ∷ (k ∷ [])
+replyNumbers (counted (count.Pending k)) = 0 ∷ k ∷ []
 
 abbrev pub backlogsAlong : Queue → List Turn → List ℕ
 backlogsAlong q [] = q .clock ∷ replyNumbers (reply q backlog)
@@ -85,7 +85,7 @@ abbrev pub filed : List Turn
 filed = insert 0 7 42 1 ∷ replicate 9 (stepBy 0)
 
 abbrev pub printed : List Turn
-printed = filed ++ (deleteMin 0 ∷ (replicate 15 (stepBy 0) ++ (deleteMin 0 ∷ (stepBy 0 ∷ []))))
+printed = filed ++ (deleteMin 0 ∷ (replicate 15 (stepBy 0) ++ (deleteMin 0 ∷ stepBy 0 ∷ [])))
 
 -- run 4, up to the begin of its Delete_Min
 abbrev pub fourth : List Turn
@@ -107,41 +107,41 @@ abbrev pub starred : List StarredRun
 starred =
     -- 1. the most nodes, one more, and none
     run (making 1 200 1) (0 ∷ [])
-    ∷ (run (making 1 201 1) (12 ∷ [])
-    ∷ (run (making 1 0 1) (12 ∷ [])
+    ∷ run (making 1 201 1) (12 ∷ [])
+    ∷ run (making 1 0 1) (12 ∷ [])
     -- 2. half a minute goes to the even one of its two minutes; 35 from 59,999,970 on
-    ∷ (run (seconds 30) (0 ∷ (0 ∷ []))
-    ∷ (run (seconds 59) (0 ∷ (1 ∷ []))
-    ∷ (run (seconds 60) (0 ∷ (1 ∷ []))
-    ∷ (run (seconds 89) (0 ∷ (1 ∷ []))
-    ∷ (run (seconds 90) (0 ∷ (2 ∷ []))
-    ∷ (run (seconds 150) (0 ∷ (2 ∷ []))
-    ∷ (run (seconds 59999969) (0 ∷ (999999 ∷ []))
-    ∷ (run (seconds 59999970) (35 ∷ (0 ∷ []))
-    ∷ (run (seconds 59999999) (35 ∷ (0 ∷ []))
-    ∷ (run (seconds 60000000) (35 ∷ (0 ∷ []))
+    ∷ run (seconds 30) (0 ∷ 0 ∷ [])
+    ∷ run (seconds 59) (0 ∷ 1 ∷ [])
+    ∷ run (seconds 60) (0 ∷ 1 ∷ [])
+    ∷ run (seconds 89) (0 ∷ 1 ∷ [])
+    ∷ run (seconds 90) (0 ∷ 2 ∷ [])
+    ∷ run (seconds 150) (0 ∷ 2 ∷ [])
+    ∷ run (seconds 59999969) (0 ∷ 999999 ∷ [])
+    ∷ run (seconds 59999970) (35 ∷ 0 ∷ [])
+    ∷ run (seconds 59999999) (35 ∷ 0 ∷ [])
+    ∷ run (seconds 60000000) (35 ∷ 0 ∷ [])
     -- 3. the one node is not to be had at first, and at the end of the printed run it is
-    ∷ (run (answer single filed (insert 0 7 42 1)) (10 ∷ (37 ∷ []))
-    ∷ (run (answer single printed (insert 0 7 42 1)) (29 ∷ (began ∷ (29 ∷ [])))
-    ∷ (run (own single printed (insert 0 7 42 1) 0) (1 ∷ (began ∷ (29 ∷ [])))
+    ∷ run (answer single filed (insert 0 7 42 1)) (10 ∷ 37 ∷ [])
+    ∷ run (answer single printed (insert 0 7 42 1)) (29 ∷ began ∷ 29 ∷ [])
+    ∷ run (own single printed (insert 0 7 42 1) 0) (1 ∷ began ∷ 29 ∷ [])
     -- 4. the begin of the Delete_Min at 10, the Insert's answer at 11, EMPTY at 14
-    ∷ (run (answer pair (insert 0 7 42 1 ∷ replicate 8 (stepBy 0)) (deleteMin 1))
-    (10 ∷ (began ∷ (10 ∷ [])))
-    ∷ (run (answer pair fourth (stepBy 0)) (11 ∷ (insertAnswered ∷ (7 ∷ (42 ∷ (1 ∷ [])))))
-    ∷ (run (answer pair (fourth ++ (stepBy 0 ∷ (stepBy 1 ∷ (stepBy 1 ∷ [])))) (stepBy 1))
-    (14 ∷ (empty ∷ []))
+    ∷ run (answer pair (insert 0 7 42 1 ∷ replicate 8 (stepBy 0)) (deleteMin 1))
+    (10 ∷ began ∷ 10 ∷ [])
+    ∷ run (answer pair fourth (stepBy 0)) (11 ∷ insertAnswered ∷ 7 ∷ 42 ∷ 1 ∷ [])
+    ∷ run (answer pair (fourth ++ (stepBy 0 ∷ stepBy 1 ∷ stepBy 1 ∷ [])) (stepBy 1))
+    (14 ∷ empty ∷ [])
     -- 5. the node is to be had as soon as no Delete_Min is open that began before it was retired
-    ∷ (run (answer pair fifth (insert 0 7 42 1)) (27 ∷ (37 ∷ []))
-    ∷ (run (answer pair fifth (stepBy 1)) (28 ∷ (empty ∷ []))
-    ∷ (run (answer pair (fifth ++ (stepBy 1 ∷ [])) (insert 0 7 42 1)) (29 ∷ (began ∷ (29 ∷ [])))
+    ∷ run (answer pair fifth (insert 0 7 42 1)) (27 ∷ 37 ∷ [])
+    ∷ run (answer pair fifth (stepBy 1)) (28 ∷ empty ∷ [])
+    ∷ run (answer pair (fifth ++ (stepBy 1 ∷ [])) (insert 0 7 42 1)) (29 ∷ began ∷ 29 ∷ [])
     -- 6. calls of a processor that is not there, and a step of an idle one
-    ∷ (run (answer pair [] (stepBy 2)) (0 ∷ (32 ∷ []))
-    ∷ (run (answer pair [] (insert 2 7 42 1)) (0 ∷ (32 ∷ []))
-    ∷ (run (answer pair [] (deleteMin 2)) (0 ∷ (32 ∷ []))
-    ∷ (run (answer pair [] (stepBy 0)) (0 ∷ (34 ∷ []))
+    ∷ run (answer pair [] (stepBy 2)) (0 ∷ 32 ∷ [])
+    ∷ run (answer pair [] (insert 2 7 42 1)) (0 ∷ 32 ∷ [])
+    ∷ run (answer pair [] (deleteMin 2)) (0 ∷ 32 ∷ [])
+    ∷ run (answer pair [] (stepBy 0)) (0 ∷ 34 ∷ [])
     -- 02, W2: the backlog of the printed run is 0, from the answer on 1, and from the mark on 0
-    ∷ (run (backlogs single printed) (fromTo 0 9 0 ++ (fromTo 10 13 1 ++ fromTo 14 28 0))
-    ∷ []))))))))))))))))))))))))))
+    ∷ run (backlogs single printed) (fromTo 0 9 0 ++ (fromTo 10 13 1 ++ fromTo 14 28 0))
+    ∷ []
 
 -- every row's question has the expected result
 abbrev pub Right : StarredRun → Type 0
