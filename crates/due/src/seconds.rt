@@ -1,6 +1,6 @@
 // A due minute from a count of seconds.
 ghost use mathlib.Core.Path.{_≡_};
-ghost use Prim.Native.Nat.{ℕ, _+_, _≤_, _<_};
+ghost use Prim.Native.Nat.{_+_, _<_};
 ghost use Rattle.due.specs.Due.{Nearest, nearestMinute, dueFromSeconds, Meant};
 ghost use Rattle.due.specs.Due.{reportedMinutes};
 

@@ -7,7 +7,6 @@ ghost use Rattle.host_calls.specs.Entries.{plainOutcome, onBytes, bytesA
 use crate::replies::refusal;
 use image_call::call_at;
 use image_check::passes;
-use rules::Answer;
 use rules::Call;
 use rules::PlainAnswer;
 use rules::answers::plain;

@@ -1,6 +1,5 @@
 // Making a queue in lent bytes, and how many bytes it takes.
 ghost use mathlib.Core.Path.{_≡_};
-ghost use Prim.Native.Nat.{_≤_};
 ghost use Rattle.record_check.specs.Making.{made};
 ghost use Rattle.host_calls.specs.Entries.{lengthFor, makeCode, bytesMade};
 use image::layout::image_length;

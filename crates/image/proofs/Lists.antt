@@ -1,15 +1,13 @@
 -- Laws of lists made of pieces: their lengths, one more piece, and one more piece stored. Assumes nothing.
 use mathlib.Core.Path.{_≡_, refl, sym, _∙_}
-use mathlib.Core.Bool.{Bool, true, _&&_}
 use mathlib.Core.List.{List, [], _∷_}
 use Prim.Native.Nat.{ℕ, zero, suc, _+_, _*_}
 use native.Mathlib.Nat.{mul-suc}
 use native.Mathlib.Omega.{arith}
 use native.Mathlib.Numerals.{add-one}
-use lib.ListN.{length, set, length-append}
-use Rattle.laws.proofs.Counting.{every-next}
-use Rattle.image.specs.Lists.{storedAt, joined, listed, allBelow}
-use Rattle.image.proofs.Places.{next, written-one}
+use lib.ListN.{length, length-append}
+use Rattle.image.specs.Lists.{storedAt, joined, listed}
+use Rattle.image.proofs.Places.{next}
 
 module _ (f : ℕ → List ℕ) (w : ℕ) (each : (k : ℕ) → length (f k) ≡ w) where
   pub length-joined : (n : ℕ) → length (joined f n) ≡ w * n
@@ -34,31 +32,6 @@ module _ {A : Type 0} (f : ℕ → A) where
   length-listed zero = refl
   length-listed (suc n) = length-append (listed f n) (f n ∷ []) ∙ rw (length-listed n) (add-one n)
 
-  -- a loop that stores element i
-  pub listed-next :
-      (i : ℕ) (a l : List A) (v : A) → v ≡ f i → l ≡ storedAt a 0 (listed f i) → set l i v
-      ≡ storedAt a 0 (listed f (i + 1))
-  unfolding listed
-  listed-next i a l v e h =
-      let z : 0 + i ≡ i = omega arith in
-      rw (add-one, e)
-      (next a 0 l (set l i (f i)) i (listed f i) (f i ∷ []) (rw z (written-one l i (f i))) h
-      (length-listed i))
-
 pub none-joined : (f : ℕ → List ℕ) → joined f 0 ≡ []
 unfolding joined
 none-joined f = refl
-
-pub none-listed : {A : Type 0} (f : ℕ → A) → listed f 0 ≡ []
-unfolding listed
-none-listed f = refl
-
-pub none-below : (f : ℕ → Bool) → true ≡ allBelow f 0
-unfolding allBelow
-none-below f = refl
-
-pub all-next :
-    (f : ℕ → Bool) (i : ℕ) (a b r : Bool) → r ≡ (a && b) → a ≡ allBelow f i → b ≡ f i → r
-    ≡ allBelow f (i + 1)
-unfolding allBelow
-all-next f i a b r h k l = every-next f i a b r h k l

@@ -4,7 +4,7 @@ use mathlib.Core.List.{List, [], _∷_, _++_, append-nil}
 use Prim.Native.Nat.{ℕ, suc, _+_}
 use native.Mathlib.Omega.{arith}
 use lib.ListN.{length, set, drop-of-length-le}
-use lib.Seq.{sets, sets-eq, length-sets}
+use lib.Seq.{sets, sets-eq}
 use Rattle.image.specs.Lists.{storedAt}
 
 module _ {A : Type 0} where
@@ -40,10 +40,6 @@ module _ {A : Type 0} where
   pub written-none : (l : List A) (i : ℕ) → l ≡ storedAt l i []
   unfolding storedAt
   written-none l i = refl
-
-  pub length-written : (l : List A) (i : ℕ) (xs : List A) → length (storedAt l i xs) ≡ length l
-  unfolding storedAt
-  length-written l i xs = length-sets l i xs
 
   pub written-whole : (l vs : List A) → length vs ≡ length l → storedAt l 0 vs ≡ vs
   unfolding storedAt

@@ -1,6 +1,6 @@
 // The node that an Insert takes, by the nodes' use bytes.
 ghost use mathlib.Core.Path.{_≡_};
-ghost use Prim.Native.Nat.{ℕ, _+_, _*_, _≤_, _<_};
+ghost use Prim.Native.Nat.{_+_, _*_, _≤_, _<_};
 ghost use lib.ListN.{length, getD};
 ghost use Rattle.record.specs.Queues.{processorAt};
 ghost use Rattle.rules.specs.Choice.{beganAfter, allBeganAfter, chosen};

@@ -1,7 +1,7 @@
 // The stores of a begin.
 ghost use mathlib.Core.Path.{_≡_};
 ghost use mathlib.Core.List.{_++_};
-ghost use Prim.Native.Nat.{ℕ, _+_, _≤_, _<_};
+ghost use Prim.Native.Nat.{_+_, _≤_, _<_};
 ghost use lib.ListN.{length};
 ghost use Rattle.image.specs.Puts.{puts, four};
 ghost use Rattle.image_begin.specs.Stores.{levels, unmarked, used, fills, begun};

@@ -1,7 +1,7 @@
 // Backlog on the bytes of a record that passes check 21.
 ghost use mathlib.Core.Path.{_≡_};
 ghost use mathlib.Core.Bool.{cond};
-ghost use Prim.Native.Nat.{ℕ, _≤_};
+ghost use Prim.Native.Nat.{_≤_};
 ghost use lib.ListN.{getD};
 ghost use Rattle.laws.specs.HowMany.{howMany};
 ghost use Rattle.record_check.specs.Backlog.{pendingAt};

@@ -1,7 +1,6 @@
 // The nodes' bytes.
 ghost use mathlib.Core.Path.{_≡_};
-ghost use mathlib.Core.Bool.{Bool, _&&_};
-ghost use Prim.Native.Nat.{ℕ, _+_, _*_, _≤_};
+ghost use Prim.Native.Nat.{_+_, _*_, _≤_};
 ghost use lib.ListN.{length, getD};
 ghost use Rattle.laws.specs.Every.{everyBelow};
 ghost use Rattle.image.specs.Image.{lengthOf};

@@ -1,5 +1,4 @@
 // The walk of a Delete_Min, in place: each stage reads what it reads, and stores what it changes.
-ghost use mathlib.Core.Path.{_≡_};
 ghost use Rattle.record.specs.declared.stages.Delete.the-variants as del;
 ghost use Rattle.image.specs.Tags.{anywhere, deleteTag};
 ghost use Rattle.image_parts.specs.Given.{Stepped};

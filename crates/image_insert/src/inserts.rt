@@ -1,6 +1,5 @@
 // The stages of an Insert after its Lock-seek, in place: each reads what this stage reads, and
 // stores what it changes.
-ghost use mathlib.Core.Path.{_≡_};
 ghost use Rattle.record.specs.declared.stages.Insert.the-variants as ins;
 ghost use Rattle.image.specs.Tags.{anywhere, insertTag};
 ghost use Rattle.image_parts.specs.Given.{Stepped};

@@ -1,7 +1,7 @@
 // A list of calls, lent as plain numbers, in place on the bytes of a record that passes check 21;
 // the answers are written as plain numbers. specs/Plain.antt has the numbers.
 ghost use mathlib.Core.Path.{_≡_};
-ghost use Prim.Native.Nat.{ℕ, _+_, _*_, _/_, _≤_, _<_};
+ghost use Prim.Native.Nat.{_+_, _*_, _/_, _≤_, _<_};
 ghost use lib.ListN.{length};
 ghost use Rattle.image.specs.Image.{imageOf, queueIn, Sound};
 ghost use Rattle.image_parts.specs.Given.{Called};

@@ -1,6 +1,6 @@
 // A queue made in lent bytes: every byte is written, whatever it held.
 ghost use mathlib.Core.Path.{_≡_};
-ghost use Prim.Native.Nat.{ℕ, _+_, _*_, _≤_};
+ghost use Prim.Native.Nat.{_+_, _*_, _≤_};
 ghost use lib.ListN.{length};
 ghost use Rattle.record.specs.Nodes.{freshNode};
 ghost use Rattle.record.specs.Queues.{freshQueue};

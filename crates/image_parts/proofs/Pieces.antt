@@ -73,13 +73,6 @@ put-saved c k v es long =
     (set-after h (eight (c .saved) 0) (9 + k) k v refl
     ∙ ap (λ (r : List ℕ). h ++ r) (eight-set (c .saved) k v long))
 
--- the stage's bytes: what is stored gives the new stage's code
-pub put-stage :
-    (c : Processor) (f g : Stage) (es : List (ℕ × ℕ)) → c .stage ≡ f →
-    putsIn (processorImage (moves c f (c .saved))) es ≡ processorImage (moves c g (c .saved)) →
-    putsIn (processorImage c) es ≡ processorImage (moves c g (c .saved))
-put-stage c f g es e h = ap (λ (x : Stage). putsIn (processorImage (moves c x (c .saved))) es) e ∙ h
-
 -- the node lock, and a stamp
 pub put-holder : (n : Node) (v : ℕ) → putsIn (nodeImage n) ((16, v) ∷ [])
     ≡ nodeImage (withNodeLock n v)

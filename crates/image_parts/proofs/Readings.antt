@@ -86,12 +86,6 @@ own-key (stage.Delete d) k = refl
 own-key (stage.Removal j r) k = refl
 
 module _ (b : List ℕ) (base p tag : ℕ) (r : Placed b base p tag) where
-  pub stage-is : processorAt (queueIn b) p .stage
-      ≡ stageOf (code tag (mine b p 6) (mine b p 7) (mine b p 8))
-  stage-is =
-      ap (λ (c : Processor). c .stage) (processor-is b p (r .processors-high) (r .low))
-      ∙ ap (λ (t : ℕ). stageOf (code t (mine b p 6) (mine b p 7) (mine b p 8))) (r .tagged)
-
   pub own-is : processorAt (queueIn b) p .own ≡ mine b p 4
   own-is = ap (λ (c : Processor). c .own) (processor-is b p (r .processors-high) (r .low))
 

@@ -1,6 +1,6 @@
 // Keys of nodes, on the bytes.
 ghost use mathlib.Core.Path.{_≡_};
-ghost use Prim.Native.Nat.{ℕ, _+_, _*_, _≤_, _<_};
+ghost use Prim.Native.Nat.{_+_, _*_, _≤_, _<_};
 ghost use lib.ListN.{length, getD};
 ghost use Rattle.image_parts.specs.Ready.{keyIn};
 ghost use Rattle.record.specs.Keys.{keyBefore};

@@ -1,5 +1,4 @@
 // The removal of a marked node, in place, but for its Search and its Lock-seek.
-ghost use mathlib.Core.Path.{_≡_};
 ghost use Rattle.record.specs.declared.stages.Removal.the-variants as rem;
 ghost use Rattle.image.specs.Tags.{anywhere, removalTag};
 ghost use Rattle.image_parts.specs.Given.{Stepped};

@@ -15,7 +15,7 @@ use Rattle.record.specs.declared.stages.Removal.the-variants as rem
 use Rattle.record.specs.declared.stages.Job.the-variants as jobs
 use Rattle.record.specs.declared.stages.Stage.{Stage}
 use Rattle.record.specs.declared.stages.Stage.the-variants as stage
-use Rattle.record.specs.Stages.{place, seekPart, isIdle}
+use Rattle.record.specs.Stages.{place, isIdle}
 use Rattle.rules.specs.declared.decisions.Effect.the-variants as eff
 use Rattle.rules.specs.declared.decisions.StepView.{StepView}
 use Rattle.rules.specs.Calls.{readingPlace}
@@ -81,14 +81,6 @@ search-busy false a = refl
 pub seek-busy : (w : Bool) (k : Seek) → isIdle (seeking w k) ≡ false
 seek-busy true k = refl
 seek-busy false k = refl
-
-pub search-reads : (w : Bool) (a : Place) → readingPlace (searching w a) ≡ a
-search-reads true a = refl
-search-reads false a = refl
-
-pub seek-reads : (w : Bool) (k : Seek) → readingPlace (seeking w k) ≡ seekPart k .place
-seek-reads true k = refl
-seek-reads false k = refl
 
 -- what they decide, of what is seen at a place
 module _ (see : Place → StepView) (a : Place) where

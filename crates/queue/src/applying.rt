@@ -1,16 +1,13 @@
 // What a decision changes of the record.
 ghost use mathlib.Core.Path.{_≡_};
-ghost use Prim.Native.Nat.{ℕ, _≤_, _<_};
+ghost use Prim.Native.Nat.{_≤_, _<_};
 ghost use Rattle.record.specs.Limits.{maxNumber, maxNodes, maxProcessors, nodeSlots};
 ghost use Rattle.rules.specs.Effects.{nodeOf, applied as appliedOf};
 use queue_parts::effects::changed;
 use queue_parts::effects::node_of;
 use queue_parts::effects::processor_after;
-use record::Node;
-use record::Processor;
 use record::Queue;
 use rules::Decision;
-use rules::Effect;
 
 // The record after processor p's decision: one node, the processor and the clock change.
 pub fn applied(mut q: Queue, p: u32, d: Decision) -> Queue

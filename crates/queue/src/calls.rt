@@ -16,7 +16,6 @@ use record::Queue;
 use record_check::valid;
 use rules::Answer;
 use rules::Call;
-use rules::Decision;
 use rules::Outcome;
 use rules_refusals::node_refusal;
 use rules_refusals::processor_of;

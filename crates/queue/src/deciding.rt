@@ -1,7 +1,7 @@
 // What a call decides that is not refused.
 ghost use mathlib.Core.Path.{_≡_};
 ghost use mathlib.Core.Bool.{true};
-ghost use Prim.Native.Nat.{ℕ, _<_};
+ghost use Prim.Native.Nat.{_<_};
 ghost use Rattle.record_check.specs.Check.{valid as validOf};
 ghost use Rattle.record.specs.Queues.{processorAt};
 ghost use Rattle.rules.specs.Calls.{stepDecision, taken, decisionOf, refusalOf};
@@ -10,14 +10,9 @@ use queue_begin::begins::insert_begins;
 use queue_decide::walk::decide;
 use queue_parts::reads::reading_place;
 use queue_parts::reads::step_view_from;
-use record::Node;
-use record::Place;
-use record::Processor;
 use record::Queue;
-use record::Stage;
 use rules::Call;
 use rules::Decision;
-use rules::StepView;
 
 // A step of processor p: three nodes are read, and the stage decides.
 fn step_decision(q: Queue, p: u32) -> Decision

@@ -1,15 +1,13 @@
 // What a call asks of the record before it is decided.
 ghost use mathlib.Core.Path.{_≡_};
-ghost use mathlib.Core.Bool.{Bool, true, _&&_};
-ghost use Prim.Native.Nat.{ℕ, _≤_};
+ghost use mathlib.Core.Bool.{true, _&&_};
+ghost use Prim.Native.Nat.{_≤_};
 ghost use lib.Dec.{ltb};
 ghost use Rattle.record_check.specs.Check.{valid as validOf};
 ghost use Rattle.record.specs.Limits.{maxProcessors};
 ghost use Rattle.rules.specs.Calls.{idleAt, taken as takenOf};
 use queue_begin::choice::choose;
-use record::Processor;
 use record::Queue;
-use record::Stage;
 use record::stages::is_idle;
 use rules::Call;
 

@@ -1,7 +1,7 @@
 // The node that an Insert takes.
 ghost use mathlib.Core.Path.{_≡_};
 ghost use mathlib.Core.Bool.{true};
-ghost use Prim.Native.Nat.{ℕ, _+_, _<_, _≤_};
+ghost use Prim.Native.Nat.{_+_, _<_};
 ghost use Rattle.record_check.specs.Check.{valid as validOf};
 ghost use Rattle.rules.specs.Choice.{isNever, isRetired, retirement, chosen};
 ghost use Rattle.rules.specs.Choice.{neverNext, longestNext, beganAfter};

@@ -1,6 +1,6 @@
 // A step of an Insert: its Search, then level by level a Lock-seek and I1 to I3, then I4 and I5.
 ghost use mathlib.Core.Path.{_≡_};
-ghost use Prim.Native.Nat.{ℕ, _+_};
+ghost use Prim.Native.Nat.{_+_};
 ghost use Rattle.rules.specs.Decide.{insertSearched, insertSought, insertFreed, insertStep};
 use crate::search::search_step;
 use crate::search::seek_step;

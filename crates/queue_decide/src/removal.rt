@@ -1,7 +1,6 @@
 // A step of what follows a mark: the Search, L1, on each level from the height down a Lock-seek and
 // L2 to L6, then L7 and L8. Each stage hands the removal's job on, and L8 alone asks it.
 ghost use mathlib.Core.Path.{_≡_};
-ghost use Prim.Native.Nat.{ℕ, _+_};
 ghost use Rattle.record.specs.declared.stages.Removal.the-variants as rem;
 ghost use Rattle.rules.specs.Decide.{removing as removingOf, removalSearched, holdNode};
 ghost use Rattle.rules.specs.Decide.{removalSought, holdOwn, removalFreed, handing as handingOf};

@@ -1,6 +1,5 @@
 // A step of a Delete_Min before its mark, W1 to W3; and the step of any stage.
 ghost use mathlib.Core.Path.{_≡_};
-ghost use Prim.Native.Nat.{ℕ, _+_};
 ghost use Rattle.rules.specs.Decide.{walkOn, stampTest, marking as markingOf, markTest};
 ghost use Rattle.rules.specs.Decide.{deleteStep, decide as decideOf};
 use crate::insert::insert_step;

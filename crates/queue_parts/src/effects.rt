@@ -1,10 +1,8 @@
 // What a decision changes: one node and the calling processor.
 ghost use mathlib.Core.Path.{_≡_};
-ghost use Prim.Native.Nat.{ℕ, _+_};
 ghost use Rattle.rules.specs.Effects.{nodeOf, changed as changedOf, beginAfter, savedAfter};
 ghost use Rattle.rules.specs.Effects.{processorAfter};
 use record::Node;
-use record::Place;
 use record::Processor;
 use record::levels::slot;
 use record::levels::with_levels;

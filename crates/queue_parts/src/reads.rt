@@ -1,7 +1,7 @@
 // What a step reads: the place that its stage carries, and from three nodes the numbers that a
 // decision takes.
 ghost use mathlib.Core.Path.{_≡_};
-ghost use Prim.Native.Nat.{ℕ, _+_, _-_};
+ghost use Prim.Native.Nat.{_+_, _-_};
 ghost use lib.Dec.{eqb};
 ghost use Rattle.record.specs.declared.stages.Stage.the-variants as stage;
 ghost use Rattle.record.specs.Queues.{savedAt};

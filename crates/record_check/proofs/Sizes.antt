@@ -1,11 +1,11 @@
 -- What check 21 says of a record's sizes, of each node and of each processor, and the converse. Assumes nothing.
 use mathlib.Core.Path.{_≡_, ap}
 use mathlib.Core.Bool.{Bool, true, false, _&&_}
-use Prim.Native.Nat.{ℕ, _+_, _≤_, _<_}
+use Prim.Native.Nat.{ℕ, _+_, _≤_}
 use lib.Dec.{leb}
 use borrow.Author.Tests.{leb-true}
 use Rattle.laws.specs.Every.{everyBelow}
-use Rattle.laws.proofs.Counting.{and-left, and-right, and-both, every-at, every-of}
+use Rattle.laws.proofs.Counting.{and-left, and-right}
 use Rattle.record_check.specs.declared.check.Sizes.{Sizes}
 use Rattle.record.specs.declared.queues.Queue.{Queue}
 use Rattle.record.specs.Limits.{maxProcessors, maxNodes, maxLevels, maxNumber}
@@ -61,28 +61,6 @@ module _ (q : Queue) (h : valid q ≡ true) where
 
   pub valid-sizes : SizeBounds (sizesOf q)
   valid-sizes = sizes-bounds (sizesOf q) (and-left (sizesValid (sizesOf q)) (nodesValid q (q .nodeCount + 2)) sized)
-
-  pub valid-node : (x : ℕ) → x < q .nodeCount + 2 → nodeValid (sizesOf q) x (nodeAt q x) ≡ true
-  valid-node x l =
-      every-at (λ y. nodeValid (sizesOf q) y (nodeAt q y)) (q .nodeCount + 2) x
-      (and-right (sizesValid (sizesOf q)) (nodesValid q (q .nodeCount + 2)) sized) l
-
-  pub valid-processor : (p : ℕ) → p < q .processorCount → processorValid (sizesOf q) (processorAt q p) ≡ true
-  valid-processor p l =
-      every-at (λ c. processorValid (sizesOf q) (processorAt q c)) (q .processorCount) p
-      (and-right (sizesValid (sizesOf q) && nodesValid q (q .nodeCount + 2)) (processorsValid q (q .processorCount)) h) l
-
-pub valid-of :
-    (q : Queue) →
-    sizesValid (sizesOf q) ≡ true →
-    ((x : ℕ) → x < q .nodeCount + 2 → nodeValid (sizesOf q) x (nodeAt q x) ≡ true) →
-    ((p : ℕ) → p < q .processorCount → processorValid (sizesOf q) (processorAt q p) ≡ true) →
-    valid q ≡ true
-valid-of q s n c =
-    and-both (sizesValid (sizesOf q) && nodesValid q (q .nodeCount + 2)) (processorsValid q (q .processorCount))
-    (and-both (sizesValid (sizesOf q)) (nodesValid q (q .nodeCount + 2)) s
-    (every-of (λ x. nodeValid (sizesOf q) x (nodeAt q x)) (q .nodeCount + 2) n))
-    (every-of (λ p. processorValid (sizesOf q) (processorAt q p)) (q .processorCount) c)
 
 -- the code's order: the sizes first, then the nodes and the processors
 pub valid-refused : (q : Queue) → sizesValid (sizesOf q) ≡ false → valid q ≡ false

@@ -1,7 +1,6 @@
 // Check 21: whether a record is one that the calls are defined for.
 ghost use mathlib.Core.Path.{_≡_};
-ghost use Prim.Native.Nat.{ℕ, _+_, _≤_, _<_};
-ghost use mathlib.Core.Bool.{_&&_};
+ghost use Prim.Native.Nat.{_+_, _≤_, _<_};
 ghost use Rattle.record_check.specs.Check.{within as withinOf, sizesValid, stampValid};
 ghost use Rattle.record_check.specs.Check.{useValid, linksValid, entryValid, nodeValid};
 ghost use Rattle.record_check.specs.Check.{placeValid, ownValid};

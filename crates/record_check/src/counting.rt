@@ -1,7 +1,7 @@
 // Backlog.
 ghost use mathlib.Core.Path.{_≡_};
 ghost use mathlib.Core.Bool.{cond};
-ghost use Prim.Native.Nat.{ℕ, _+_, _≤_, _<_};
+ghost use Prim.Native.Nat.{_+_, _≤_, _<_};
 ghost use Rattle.record_check.specs.Backlog.{isPending, backlogOf, reportedCount};
 use crate::check::valid;
 use record::nodes::Stamp;

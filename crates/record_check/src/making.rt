@@ -1,7 +1,6 @@
 // Making a queue.
 ghost use mathlib.Core.Path.{_≡_};
-ghost use mathlib.Core.Bool.{Bool};
-ghost use Prim.Native.Nat.{ℕ, _+_, _≤_, _<_};
+ghost use Prim.Native.Nat.{_+_, _<_};
 ghost use Rattle.record.specs.Queues.{freshQueue};
 ghost use Rattle.record_check.specs.Making.{outside as outsideOf, notMade, made};
 use record::limits::MAX_LEVELS;

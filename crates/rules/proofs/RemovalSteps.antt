@@ -15,7 +15,7 @@ use Rattle.laws.specs.Update.{changedAt}
 use Rattle.laws.proofs.Updating.{changed-same, changed-other}
 use Rattle.rules.proofs.Put.{ever, put, put-same, put-other, save-at}
 use Rattle.rules.proofs.View.{View, claim, key, tail}
-use Rattle.rules.proofs.Inv.{Back, Inv, removing}
+use Rattle.rules.proofs.Inv.{Inv, removing}
 use Rattle.rules.proofs.Read.{on-apart}
 use Rattle.rules.proofs.Order.{unlinked}
 use Rattle.rules.proofs.Assemble.{ticked, one-kept, yields-kept, yields-new}

@@ -1,7 +1,7 @@
 // What a call is refused with, in numbers: the calls on a record by value and those in place on its
 // bytes ask here. 37 is asked apart, since a node is looked for only where nothing else refuses.
 ghost use mathlib.Core.Path.{_≡_};
-ghost use mathlib.Core.Bool.{Bool, _||_};
+ghost use mathlib.Core.Bool.{_||_};
 ghost use lib.Dec.{ltb};
 ghost use Rattle.record.specs.Limits.{maxNumber};
 ghost use Rattle.rules.specs.Calls.{processorOf, turnRefusal, insertRefusal, numbersRefusal};

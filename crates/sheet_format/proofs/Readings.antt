@@ -19,7 +19,7 @@ use Rattle.sheet_format.specs.Letters.{letterRules}
 use Rattle.sheet_format.specs.Lines.{noRule, ruleIndex, letterOf, fieldAt, withinRule, fieldKeeps}
 use Rattle.sheet_format.specs.Lines.{fieldsKeep, numbersKeep, keepsForm, fieldNumbers}
 use Rattle.sheet_format.specs.Lines.{lineInForm, line, lineOf, readLine, firstFailing, lineCount}
-use Rattle.sheet_format.specs.Lines.{rightLetter, firstMisplaced, partAt, firstOutOfForm}
+use Rattle.sheet_format.specs.Lines.{rightLetter, firstMisplaced}
 use Rattle.sheet_format.specs.Lines.{formReport, lineNumbers, reportedReading}
 use Rattle.sheet_format.proofs.Table.{field-kept, fields-right}
 
@@ -224,28 +224,3 @@ passes-more f k before passes =
 -- a sheet with lines
 pub misplaced-at : (s : List ℕ) (n : ℕ) → (lineCount s ≡ 0 → ⊥) → firstFailing (rightLetter s) (lineCount s) ≡ n → n ≡ firstMisplaced s
 misplaced-at s n h e = sym e ∙ ap (λ (t : Bool). cond t 1 (firstFailing (rightLetter s) (lineCount s))) (sym (ne-eqb (lineCount s) 0 h))
-
--- ---- what the run of a sheet in form goes by
-
-earlier : (a b : ℕ) → cond (leb 1 a) a b ≡ 0 → a ≡ 0
-earlier zero b h = refl
-earlier (suc a) b h = rw (le-leb 1 (suc a) (omega arith)) at h
-
--- if none of n lines fails, each of them passes
-pub none-fails : (f : ℕ → Bool) (n k : ℕ) → firstFailing f n ≡ 0 → k < n → f (k + 1) ≡ true
-none-fails f zero k h l = absurd (omega arith)
-none-fails f (suc n) k h l =
-    let before : firstFailing f n ≡ 0 = earlier (firstFailing f n) (cond (f (suc n)) 0 (suc n)) h in
-    go (f (suc n)) refl before (ℕ-discrete k n) (λ m. none-fails f n k before m)
-  where
-    go : (t : Bool) → t ≡ f (suc n) → firstFailing f n ≡ 0 → Dec (k ≡ n) → (k < n → f (k + 1) ≡ true) → f (k + 1) ≡ true
-    go true e b (yes p) r = ap f (ap (λ (x : ℕ). x + 1) p ∙ add-one n) ∙ sym e
-    go false e b (yes p) r =
-        let z : suc n ≡ 0 = sym (ap (λ (x : ℕ). cond (leb 1 x) x (cond (f (suc n)) 0 (suc n))) b ∙ ap (λ (t : Bool). cond t 0 (suc n)) (sym e)) ∙ h in
-        absurd (omega arith)
-    go t e b (no p) r = r (omega arith)
-
--- a line of a sheet in form is read
-pub line-read : (s : List ℕ) (k : ℕ) → firstOutOfForm s ≡ 0 → k < lineCount s → readLine (partAt s (k + 1)) ≡ reading.Form (lineOf (partAt s (k + 1)))
-line-read s k h l =
-    ap (λ (t : Bool). cond t (reading.Form (lineOf (partAt s (k + 1)))) reading.Bad) (none-fails (λ n. lineInForm (partAt s n)) (lineCount s) k h l)

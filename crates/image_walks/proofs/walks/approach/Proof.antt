@@ -1,6 +1,4 @@
 use mathlib.Core.Path.{refl, sym, _∙_}
-use native.Mathlib.Omega.{arith}
-use lib.ListN.{length-set}
 use Rattle.image_walks.proofs.Steps.{approach-ahead, approach-there}
 use borrow.Author.Needs.{needs}
 use Rattle.image_walks.proofs.walks.approach.Statement.{statement}
