@@ -8,6 +8,7 @@ ghost use Rattle.image.specs.Puts.{puts, four, clears, rests};
 ghost use Rattle.image.specs.Layout.{headerBytes, maxImageLength, processorBytes};
 ghost use Rattle.record.specs.Limits.{maxLevels, maxNumber};
 use crate::header;
+use crate::processor;
 
 pub fn number_from(b: &[u8], at: usize) -> u32
     requires { ⌜ at + 4 ≤ length (now b) ⌝ }
@@ -50,7 +51,7 @@ pub fn clear(b: &mut [u8], o: usize, l: usize)
 {
     let mut k: usize = 0;
     while k < l {
-        b[o + (9 + k)] = 0;
+        b[o + (processor::SAVED + k)] = 0;
         k = k + 1;
     }
     b[o] = 0;

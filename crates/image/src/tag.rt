@@ -1,13 +1,11 @@
-// The tags of the stages, as the table has them (record/specs/Stages.antt).
+// The tags of the stages that the code names, as the table has them (record/specs/Stages.antt).
 pub const IDLE: u8 = 0;
 
-// An Insert: its Search, the first stage of its Lock-seek (the other three have the next tags), I1
-// to I5.
+// An Insert: its Search, the first stage of its Lock-seek (the other three and I1 have the next
+// tags), I2 to I5.
 pub const INSERT_SEARCH: u8 = 1;
 
 pub const INSERT_SEEK: u8 = 2;
-
-pub const COPY: u8 = 6;
 
 pub const LINK: u8 = 7;
 
@@ -24,14 +22,13 @@ pub const TEST_STAMP: u8 = 12;
 
 pub const SET_MARK: u8 = 13;
 
-// A removal: its Search, L1, the first stage of its Lock-seek, L2 to L8.
+// A removal: its Search, L1, the first stage of its Lock-seek (the other three and L2 have the next
+// tags), L3 to L8.
 pub const REMOVAL_SEARCH: u8 = 14;
 
 pub const HOLD_NODE: u8 = 15;
 
 pub const REMOVAL_SEEK: u8 = 16;
-
-pub const HOLD_OWN: u8 = 20;
 
 pub const UNLINK: u8 = 21;
 
