@@ -23,7 +23,7 @@ use Rattle.record.specs.Queues.{freshProcessor, nodeAt, processorAt}
 use Rattle.record_check.proofs.Sizes.{nodesValid, processorsValid}
 
 abbrev pub noNode : Node
-noNode = record { forward = []; levelLocks = []; nodeLock = 0; mark = false; stamp = stamp.Unset; due = 0; ticket = 0; item = 0; height = 0; state = use′.Never }
+noNode = record { forward = []; levelLocks = []; nodeLock = 0; mark = 0; stamp = stamp.Unset; due = 0; ticket = 0; item = 0; height = 0; state = use′.Never }
 
 abbrev pub noProcessor : Processor
 noProcessor = record { begin = 0; own = 0; stage = stage.Idle; saved = [] }

@@ -12,16 +12,17 @@ use Rattle.record.specs.declared.nodes.Stamp.{Stamp}
 use Rattle.record.specs.declared.nodes.Use.{Use}
 use Rattle.record.specs.declared.queues.Queue.{Queue}
 use Rattle.record_check.specs.Check.{valid}
-use Rattle.record.specs.Nodes.{isInUse, isStamped}
+use Rattle.record.specs.Nodes.{isInUse, isMarked, isStamped}
 use Rattle.record.specs.Queues.{nodeAt}
 use Rattle.record.specs.Report.{Report, report}
 
--- whether a node's entry is answered and not marked, by the node's use, stamp and mark
+-- whether a node's entry is answered and not marked, by the node's use and stamp, and by whether it
+-- has a mark
 abbrev pub isPending : Use → Stamp → Bool → Bool
 isPending u s marked = isInUse u && (isStamped s && not marked)
 
 abbrev pub holdsPending : Node → Bool
-holdsPending n = isPending (n .state) (n .stamp) (n .mark)
+holdsPending n = isPending (n .state) (n .stamp) (isMarked (n .mark))
 
 abbrev pub pendingAt : Queue → ℕ → Bool
 pendingAt q x = holdsPending (nodeAt q x)

@@ -40,12 +40,13 @@ sizesValid s =
     && within (s .levelCount) maxLevels
     && leb (s .clock) maxNumber
 
--- forward numbers and holders, of the levels 1 to L
+-- forward numbers and holders of the levels 1 to L, the node lock's holder, and who set the mark
 abbrev pub linksValid : Sizes → Node → Bool
 linksValid s n =
     allAtMost (n .forward) (s .levelCount) (s .nodeCount + 1)
     && allAtMost (n .levelLocks) (s .levelCount) (s .processorCount)
     && leb (n .nodeLock) (s .processorCount)
+    && leb (n .mark) (s .processorCount)
 
 -- due, item, ticket and height
 abbrev pub entryValid : Sizes → Node → Bool

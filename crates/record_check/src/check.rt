@@ -66,7 +66,7 @@ fn use_valid(state: Use, clock: u32) -> bool
     }
 }
 
-// Forward numbers and holders of the levels 1 to L, and the node lock's.
+// Forward numbers and holders of the levels 1 to L, the node lock's holder, and who set the mark.
 fn links_valid(s: Sizes, n: Node) -> bool
     requires { ⌜ s .nodeCount ≤ maxNodes ⌝ }
     ensures { λ r. ⌜ r ≡ linksValid s n ⌝ }
@@ -75,7 +75,8 @@ fn links_valid(s: Sizes, n: Node) -> bool
     let locks = n.levelLocks;
     let leads = all_at_most(forward, s.levelCount, s.nodeCount + 1);
     let held = all_at_most(locks, s.levelCount, s.processorCount);
-    both(both(leads, held), n.nodeLock <= s.processorCount)
+    let locked = both(both(leads, held), n.nodeLock <= s.processorCount);
+    both(locked, n.mark <= s.processorCount)
 }
 
 fn entry_valid(s: Sizes, n: Node) -> bool

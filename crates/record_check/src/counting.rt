@@ -14,15 +14,16 @@ pub enum Count {
     Pending(u8),
 }
 
-// 1 for a node that Backlog counts, by its use, stamp and mark, and 0 for any other.
-fn counted(state: Use, stamp: Stamp, mark: bool) -> u8
-    ensures { λ r. ⌜ (r ≡ cond (isPending state stamp mark) 1 0) × (r ≤ 1) ⌝ }
+// 1 for a node that Backlog counts, by its use and stamp, and by whether it has a mark; 0 for any
+// other.
+fn counted(state: Use, stamp: Stamp, marked: bool) -> u8
+    ensures { λ r. ⌜ (r ≡ cond (isPending state stamp marked) 1 0) × (r ≤ 1) ⌝ }
 {
     match state {
         Use::Never => 0,
         Use::InUse => match stamp {
             Stamp::Unset => 0,
-            Stamp::At(_) => if mark { 0 } else { 1 },
+            Stamp::At(_) => if marked { 0 } else { 1 },
         },
         Use::Retired(_) => 0,
     }
@@ -45,7 +46,7 @@ pub fn backlog(q: Queue) -> Count
         let n = q.nodes[i];
         let state = n.state;
         let stamp = n.stamp;
-        count = count + counted(state, stamp, n.mark);
+        count = count + counted(state, stamp, 0 < n.mark);
     }
     Count::Pending(count)
 }

@@ -1,16 +1,20 @@
 -- The book (01, the book): which answers to a list of calls are right. It is fed the calls and what
 -- they give back, and never sees the record.
-use Prim.Native.Nat.{ℕ, zero, suc, _+_}
+use Prim.Native.Nat.{ℕ, zero, suc, _+_, _-_, _*_}
 use mathlib.Core.Bool.{Bool, true, false, cond, _&&_, _||_, not}
 use mathlib.Core.List.{List, [], _∷_}
 use lib.Dec.{ltb, eqb}
+use lib.ListN.{getD}
 use Rattle.record_check.specs.declared.counting.Count.{Count}
 use Rattle.record_check.specs.declared.counting.Count.the-variants as count
+use Rattle.laws.specs.Every.{everyBelow}
 use Rattle.laws.specs.HowMany.{howMany}
 use Rattle.laws.specs.Update.{changedAt}
 use Rattle.record.specs.declared.queues.Queue.{Queue}
-use Rattle.record.specs.Limits.{maxNumber}
+use Rattle.record.specs.Limits.{maxNumber, maxProcessors}
 use Rattle.record.specs.Keys.{entryKey, keyBefore}
+use Rattle.record_markers.specs.declared.listing.Listed.{Listed}
+use Rattle.record_markers.specs.declared.listing.Listed.the-variants as listing
 use Rattle.rules.specs.declared.answers.Answer.{Answer}
 use Rattle.rules.specs.declared.answers.Answer.the-variants as ans
 use Rattle.rules.specs.declared.answers.Deed.{Deed}
@@ -18,7 +22,8 @@ use Rattle.rules.specs.declared.answers.Deed.the-variants as deed
 use Rattle.rules.specs.declared.answers.Entry.{Entry}
 use Rattle.rules.specs.declared.calls.Call.{Call}
 use Rattle.rules.specs.declared.calls.Call.the-variants as call
-use Rattle.rules.specs.Runs.{Turn, calls, backlog, Reply, answered, counted, after, reply}
+use Rattle.rules.specs.Runs.{Turn, calls, backlog, markers, after}
+use Rattle.rules.specs.Runs.{Reply, answered, counted, listed, reply}
 
 -- later than every clock: the time of an answer that has not come
 abbrev pub never : ℕ
@@ -263,6 +268,33 @@ abbrev pub feedBacklog : Book → Count → Verdict
 feedBacklog b (count.Refused n) = agrees b
 feedBacklog b (count.Pending k) = agreesIf (eqb k (howMany (pendingIn b) (b .count))) b
 
+-- the entry t is not handed out yet
+abbrev pub heldIn : Book → ℕ → Bool
+heldIn b t = b .entry t .written && not (b .entry t .handedOut)
+
+-- a processor with this open has an entry marked and not yet handed out
+abbrev pub isUnlinking : Open → Bool
+isUnlinking nothing = false
+isUnlinking (inserting t) = false
+isUnlinking (walking t) = false
+isUnlinking (unlinking t) = true
+
+-- how often p stands as the marker among the first k pairs of the area
+abbrev pub timesListed : List ℕ → ℕ → ℕ → ℕ
+timesListed area k p = howMany (λ i. eqb (getD area (2 * i - 1) 0) p) k
+
+-- each processor stands there once if it has an entry marked and not yet handed out, and else not
+abbrev pub deliverersListed : Book → List ℕ → ℕ → Bool
+deliverersListed b area k =
+    everyBelow (λ p. eqb (timesListed area k p) (cond (isUnlinking (b .opened p)) 1 0)) maxProcessors
+
+-- markers (02, W6) tells of as many nodes as there are entries that are not handed out yet, and
+-- changes nothing. The book has no nodes: Demand3 says which entry a marker belongs to.
+abbrev pub feedMarkers : Book → Listed → List ℕ → Verdict
+feedMarkers b (listing.Refused n) area = agrees b
+feedMarkers b (listing.Nodes k) area =
+    agreesIf (eqb k (howMany (heldIn b) (b .count)) && deliverersListed b area k) b
+
 -- a call and its answer
 abbrev pub feedCall : Book → Call → Answer → Verdict
 feedCall b (call.Insert p due item height) a = feedInsert b p due item a
@@ -273,8 +305,13 @@ feedCall b (call.Step p) a = feedStep b p a
 abbrev pub feed : Book → Turn → Reply → Verdict
 feed b (calls c) (answered a) = feedCall b c a
 feed b (calls c) (counted k) = differs
+feed b (calls c) (listed k area) = differs
 feed b backlog (answered a) = differs
 feed b backlog (counted k) = feedBacklog b k
+feed b backlog (listed k area) = differs
+feed b (markers lent) (answered a) = differs
+feed b (markers lent) (counted k) = differs
+feed b (markers lent) (listed k area) = feedMarkers b k area
 
 -- what follows an answer that agrees
 abbrev pub thenFeed : Verdict → (Book → Verdict) → Verdict

@@ -19,7 +19,7 @@ use Rattle.record.specs.declared.keys.Key.{Key}
 use Rattle.record.specs.Keys.{keyBefore}
 use Rattle.record.specs.Limits.{maxNumber}
 use Rattle.record_check.specs.Making.{outside}
-use Rattle.record.specs.Nodes.{forwardAt, lockAt, keyOf, stampedBefore}
+use Rattle.record.specs.Nodes.{forwardAt, lockAt, keyOf, isMarked, stampedBefore}
 use Rattle.record.specs.Queues.{nodeAt, processorAt, savedAt}
 use Rattle.record.specs.Stages.{place, rowOf, isIdle}
 use Rattle.rules.specs.declared.answers.Answer.the-variants as ans
@@ -69,7 +69,7 @@ stepViewFrom here own ahead next c a nodes levels = record {
   ownNext = forwardAt own (a .level);
   ownLock = lockAt own (a .level);
   levelCount = levels;
-  marked = here .mark;
+  marked = isMarked (here .mark);
   stamped = stampedBefore (here .stamp) (c .begin);
   savedAbove = savedAt c (a .level + 1);
   savedBelow = savedAt c (a .level - 1);

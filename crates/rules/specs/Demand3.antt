@@ -11,6 +11,7 @@ use Rattle.record.specs.declared.queues.Queue.{Queue}
 use Rattle.record.specs.Limits.{maxProcessors, maxNodes, maxLevels}
 use Rattle.record_check.specs.Check.{valid}
 use Rattle.record.specs.Queues.{freshQueue, nodeAt, processorAt}
+use Rattle.record_markers.specs.Markers.{inUseAt}
 use Rattle.rules.specs.declared.answers.Answer.the-variants as ans
 use Rattle.rules.specs.declared.answers.Deed.the-variants as deed
 use Rattle.rules.specs.declared.answers.Entry.{Entry}
@@ -126,6 +127,24 @@ BacklogIsPending =
     (k : ℕ)
     × (reply (afterAll (freshQueue P N L) cs) backlog ≡ counted (count.Pending k))
     × Pending b k
+
+-- Markers (02, W6). Processor p has the entry with ticket t marked, and not yet handed out.
+pub record Delivering (b : Book) (p t : ℕ) : Type 0 where
+  pub opened : b .opened p ≡ unlinking t
+  pub marked : b .entry t .marked ≡ true
+  pub not-yet : b .entry t .handedOut ≡ false
+
+-- node x is marked by p exactly if the book has p with x's entry marked and not yet handed out
+pub record MarkerIs (q : Queue) (b : Book) (x p : ℕ) : Type 0 where
+  pub told : nodeAt q x .mark ≡ suc p → Delivering b p (nodeAt q x .ticket)
+  pub back : b .opened p ≡ unlinking (nodeAt q x .ticket) → nodeAt q x .mark ≡ suc p
+
+-- every node in use, of every record reached
+abbrev pub MarkerDelivers : Type 0
+MarkerDelivers =
+    (P N L : ℕ) → InRange P N L → (cs : List Turn) (b : Book) → BookAfter P N L cs b → (x p : ℕ)
+    → 1 ≤ x → x ≤ N → inUseAt (afterAll (freshQueue P N L) cs) x ≡ true →
+    MarkerIs (afterAll (freshQueue P N L) cs) b x p
 
 -- Every record reached passes check 21, so that 21 is never the answer in a run.
 abbrev pub ReachedIsValid : Type 0

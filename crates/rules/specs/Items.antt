@@ -16,8 +16,8 @@ use Rattle.rules.specs.declared.answers.Answer.the-variants as ans
 use Rattle.rules.specs.declared.answers.Entry.{Entry}
 use Rattle.rules.specs.declared.calls.Call.{Call}
 use Rattle.rules.specs.declared.calls.Call.the-variants as call
-use Rattle.rules.specs.Runs.{Turn, calls, deleteMin, stepBy, backlog, after}
-use Rattle.rules.specs.Runs.{Reply, answered, counted, reply}
+use Rattle.rules.specs.Runs.{Turn, calls, deleteMin, stepBy, backlog, markers, after}
+use Rattle.rules.specs.Runs.{Reply, answered, counted, listed, reply}
 
 -- f gives new numbers to items: what was in its range and nothing else comes to be in it. 0 stays,
 -- which nodes hold that no entry has used; any other number may become 0.
@@ -64,6 +64,7 @@ renamedAnswer f (ans.Did d e) = ans.Did d (renamedEntry f e)
 abbrev pub renamedReply : (ℕ → ℕ) → Reply → Reply
 renamedReply f (answered a) = answered (renamedAnswer f a)
 renamedReply f (counted c) = counted c
+renamedReply f (listed k area) = listed k area
 
 abbrev pub renamedCall : (ℕ → ℕ) → Call → Call
 renamedCall f (call.Insert p due item height) = call.Insert p due (f item) height
@@ -73,6 +74,7 @@ renamedCall f (call.Step p) = call.Step p
 abbrev pub renamedTurn : (ℕ → ℕ) → Turn → Turn
 renamedTurn f (calls c) = calls (renamedCall f c)
 renamedTurn f backlog = backlog
+renamedTurn f (markers area) = markers area
 
 -- the item that a call files; 0 if it files none
 abbrev pub itemOf : Call → ℕ
@@ -83,6 +85,7 @@ itemOf (call.Step p) = 0
 abbrev pub itemIn : Turn → ℕ
 itemIn (calls c) = itemOf c
 itemIn backlog = 0
+itemIn (markers area) = 0
 
 -- check 21 takes a record with the new items exactly if it takes the one with the old
 abbrev pub CheckSeesNoItem : Type 0

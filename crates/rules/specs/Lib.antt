@@ -8,3 +8,4 @@ pub mod Items
 pub mod Book
 pub mod Locks
 pub mod Demand3
+pub mod Marks

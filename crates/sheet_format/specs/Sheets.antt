@@ -64,10 +64,6 @@ abbrev pub reportedRun : SheetOutcome → Report
 reportedRun (ran.Refused n line) = report n (line ∷ [])
 reportedRun (ran.Length n) = report 0 (n ∷ [])
 
--- an area with a text at its front, and behind it as it was
-abbrev pub atFront : List ℕ → List ℕ → List ℕ
-atFront text area = text ++ drop (length text) area
-
 -- the area as it was or, after a run that is not refused, with the history at its front
 abbrev pub areaWritten : List ℕ → List ℕ → SheetOutcome → List ℕ
 areaWritten h area (ran.Refused n k) = area

@@ -15,7 +15,8 @@ use Rattle.sheet_format.specs.declared.lines.SheetLine.{SheetLine}
 use Rattle.sheet_format.specs.Calls.{callOf, sheetCalls, allCalls, callPrints, callsPrint}
 use Rattle.sheet_format.specs.Events.{historyBytes, roomAt, withEvent}
 use Rattle.sheet_format.specs.Lines.{lineCount}
-use Rattle.sheet_format.specs.Sheets.{history, fitted, atFront}
+use Rattle.laws.specs.Front.{atFront}
+use Rattle.sheet_format.specs.Sheets.{history, fitted}
 use Rattle.sheet_format.proofs.Reports.{fits-length, refuses-long}
 use Rattle.sheet_format.proofs.Written.{length-history, history-append}
 use Rattle.sheet_lines.proofs.Histories.{prints-append, prints-first}

@@ -24,7 +24,7 @@ use Rattle.sheet_format.specs.Calls.{callsPrint}
 use Rattle.sheet_format.specs.Events.{isSilent, eventFor, callEvents, eventBytes, historyBytes}
 use Rattle.sheet_format.specs.Events.{roomAt, withEvent}
 use Rattle.sheet_format.specs.Lines.{lineOf, partAt, lineCount}
-use Rattle.sheet_format.specs.Sheets.{atFront}
+use Rattle.laws.specs.Front.{atFront}
 use Rattle.sheet_format.proofs.Stores.{sets-behind}
 use Rattle.sheet_format.proofs.Written.{length-event, history-append}
 use Rattle.sheet_lines.proofs.Called.{callOn, call-queue}

@@ -10,7 +10,7 @@ use Rattle.record.specs.declared.queues.Queue.{Queue}
 use Rattle.rules.specs.Runs.{Turn, after, afterAll}
 use Rattle.sheet_format.specs.Calls.{allCalls, callPrints}
 use Rattle.sheet_format.specs.Events.{eventLength}
-use Rattle.sheet_format.specs.Sheets.{atFront}
+use Rattle.laws.specs.Front.{atFront}
 
 -- so many bytes of the room take whole lines
 abbrev pub wholeBytes : ℕ → ℕ

@@ -14,7 +14,8 @@ use Rattle.record.specs.Report.{Report, report}
 use Rattle.sheet_format.specs.declared.events.SheetOutcome.{SheetOutcome}
 use Rattle.sheet_format.specs.declared.events.SheetOutcome.the-variants as ran
 use Rattle.sheet_format.specs.Lines.{lineOf, partAt, firstOutOfForm, firstMisplaced}
-use Rattle.sheet_format.specs.Sheets.{history, historyOf, fitted, ranSheet, atFront, areaWritten, areaAfter}
+use Rattle.laws.specs.Front.{atFront}
+use Rattle.sheet_format.specs.Sheets.{history, historyOf, fitted, ranSheet, areaWritten, areaAfter}
 use Rattle.sheet_format.specs.Sheets.{fittedOutcome, queueOutcome, outcome, ranOf, reportedRun}
 use Rattle.sheet_format.proofs.Reports.{fits-length, refused-ran, outcome-told}
 

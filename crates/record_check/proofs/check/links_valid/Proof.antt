@@ -17,8 +17,11 @@ both-requires c κs = search needs
 both-requires-2 : tie.Need-both-requires-2
 both-requires-2 c κs = search needs
 
+both-requires-3 : tie.Need-both-requires-3
+both-requires-3 c κs = search needs
+
 returns : tie.Need-returns
-returns c = simp (c .both2 .ensures, c .before .before .before .both .ensures, c .before .before .before .before .all-at-most2 .ensures, c .before .before .before .before .before .all-at-most .ensures)
+returns c = simp (c .both3 .ensures, c .before .before .before .both2 .ensures, c .before .before .before .before .before .before .both .ensures, c .before .before .before .before .before .before .before .all-at-most2 .ensures, c .before .before .before .before .before .before .before .before .all-at-most .ensures)
 
 pub links-valid-spec : {M : Type 1} → statement M
 links-valid-spec =
@@ -29,4 +32,5 @@ links-valid-spec =
     all-at-most-requires-2
     both-requires
     both-requires-2
+    both-requires-3
     returns)

@@ -69,9 +69,9 @@ loop-less c = search needs
 
 loop-again : tie.Need-loop-again Inv-loop μ-loop
 loop-again c =
-    let q = c .before .before .before .before .before .before .args .t1 in
-    let i = c .before .before .before .loop .i in
-    let v = c .before .before .before .loop .inv in
+    let q = c .before .before .before .before .before .before .before .args .t1 in
+    let i = c .before .before .before .before .loop .i in
+    let v = c .before .before .before .before .loop .inv in
     let l : length (q .nodes) ≡ nodeSlots = search (needs, unmapped) in
     let k : i + 1 < nodeSlots = omega arith in
     let e = c .counted .ensures in
