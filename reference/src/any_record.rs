@@ -3,7 +3,7 @@
 
 use crate::queue::{
     Node, Operation, Place, Processor, Queue, Stage, Use, HEAD, MAX_LEVELS, MAX_NUMBER,
-    MAX_PROCESSORS, NODE_SLOTS,
+    MAX_PROCESSORS, NODE_SLOTS, UNMARKED,
 };
 use crate::random::Random;
 use crate::schedule::Sizes;
@@ -124,7 +124,7 @@ impl Maker<'_> {
             forward: self.bytes(),
             level_locks: self.bytes(),
             node_lock: self.byte(),
-            mark: self.random.one_in(2),
+            mark: self.byte(),
             stamp: Some(self.word()),
             due: self.word(),
             ticket: self.word(),
@@ -157,6 +157,11 @@ impl Maker<'_> {
             node.level_locks[slot] = if locked { self.holder() } else { 0 };
         }
         node.node_lock = if locked { self.holder() } else { 0 };
+        node.mark = if self.random.one_in(2) {
+            self.holder()
+        } else {
+            UNMARKED
+        };
         node.stamp = None;
         if number != HEAD && number != self.tail && self.random.one_in(2) {
             node.stamp = Some(self.time());
@@ -172,6 +177,7 @@ impl Maker<'_> {
         };
     }
 
+    /// What a lock or a mark holds: a processor, or none.
     fn holder(&mut self) -> u8 {
         self.up_to(self.processors)
     }

@@ -3,6 +3,7 @@
 
 use crate::answer::{Answer, Entry};
 use crate::calls::{Call, Outcome};
+use crate::markers::Listing;
 use crate::queue::MAX_PROCESSORS;
 
 /// An entry that was not handed out yet.
@@ -66,10 +67,11 @@ impl Book {
 
     /// Enters one call and what it gave back, or tells which rule it breaks.
     pub fn enter(&mut self, call: &Call, outcome: &Outcome) -> Result<(), Fault> {
-        match (*call, *outcome) {
+        match (*call, outcome) {
             (_, Outcome::Refused(_)) => Ok(()),
-            (Call::Backlog, Outcome::Count(count)) if count == self.pending() => Ok(()),
+            (Call::Backlog, Outcome::Count(count)) if *count == self.pending() => Ok(()),
             (Call::Backlog, Outcome::Count(_)) => Err("a backlog of another number of entries"),
+            (Call::Markers { .. }, Outcome::Listed(listing)) => self.listed(listing),
             (
                 Call::Insert {
                     processor,
@@ -77,7 +79,7 @@ impl Book {
                     item,
                     ..
                 },
-                Outcome::Began(time),
+                &Outcome::Began(time),
             ) => {
                 let p = self.begin(processor, time)?;
                 let (Ok(due), Ok(item)) = (u32::try_from(due), u32::try_from(item)) else {
@@ -96,7 +98,7 @@ impl Book {
                 self.open[p] = Open::Insert(time);
                 Ok(())
             }
-            (Call::DeleteMin { processor }, Outcome::Began(time)) => {
+            (Call::DeleteMin { processor }, &Outcome::Began(time)) => {
                 let p = self.begin(processor, time)?;
                 self.open[p] = Open::DeleteMin {
                     begin: time,
@@ -104,7 +106,7 @@ impl Book {
                 };
                 Ok(())
             }
-            (Call::Step { processor }, Outcome::Stepped(answer)) => self.step(processor, answer),
+            (Call::Step { processor }, &Outcome::Stepped(answer)) => self.step(processor, answer),
             _ => Err("the call cannot give this back"),
         }
     }
@@ -126,6 +128,37 @@ impl Book {
             .iter()
             .filter(|written| written.answered.is_some() && !written.marked)
             .count() as u32
+    }
+
+    /// The ticket of the entry that a processor has marked and not yet handed
+    /// out.
+    pub fn delivering(&self, p: usize) -> Option<u32> {
+        match self.open[p] {
+            Open::DeleteMin { marked, .. } => marked,
+            Open::Nothing | Open::Insert(_) => None,
+        }
+    }
+
+    /// As many nodes are told of as entries are not handed out, and each
+    /// processor stands there as a marker once if it delivers one of them, and
+    /// else never (document 02, W6).
+    fn listed(&self, listing: &Listing) -> Result<(), Fault> {
+        if listing.nodes as usize != self.entries.len() {
+            return Err("markers of another number of entries");
+        }
+        for p in 0..MAX_PROCESSORS {
+            let times = listing
+                .pairs()
+                .filter(|(_, marker)| usize::from(*marker) == p)
+                .count();
+            match (times, self.delivering(p)) {
+                (1, Some(_)) | (0, None) => {}
+                (0, Some(_)) => return Err("markers without one that delivers an entry"),
+                (_, None) => return Err("markers with one that delivers nothing"),
+                (_, Some(_)) => return Err("markers with one that stands there twice"),
+            }
+        }
+        Ok(())
     }
 
     /// Where the entry with this ticket stands.

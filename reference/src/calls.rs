@@ -6,8 +6,9 @@
 //! refused call changes nothing.
 
 use crate::answer::Answer;
+use crate::markers::Listing;
 use crate::queue::{
-    Node, Operation, Queue, Refusal, Stage, Use, FREE, HEAD, MAX_LEVELS, MAX_NUMBER,
+    Node, Operation, Queue, Refusal, Stage, Use, FREE, HEAD, MAX_LEVELS, MAX_NUMBER, UNMARKED,
 };
 use crate::stages::{at, holder};
 
@@ -37,10 +38,15 @@ pub enum Call {
     },
     /// Read the backlog.
     Backlog,
+    /// Read who has marked which node.
+    Markers {
+        /// How many bytes the lent area has.
+        room: usize,
+    },
 }
 
 /// What a call gives back.
-#[derive(Clone, Copy, PartialEq, Eq, Debug)]
+#[derive(Clone, PartialEq, Eq, Debug)]
 pub enum Outcome {
     /// A begin was accepted at this time.
     Began(u32),
@@ -48,6 +54,8 @@ pub enum Outcome {
     Stepped(Answer),
     /// The backlog.
     Count(u32),
+    /// How many nodes are in use, and who has marked which.
+    Listed(Listing),
     /// The call was refused.
     Refused(Refusal),
 }
@@ -116,6 +124,7 @@ impl Queue {
             }
             Call::Step { processor } => self.step_inner(processor).map(Outcome::Stepped),
             Call::Backlog => Ok(Outcome::Count(self.backlog_inner())),
+            Call::Markers { room } => self.listing(room).map(Outcome::Listed),
         };
         outcome.unwrap_or_else(Outcome::Refused)
     }
@@ -154,7 +163,7 @@ impl Queue {
         Ok(self.run_stage(p))
     }
 
-    fn check(&self) -> Result<(), Refusal> {
+    pub(crate) fn check(&self) -> Result<(), Refusal> {
         if self.sound() {
             Ok(())
         } else {
@@ -252,7 +261,7 @@ impl Queue {
             forward,
             level_locks,
             node_lock: holder(p),
-            mark: false,
+            mark: UNMARKED,
             stamp: None,
             due: filing.due,
             ticket: self.clock,

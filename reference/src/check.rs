@@ -59,6 +59,7 @@ impl Queue {
         };
         (none_above(&node.forward, links) & none_above(&node.level_locks, holders))
             && node.node_lock <= self.processor_count
+            && node.mark <= self.processor_count
             && node.due <= MAX_NUMBER
             && node.item <= MAX_NUMBER
             && node.ticket <= self.clock

@@ -2,6 +2,7 @@
 
 use crate::answer::{Answer, Entry};
 use crate::calls::{Call, Outcome};
+use crate::markers::Listing;
 use crate::queue::{Operation, Place, Processor, Queue, Stage, Use};
 
 /// A call: its name and numbers.
@@ -16,6 +17,7 @@ pub fn call_words(call: &Call) -> String {
         Call::DeleteMin { processor } => format!("delete {processor}"),
         Call::Step { processor } => format!("step {processor}"),
         Call::Backlog => "backlog".to_string(),
+        Call::Markers { room } => format!("markers {room}"),
     }
 }
 
@@ -24,9 +26,19 @@ pub fn outcome_words(outcome: &Outcome) -> String {
     match outcome {
         Outcome::Began(time) => format!("began {time}"),
         Outcome::Count(count) => format!("{count}"),
+        Outcome::Listed(listing) => listing_words(listing),
         Outcome::Refused(number) => format!("refused {number}"),
         Outcome::Stepped(answer) => answer_words(answer),
     }
+}
+
+/// How many nodes, then each with its marker.
+fn listing_words(listing: &Listing) -> String {
+    let mut words = format!("{} nodes", listing.nodes);
+    for (node, marker) in listing.pairs() {
+        words += &format!(" {node}:{marker}");
+    }
+    words
 }
 
 fn answer_words(answer: &Answer) -> String {
@@ -61,7 +73,7 @@ pub fn record_words(queue: &Queue) -> String {
         text += &format!(
             "node {number} {usage} mark {} stamp {stamp} nodelock {} due {} item {} ticket {} \
              height {} forward {} locks {}\n",
-            u8::from(node.mark),
+            node.mark,
             node.node_lock,
             node.due,
             node.item,

@@ -26,7 +26,7 @@ impl Ghost {
     /// Follows one call. `was` is the calling processor before it, `queue`
     /// the record after it.
     pub fn follow(&mut self, was: &Processor, call: &Call, outcome: &Outcome, queue: &Queue) {
-        match (*call, *outcome) {
+        match (*call, outcome) {
             (Call::Insert { processor, .. }, Outcome::Began(_)) => {
                 let own = queue.processors[processor as usize].own;
                 self.until[own as usize] = [0; MAX_LEVELS];

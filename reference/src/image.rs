@@ -102,7 +102,7 @@ fn put_node(bytes: &mut Vec<u8>, node: &Node) {
     bytes.extend_from_slice(&node.forward);
     bytes.extend_from_slice(&node.level_locks);
     bytes.push(node.node_lock);
-    bytes.push(u8::from(node.mark));
+    bytes.push(node.mark);
     bytes.push(u8::from(node.stamp.is_some()));
     put_number(bytes, node.stamp.unwrap_or(0));
     put_number(bytes, node.due);
@@ -223,11 +223,7 @@ impl Reader<'_> {
         let forward = self.levels();
         let level_locks = self.levels();
         let node_lock = self.byte();
-        let mark = match self.byte() {
-            0 => false,
-            1 => true,
-            _ => return None,
-        };
+        let mark = self.byte();
         let stamp = match (self.byte(), self.number()) {
             (0, 0) => None,
             (1, time) => Some(time),

@@ -1,5 +1,6 @@
 //! A second, independent SkipQueue run one step at a time, written from
-//! document 01 alone. The proved implementation is compared with this one.
+//! documents 01 and 02 alone. The proved implementation is compared with this
+//! one.
 
 #![warn(missing_docs)]
 
@@ -15,6 +16,7 @@ pub mod ghost;
 pub mod image;
 pub mod invariant;
 pub mod lists;
+pub mod markers;
 pub mod mistakes;
 pub mod perturb;
 pub mod program;

@@ -30,6 +30,7 @@ pub fn numbers_of(outcome: &Outcome) -> [u32; 4] {
     let of = |code: u32, entry: Entry| [code, entry.due, entry.item, entry.ticket];
     match *outcome {
         Outcome::Began(value) | Outcome::Count(value) => [0, value, 0, 0],
+        Outcome::Listed(ref listing) => [0, listing.nodes, 0, 0],
         Outcome::Refused(number) => [number, 0, 0, 0],
         Outcome::Stepped(Answer::Moved) => [1, 0, 0, 0],
         Outcome::Stepped(Answer::Waits) => [2, 0, 0, 0],

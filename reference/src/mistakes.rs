@@ -1,10 +1,12 @@
-//! Wrong queues, one for each mistake of document 01's "Where an implementer
-//! goes astray". Each takes the right queue and does one stage its own way;
-//! the right code knows nothing of them.
+//! Wrong queues: one for each mistake of document 01's "Where an implementer
+//! goes astray", and two of document 02's marks. Each takes the right queue and
+//! does one stage its own way; the right code knows nothing of them.
 
 use crate::answer::Answer;
 use crate::calls::{Call, Outcome};
-use crate::queue::{Key, Place, Queue, Stage, HEAD, MAX_NUMBER, MAX_PROCESSORS};
+use crate::queue::{Key, Place, Processor, Queue, Stage};
+use crate::queue::{HEAD, MAX_NUMBER, MAX_PROCESSORS, UNMARKED};
+use crate::stages::holder;
 use crate::trial::Machine;
 
 /// A mistake.
@@ -23,6 +25,10 @@ pub enum Mistake {
     HeadMarked,
     /// A node is given out again as soon as it is unlinked.
     ReuseAtOnce,
+    /// A walk that finds a mark set puts its own number there (document 02, W6).
+    MarkTakenOver,
+    /// L8 takes the mark off (document 02, W6).
+    MarkTakenOff,
 }
 
 /// A queue with one mistake.
@@ -88,6 +94,25 @@ impl Wrong {
             (Mistake::HeadMarked, Stage::W2Compare(a)) if a.node == HEAD => {
                 self.queue.clock += 1;
                 Some(self.queue.go(p, Stage::W3Mark(a)))
+            }
+            _ => self.wrong_mark(p),
+        }
+    }
+
+    /// The step of processor p, if the mistake is about marks and touches its
+    /// stage.
+    fn wrong_mark(&mut self, p: usize) -> Option<Answer> {
+        let Processor { stage, own, .. } = self.queue.processors[p];
+        match (self.mistake, stage) {
+            (Mistake::MarkTakenOver, Stage::W3Mark(a)) => {
+                self.queue.clock += 1;
+                let answer = self.queue.walk_mark(p, a);
+                self.queue.nodes[a.node as usize].mark = holder(p);
+                Some(answer)
+            }
+            (Mistake::MarkTakenOff, Stage::L8Retire) => {
+                self.queue.nodes[own as usize].mark = UNMARKED;
+                None
             }
             _ => None,
         }

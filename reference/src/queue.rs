@@ -2,8 +2,8 @@
 //!
 //! Levels are numbered from 1; the slot of level i is i - 1. Node 0 is the
 //! head and node N+1 the tail. A lock holds 0 while it is free and p + 1
-//! while processor p holds it. Every field is open, so that a test can put
-//! any value into it.
+//! while processor p holds it; a mark says in the same numbers who set it.
+//! Every field is open, so that a test can put any value into it.
 
 use std::cmp::Ordering;
 
@@ -23,6 +23,8 @@ pub const MAX_SECONDS: u64 = 59_999_969;
 pub const HEAD: u8 = 0;
 /// What a lock holds while nobody has it.
 pub const FREE: u8 = 0;
+/// What a mark holds while nobody has set it.
+pub const UNMARKED: u8 = 0;
 
 /// The number of a refusal, from the table of document 01.
 pub type Refusal = u32;
@@ -47,8 +49,8 @@ pub struct Node {
     pub level_locks: [u8; MAX_LEVELS],
     /// The holder of the node lock.
     pub node_lock: u8,
-    /// Set by the Delete_Min that takes this entry.
-    pub mark: bool,
+    /// Who set the mark: the Delete_Min that takes this entry (document 02, W6).
+    pub mark: u8,
     /// The time at which the Insert answered, or none.
     pub stamp: Option<u32>,
     /// The due minute.
@@ -201,7 +203,7 @@ impl Node {
             forward: [tail; MAX_LEVELS],
             level_locks: [FREE; MAX_LEVELS],
             node_lock: FREE,
-            mark: false,
+            mark: UNMARKED,
             stamp: None,
             due: 0,
             ticket: 0,
@@ -209,6 +211,16 @@ impl Node {
             height: 1,
             state: Use::Never,
         }
+    }
+
+    /// Whether somebody has set the mark.
+    pub fn is_marked(&self) -> bool {
+        self.mark != UNMARKED
+    }
+
+    /// The processor that has set the mark.
+    pub fn marker(&self) -> Option<u8> {
+        self.mark.checked_sub(1)
     }
 }
 
@@ -284,7 +296,8 @@ impl Queue {
     /// How many entries are answered and not marked, told by the nodes
     /// (document 02, W2), without check 21.
     pub fn backlog_inner(&self) -> u32 {
-        let counts = |node: &&Node| node.state == Use::InUse && node.stamp.is_some() && !node.mark;
+        let counts =
+            |node: &&Node| node.state == Use::InUse && node.stamp.is_some() && !node.is_marked();
         self.entry_nodes().filter(counts).count() as u32
     }
 }

@@ -6,6 +6,7 @@
 use crate::answer::Answer;
 use crate::book::{Book, Open};
 use crate::calls::{Call, Outcome};
+use crate::markers::PAIR;
 use crate::queue::{Refusal, MAX_NUMBER};
 use crate::schedule::Sizes;
 use std::collections::VecDeque;
@@ -37,6 +38,9 @@ impl Refusals {
     pub fn expected(&self, book: &Book, call: &Call) -> Option<Refusal> {
         let processor = match *call {
             Call::Backlog => return None,
+            Call::Markers { room } => {
+                return (room < PAIR * book.entries.len()).then_some(43);
+            }
             Call::Insert { processor, .. } => processor,
             Call::DeleteMin { processor } => processor,
             Call::Step { processor } => processor,
@@ -89,7 +93,7 @@ impl Refusals {
 
     /// Takes notice of a call. `book` is the book after it.
     pub fn note(&mut self, book: &Book, call: &Call, outcome: &Outcome) {
-        match (*call, *outcome) {
+        match (*call, outcome) {
             (Call::Insert { .. }, Outcome::Began(_)) => {
                 if self.never_used > 0 {
                     self.never_used -= 1;

@@ -7,6 +7,7 @@
 
 use crate::answer::Answer;
 use crate::calls::{Call, Outcome};
+use crate::markers::PAIR;
 use crate::queue::{MAX_LEVELS, MAX_NODES, MAX_NUMBER, MAX_PROCESSORS};
 use crate::random::Random;
 
@@ -82,6 +83,8 @@ pub struct Schedule {
     held_until: [u64; MAX_PROCESSORS],
     /// Which processors are in an operation.
     busy: [bool; MAX_PROCESSORS],
+    /// How many entries have begun and are not handed out.
+    held: usize,
 }
 
 impl Schedule {
@@ -106,6 +109,7 @@ impl Schedule {
             in_vain: 0,
             held_until: [0; MAX_PROCESSORS],
             busy: [false; MAX_PROCESSORS],
+            held: 0,
         }
     }
 
@@ -129,6 +133,10 @@ impl Schedule {
         if self.random.one_in(50) {
             return Call::Backlog;
         }
+        if self.random.one_in(25) {
+            let room = self.room();
+            return Call::Markers { room };
+        }
         if self.random.one_in(self.bad_once_in) {
             return self.bad_call();
         }
@@ -143,8 +151,12 @@ impl Schedule {
     /// Takes notice of what a call gave back.
     pub fn note(&mut self, call: &Call, outcome: &Outcome) {
         self.note_vain(outcome);
-        match (*call, *outcome) {
-            (Call::Insert { processor, .. } | Call::DeleteMin { processor }, Outcome::Began(_)) => {
+        match (*call, outcome) {
+            (Call::Insert { processor, .. }, Outcome::Began(_)) => {
+                self.busy[processor as usize] = true;
+                self.held += 1;
+            }
+            (Call::DeleteMin { processor }, Outcome::Began(_)) => {
                 self.busy[processor as usize] = true;
             }
             (
@@ -154,6 +166,9 @@ impl Schedule {
                 self.busy[processor as usize] = false;
             }
             _ => {}
+        }
+        if matches!(outcome, Outcome::Stepped(Answer::HandedOut(_))) {
+            self.held = self.held.saturating_sub(1);
         }
     }
 
@@ -223,6 +238,25 @@ impl Schedule {
         } else {
             self.random.between(1, 99)
         }
+    }
+
+    /// A room for markers: just enough, a byte or a node less or more, none, or
+    /// enough for all nodes.
+    fn room(&mut self) -> usize {
+        let enough = PAIR * self.held;
+        let all = PAIR * self.sizes.nodes as usize;
+        let rooms = [
+            enough,
+            enough,
+            enough.saturating_sub(1),
+            enough.saturating_sub(PAIR),
+            enough + 1,
+            enough + PAIR,
+            0,
+            all,
+            all + 100,
+        ];
+        self.random.among(&rooms)
     }
 
     /// A call that should be refused, in each way that a caller can earn it.

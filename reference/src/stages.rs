@@ -163,10 +163,10 @@ impl Queue {
     /// W3: set the mark; whoever finds it unset owns the node.
     pub(crate) fn walk_mark(&mut self, p: usize, a: Place) -> Answer {
         let node = &mut self.nodes[a.node as usize];
-        if node.mark {
+        if node.is_marked() {
             return self.go(p, Stage::W1Read(a));
         }
-        node.mark = true;
+        node.mark = holder(p);
         self.processors[p].own = a.node;
         let start = at(HEAD, self.level_count);
         self.go(p, Stage::Search(Operation::DeleteMin, start));
@@ -268,7 +268,7 @@ pub(crate) fn at(node: u8, level: u8) -> Place {
     Place { node, level }
 }
 
-/// How a lock names processor `p`.
+/// How a lock and a mark name processor `p`.
 pub(crate) fn holder(p: usize) -> u8 {
     p as u8 + 1
 }

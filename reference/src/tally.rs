@@ -2,6 +2,7 @@
 
 use crate::answer::Answer;
 use crate::calls::Outcome;
+use crate::markers::NOBODY;
 use crate::queue::{Queue, Stage};
 
 /// How often each thing happened.
@@ -25,6 +26,10 @@ pub struct Tally {
     pub empty: u64,
     /// Backlog calls.
     pub backlogs: u64,
+    /// Markers calls.
+    pub listings: u64,
+    /// Nodes that these told of, with their marker.
+    pub markers: u64,
     /// Calls after which fewer entries are counted than nodes are in use.
     pub fewer_than_in_use: u64,
     /// Nodes taken again.
@@ -37,8 +42,8 @@ pub struct Tally {
     pub led_back: u64,
     /// Waits for the own lock of a level (L2).
     pub own_waits: u64,
-    /// Refusals 31 to 37 and 39, by their last digit.
-    pub refused: [u64; 10],
+    /// Refusals 31 to 37, 39 and 43, by what they are above 30.
+    pub refused: [u64; 14],
 }
 
 impl Tally {
@@ -53,6 +58,8 @@ impl Tally {
         self.handed += other.handed;
         self.empty += other.empty;
         self.backlogs += other.backlogs;
+        self.listings += other.listings;
+        self.markers += other.markers;
         self.fewer_than_in_use += other.fewer_than_in_use;
         self.reused += other.reused;
         self.moved_on += other.moved_on;
@@ -70,6 +77,11 @@ impl Tally {
         match *outcome {
             Outcome::Began(_) => {}
             Outcome::Count(_) => self.backlogs += 1,
+            Outcome::Listed(ref listing) => {
+                let marked = listing.pairs().filter(|(_, marker)| *marker != NOBODY);
+                self.listings += 1;
+                self.markers += marked.count() as u64;
+            }
             Outcome::Refused(number) => self.refused[number as usize - 30] += 1,
             Outcome::Stepped(answer) => match answer {
                 Answer::Moved => self.moved += 1,

@@ -4,7 +4,8 @@ use crate::book::Book;
 use crate::calls::{Call, Outcome};
 use crate::ghost::Ghost;
 use crate::invariant;
-use crate::queue::{fresh, Queue};
+use crate::markers::{lent, Listing, NOBODY, PAIR};
+use crate::queue::{fresh, Queue, MAX_PROCESSORS};
 use crate::refusals::Refusals;
 use crate::schedule::{Schedule, Sizes};
 use crate::tally::Tally;
@@ -89,8 +90,8 @@ impl<M: Machine> Trial<M> {
     }
 
     /// Makes so many calls of the schedule; each answer goes through the book
-    /// and the table of refusals, and so does the backlog after each call;
-    /// after every `every`-th one the invariant is looked at.
+    /// and the table of refusals, and so do the backlog and the markers after
+    /// each call; after every `every`-th one the invariant is looked at.
     pub fn play(&mut self, calls: u64, every: u64) -> Result<(), Failure> {
         for _ in 0..calls {
             let call = self.schedule.next_call();
@@ -98,6 +99,7 @@ impl<M: Machine> Trial<M> {
             self.check_refusals(&call, &outcome)?;
             self.enter(&call, &outcome)?;
             self.check_backlog()?;
+            self.check_markers()?;
             self.refusals.note(&self.book, &call, &outcome);
             self.tally.reused = self.refusals.reused;
             if self.tally.calls.is_multiple_of(every) {
@@ -150,9 +152,9 @@ impl<M: Machine> Trial<M> {
         self.schedule.note(call, &outcome);
         self.ghost
             .follow(&was, call, &outcome, self.machine.queue());
-        if let (Call::Step { processor }, Outcome::Stepped(answer)) = (*call, outcome) {
+        if let (Call::Step { processor }, Outcome::Stepped(answer)) = (*call, &outcome) {
             self.tally
-                .count_rare(&was.stage, processor, &answer, self.machine.queue());
+                .count_rare(&was.stage, processor, answer, self.machine.queue());
         }
         outcome
     }
@@ -190,6 +192,53 @@ impl<M: Machine> Trial<M> {
             return Err(self.failure(format!("{used} nodes are in use")));
         }
         self.tally.fewer_than_in_use += u64::from(count < used);
+        Ok(())
+    }
+
+    /// Markers would give what the book asks for, whether it is called here or
+    /// not: with just enough room, with a byte more, and with a byte less.
+    fn check_markers(&mut self) -> Result<(), Failure> {
+        let enough = PAIR * self.book.entries.len();
+        let more = (self.tally.calls % 2) as usize;
+        match self.machine.queue().listing(enough + more) {
+            Err(number) => return Err(self.failure(format!("markers are refused with {number}"))),
+            Ok(listing) => {
+                let call = Call::Markers {
+                    room: enough + more,
+                };
+                self.check_listing(&listing)?;
+                self.enter(&call, &Outcome::Listed(listing))?;
+            }
+        }
+        let mut short = lent(enough.saturating_sub(1));
+        if enough > 0 && self.machine.queue().markers_inner(&mut short) != Err(43) {
+            return Err(self.failure("markers are told with too little room".to_string()));
+        }
+        if short != lent(short.len()) {
+            return Err(self.failure("refused markers are written".to_string()));
+        }
+        Ok(())
+    }
+
+    /// The nodes rise, the rest of the area is as it was, and each node in use
+    /// has as its marker the processor that the book has delivering its entry.
+    fn check_listing(&self, listing: &Listing) -> Result<(), Failure> {
+        let mut last = 0;
+        for (number, marker) in listing.pairs() {
+            if number <= last || u64::from(number) > self.sizes.nodes {
+                return Err(self.failure(format!("markers have node {number} behind {last}")));
+            }
+            last = number;
+            let ticket = self.machine.queue().nodes[number as usize].ticket;
+            let delivers = |p: &usize| self.book.delivering(*p) == Some(ticket);
+            let expected = (0..MAX_PROCESSORS).find(delivers);
+            if usize::from(marker) != expected.unwrap_or(usize::from(NOBODY)) {
+                return Err(self.failure(format!("node {number} has the marker {marker}")));
+            }
+        }
+        if !listing.leaves_the_rest() {
+            return Err(self.failure("markers are written past the nodes".to_string()));
+        }
         Ok(())
     }
 

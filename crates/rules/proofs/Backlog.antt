@@ -4,7 +4,7 @@ use mathlib.Core.Path.{_≡_, refl, sym, ap, _∙_}
 use mathlib.Core.Bool.{Bool, true, false, _&&_, not, true≢false}
 use Prim.Native.Nat.{ℕ, _≤_, _<_}
 use native.Mathlib.Omega.{arith}
-use borrow.Author.Tests.{eq-eqb}
+use borrow.Author.Tests.{eq-eqb, ltb-false}
 use Rattle.laws.specs.HowMany.{howMany}
 use Rattle.laws.proofs.Booleans.{cond-cases}
 use Rattle.laws.proofs.Counting.{and-left, and-right}
@@ -14,7 +14,7 @@ use Rattle.record.specs.declared.nodes.Stamp.the-variants as stamp
 use Rattle.record.specs.declared.nodes.Use.{Use}
 use Rattle.record.specs.declared.nodes.Use.the-variants as use′
 use Rattle.record.specs.declared.queues.Queue.{Queue}
-use Rattle.record.specs.Nodes.{isInUse, isStamped}
+use Rattle.record.specs.Nodes.{isInUse, isMarked, isStamped}
 use Rattle.record.specs.Queues.{nodeAt}
 use Rattle.record_check.specs.declared.counting.Count.{Count}
 use Rattle.record_check.specs.Backlog.{pendingAt, backlogOf}
@@ -23,7 +23,7 @@ use Rattle.rules.specs.Book.{BookEntry, Book, agrees, answeredIn, pendin
 use Rattle.rules.specs.Demand3.{Pending}
 use Rattle.rules.proofs.Booked.{ticket-apart, eligible-of, candidate-of}
 use Rattle.rules.proofs.Choose.{used-number}
-use Rattle.rules.proofs.Concrete.{stampNumber, useNumber, markNumber, viewOf}
+use Rattle.rules.proofs.Concrete.{stampNumber, useNumber, viewOf}
 use Rattle.rules.proofs.Inv.{Eligible}
 use Rattle.rules.proofs.Picks.{candidate-true, candidate-is}
 use Rattle.rules.proofs.Put.{ever}
@@ -32,12 +32,12 @@ use Rattle.rules.proofs.ValidFacts.{valid-facts}
 use Rattle.rules.proofs.View.{View}
 
 -- a node's use, stamp and mark, and the view's numbers for them
-use-number : (u : Use) → isInUse u ≡ true → useNumber u ≡ 1
+pub use-number : (u : Use) → isInUse u ≡ true → useNumber u ≡ 1
 use-number use′.Never h = absurd (true≢false (sym h))
 use-number use′.InUse h = refl
 use-number (use′.Retired t) h = absurd (true≢false (sym h))
 
-number-use : (u : Use) → useNumber u ≡ 1 → isInUse u ≡ true
+pub number-use : (u : Use) → useNumber u ≡ 1 → isInUse u ≡ true
 number-use use′.Never h = absurd (omega arith)
 number-use use′.InUse h = refl
 number-use (use′.Retired t) h = absurd (omega arith)
@@ -52,13 +52,15 @@ number-stamp : (s : Stamp) → stampNumber s < ever → isStamped s ≡ true
 number-stamp stamp.Unset h = absurd (omega arith)
 number-stamp (stamp.At t) h = refl
 
-mark-number : (m : Bool) → not m ≡ true → markNumber m ≡ 0
-mark-number true h = absurd (true≢false (sym h))
-mark-number false h = refl
+mark-number : (m : ℕ) → not (isMarked m) ≡ true → m ≡ 0
+mark-number m h = go (isMarked m) refl h
+  where
+    go : (b : Bool) → isMarked m ≡ b → not b ≡ true → m ≡ 0
+    go true e n = absurd (true≢false (sym n))
+    go false e n = omega (arith, ltb-false 0 m e)
 
-number-mark : (m : Bool) → markNumber m ≡ 0 → not m ≡ true
-number-mark true h = absurd (omega arith)
-number-mark false h = refl
+number-mark : (m : ℕ) → m ≡ 0 → not (isMarked m) ≡ true
+number-mark m h = rw h refl
 
 module _ (q : Queue) (b : Book) (S : Sound q b) where
   abbrev v : View
@@ -74,7 +76,7 @@ module _ (q : Queue) (b : Book) (S : Sound q b) where
       let n = nodeAt q x in
       let i = isInUse (n .state) in
       let s = isStamped (n .stamp) in
-      let m = not (n .mark) in
+      let m = not (isMarked (n .mark)) in
       let r = and-right i (s && m) (P .passes) in
       let past = valid-facts q ok .nodes x (omega (arith, P .high)) .stamp-time in
       record {

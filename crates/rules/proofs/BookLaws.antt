@@ -21,9 +21,12 @@ use Rattle.rules.specs.declared.answers.Deed.{Deed}
 use Rattle.rules.specs.declared.answers.Deed.the-variants as deed
 use Rattle.rules.specs.declared.answers.Entry.{Entry}
 use Rattle.rules.specs.Book.{BookEntry, Open, nothing, inserting, walking, unlinking, Book, Verdict, agrees, differs, agreesIf, now, afterCall, pick, gives, withAnswer, withMarked, withHandOut, beginsInsert, beginsDelete, inserted, marks, empties, handsOut, moves, feedBegin, feedInsert, feedDelete, feedDeed, feedStep, feed, thenFeed, judged}
-use Rattle.rules.specs.Book.{pendingIn, feedBacklog}
+use Rattle.rules.specs.Book.{pendingIn, feedBacklog, heldIn, deliverersListed, feedMarkers}
 use Rattle.rules.specs.declared.calls.Call.the-variants as call
-use Rattle.rules.specs.Runs.{Turn, calls, backlog, Reply, answered, counted, after, reply}
+use Rattle.record_markers.specs.declared.listing.Listed.{Listed}
+use Rattle.record_markers.specs.declared.listing.Listed.the-variants as listing
+use Rattle.rules.specs.Runs.{Turn, calls, backlog, markers, after}
+use Rattle.rules.specs.Runs.{Reply, answered, counted, listed, reply}
 
 -- what holds of the book of an answer that agrees
 abbrev pub Right : (Book → Type 0) → Verdict → Type 0
@@ -156,13 +159,24 @@ module _ (flag : BookEntry → Bool) (t : ℕ) (answer-keeps : (l : BookEntry) (
     fed-backlog (count.Pending k) =
         right-if (Stays flag t) (eqb k (howMany (pendingIn b) (b .count))) b (λ _. S)
 
+    fed-markers : (k : Listed) (area : List ℕ) → K (feedMarkers b k area)
+    fed-markers (listing.Refused n) area = S
+    fed-markers (listing.Nodes k) area =
+        right-if (Stays flag t) (eqb k (howMany (heldIn b) (b .count)) && deliverersListed b area k) b
+        (λ _. S)
+
     fed : (c : Turn) (r : Reply) → K (feed b c r)
     fed (calls (call.Insert p due item height)) (answered a) = fed-insert p due item a
     fed (calls (call.DeleteMin p)) (answered a) = fed-delete p a
     fed (calls (call.Step p)) (answered a) = fed-step p a
     fed (calls c) (counted k) = tt
+    fed (calls c) (listed k area) = tt
     fed backlog (answered a) = tt
     fed backlog (counted k) = fed-backlog k
+    fed backlog (listed k area) = tt
+    fed (markers lent) (answered a) = tt
+    fed (markers lent) (counted k) = tt
+    fed (markers lent) (listed k area) = fed-markers k area
 
   then-fed : (v : Verdict) (f : Book → Verdict) → Right (Stays flag t) v → ((b : Book) → Stays flag t b → Right (Stays flag t) (f b)) → Right (Stays flag t) (thenFeed v f)
   then-fed (agrees b) f S h = h b S

@@ -1,7 +1,7 @@
 -- Every step's answer agrees with the book.
 use mathlib.Core.Path.{_≡_, refl, sym, ap, subst, _∙_}
 use mathlib.Core.Bool.{Bool, true, false, true≢false}
-use Prim.Native.Nat.{ℕ, _+_, _≤_, _<_}
+use Prim.Native.Nat.{ℕ, suc, _+_, _≤_, _<_}
 use native.Mathlib.Omega.{arith}
 use native.Mathlib.Decide.{ℕ-discrete}
 use lib.Dec.{ltb, leb, eqb}
@@ -43,7 +43,7 @@ use Rattle.rules.proofs.WalkSteps.{empty-right, mark-able, mark-first}
 use Rattle.rules.proofs.Begin.{rank-entry}
 use Rattle.rules.specs.Book.{BookEntry, Open, nothing, unlinking, Book, afterCall, pick, gives, withAnswer, withMarked, withHandOut}
 use Rattle.rules.proofs.Picks.{order, Candidate, Picked, none, one, picked}
-use Rattle.rules.proofs.Rel.{opens, lineOf, Found, Filed, Rel, Booked, quiet, Quiet, quiet-booked}
+use Rattle.rules.proofs.Rel.{opens, lineOf, Found, Filed, Marker, Rel, Booked, quiet, Quiet, quiet-booked}
 use Rattle.rules.proofs.Rel.{still-past}
 
 -- a decision of a seek is quiet where its effect is
@@ -110,7 +110,7 @@ unmarked-zero m h = omega (arith, ltb-false 0 m h)
 module _ (v : View) (u : ℕ → ℕ → ℕ) (I : Inv v u) (b : Book) (R : Rel v b) (T : ℕ) where
   pub eligible-of : (t : ℕ) → Candidate b T t → (n : ℕ) × (v .tick n ≡ t) × Eligible (v .us) (v .st) (v .mk) (v .nodes) T n
   eligible-of t C =
-      let F = R .found t (C .written) (C .unmarked) in
+      let F = R .found t (C .written) (R .unhanded t (C .unmarked)) in
       let l = R .kept (F .node) (F .low) (F .high) (F .used) in (
         F .node,
         F .ticket,
@@ -171,19 +171,34 @@ module _ (v : View) (u : ℕ → ℕ → ℕ) (I : Inv v u) (b : Book) (R : Rel 
     (o≥ : 1 ≤ o) (o≤ : o ≤ v .nodes) (used : 1 ≤ v .us o) (F : Filed (b .entry) (v .tick) (v .due) (v .item) o)
     (mk-same : (n : ℕ) → (n ≡ o → ⊥) → mk n ≡ v .mk n) (st-same : (n : ℕ) → (n ≡ o → ⊥) → st n ≡ v .st n) (us-same : (n : ℕ) → (n ≡ o → ⊥) → us n ≡ v .us n)
     (l-written : l .written ≡ b .entry (v .tick o) .written) (l-due : l .due ≡ b .entry (v .tick o) .due) (l-item : l .item ≡ b .entry (v .tick o) .item)
-    (kept-o : us o ≡ 1 → l ≡ lineOf (v .due) (v .item) st mk o) (found-o : l .marked ≡ false → Found us (v .tick) (v .nodes) (v .tick o))
+    (kept-o : us o ≡ 1 → l ≡ lineOf (v .due) (v .item) st mk o) (found-o : l .handedOut ≡ false → Found us (v .tick) (v .nodes) (v .tick o)) (unhanded-o : l .marked ≡ false → l .handedOut ≡ false)
     (opened-p : op ≡ opens (c .stage) (c .begin) (v .tick (c .own)))
-    (not-insert : info (v .ht (c .own)) (c .stage) .kind ≡ 1 → ⊥) where
+    (not-insert : info (v .ht (c .own)) (c .stage) .kind ≡ 1 → ⊥)
+    (removed : claim v p .kind ≡ 3 → v .pr p .own ≡ o) (marker-o : (q : ℕ) → us o ≡ 1 → mk o ≡ suc q → Marker (ticked v p c) o q) where
   rel-line : Rel (ticked (withStatus v mk st us) p c) (afterCall b (changedAt (b .entry) (v .tick o) l) p op)
   rel-line = record {
     count = omega (arith, R .count);
     opened = λ q. opened q (ℕ-discrete q p);
     kept = λ n. kept n (ℕ-discrete n o);
     found = λ t. found t (ℕ-discrete t (v .tick o));
+    unhanded = λ t. unhanded t (ℕ-discrete t (v .tick o));
     filed = λ q. filed q (ℕ-discrete q p);
     late = λ t. late t (ℕ-discrete t (v .tick o));
+    marker = λ n q. marker n q (ℕ-discrete n o);
   }
     where
+      unhanded : (t : ℕ) → Dec (t ≡ v .tick o) → changedAt (b .entry) (v .tick o) l t .marked ≡ false → changedAt (b .entry) (v .tick o) l t .handedOut ≡ false
+      unhanded t (yes e) = rw (e, changed-same (b .entry) (v .tick o) l) unhanded-o
+      unhanded t (no d) = rw (changed-other (b .entry) (v .tick o) l t d) (R .unhanded t)
+
+      marker-other : (n q : ℕ) → (n ≡ o → ⊥) → Dec (q ≡ p) → Marker v n q → Marker (ticked v p c) n q
+      marker-other n q ne (yes e) = rw e λ M. absurd (ne (sym (M .1) ∙ removed (M .0)))
+      marker-other n q ne (no d) = rw (changed-other (v .pr) p c q d) λ M. M
+
+      marker : (n q : ℕ) → Dec (n ≡ o) → 1 ≤ n → n ≤ v .nodes → us n ≡ 1 → mk n ≡ suc q → Marker (ticked v p c) n q
+      marker n q (yes e) = rw e λ n≥ n≤ nu m. marker-o q nu m
+      marker n q (no d) = rw (us-same n d, mk-same n d) λ n≥ n≤ nu m. marker-other n q d (ℕ-discrete q p) (R .marker n q n≥ n≤ nu m)
+
       opened : (q : ℕ) → Dec (q ≡ p) → changedAt (b .opened) p op q ≡ opens (changedAt (v .pr) p c q .stage)
           (changedAt (v .pr) p c q .begin) (v .tick (changedAt (v .pr) p c q .own))
       opened q (yes e) = rw (e, changed-same (v .pr) p c, changed-same (b .opened) p op) opened-p
@@ -194,7 +209,7 @@ module _ (v : View) (u : ℕ → ℕ → ℕ) (I : Inv v u) (b : Book) (R : Rel 
       kept n (no d) = rw (us-same n d, st-same n d, mk-same n d) λ n≥ n≤ nu.
           changed-other (b .entry) (v .tick o) l (v .tick n) (λ e. d (ticket-apart v u I b R n o n≥ n≤ o≥ o≤ nu used (F .due) e)) ∙ R .kept n n≥ n≤ nu
 
-      found : (t : ℕ) → Dec (t ≡ v .tick o) → changedAt (b .entry) (v .tick o) l t .written ≡ true → changedAt (b .entry) (v .tick o) l t .marked ≡ false → Found us (v .tick) (v .nodes) t
+      found : (t : ℕ) → Dec (t ≡ v .tick o) → changedAt (b .entry) (v .tick o) l t .written ≡ true → changedAt (b .entry) (v .tick o) l t .handedOut ≡ false → Found us (v .tick) (v .nodes) t
       found t (yes e) = rw (e, changed-same (b .entry) (v .tick o) l) λ w m. found-o m
       found t (no d) = rw (changed-other (b .entry) (v .tick o) l t d) λ w m.
           let G = R .found t w m in
@@ -224,9 +239,13 @@ module _ (v : View) (u : ℕ → ℕ → ℕ) (I : Inv v u) (b : Book) (R : Rel 
 -- what one processor has open changes, and no entry
 pub rel-open : (v : View) (b : Book) (R : Rel v b) (p : ℕ) (c : Pr) (op : Open) →
     op ≡ opens (c .stage) (c .begin) (v .tick (c .own)) →
-    (info (v .ht (c .own)) (c .stage) .kind ≡ 1 → ⊥) → Rel (ticked v p c) (afterCall b (b .entry) p op)
-rel-open v b R p c op e not-insert = record { count = omega (arith, R .count); opened = λ q. opened q (ℕ-discrete q p); kept = R .kept; found = R .found; filed = λ q. filed q (ℕ-discrete q p); late = λ t w. still-past (R .late t w) }
+    (info (v .ht (c .own)) (c .stage) .kind ≡ 1 → ⊥) → (claim v p .kind ≡ 3 → ⊥) → Rel (ticked v p c) (afterCall b (b .entry) p op)
+rel-open v b R p c op e not-insert not-remover = record { count = omega (arith, R .count); opened = λ q. opened q (ℕ-discrete q p); kept = R .kept; found = R .found; unhanded = R .unhanded; filed = λ q. filed q (ℕ-discrete q p); late = λ t w. still-past (R .late t w); marker = λ n q n≥ n≤ nu m. marker n q (ℕ-discrete q p) (R .marker n q n≥ n≤ nu m) }
   where
+    marker : (n q : ℕ) → Dec (q ≡ p) → Marker v n q → Marker (ticked v p c) n q
+    marker n q (yes f) = rw f λ M. absurd (not-remover (M .0))
+    marker n q (no d) = rw (changed-other (v .pr) p c q d) λ M. M
+
     filed : (q : ℕ) → Dec (q ≡ p) → claim (ticked v p c) q .kind ≡ 1 → Filed (b .entry) (v .tick) (v .due) (v .item) (changedAt (v .pr) p c q .own)
     filed q (yes f) = rw (f, changed-same (v .pr) p c) λ k. absurd (not-insert k)
     filed q (no d) = rw (changed-other (v .pr) p c q d) (R .filed q)
@@ -259,9 +278,15 @@ module _ (v : View) (u : ℕ → ℕ → ℕ) (I : Inv v u) (H : NodeHeld v) (ro
         rel = rel-line v u I b R p (idle (v .top) (v .pr p)) (v .mk) (changedAt (v .st) o (v .clock + 1)) (v .us) o
             (withAnswer (b .entry (v .tick o)) (b .count + 1)) nothing (S .low) (S .high) (insert-used S (ℕ-discrete (v .us o) 1)) F (λ n d. refl) (λ n d. changed-other (v .st) o (v .clock + 1) n d) (λ n d. refl)
             refl refl refl
-            (λ nu. rw (R .kept o (S .low) (S .high) nu, R .count, changed-same (v .st) o (v .clock + 1))) (λ m. R .found (v .tick o) (F .written) m) refl (λ k. omega arith);
+            (λ nu. rw (R .kept o (S .low) (S .high) nu, R .count, changed-same (v .st) o (v .clock + 1))) (λ m. R .found (v .tick o) (F .written) m) (R .unhanded (v .tick o)) refl (λ k. omega arith)
+            (λ k. absurd (omega (arith, kind-at v u I p s e)))
+            (λ q nu m. unmoved o q (ℕ-discrete q p) (R .marker o q (S .low) (S .high) nu m));
       }
     where
+      unmoved : (n q : ℕ) → Dec (q ≡ p) → Marker v n q → Marker (ticked v p (idle (v .top) (v .pr p))) n q
+      unmoved n q (yes f) = rw f λ M. absurd (omega (arith, kind-at v u I p (stage.Insert ins.Stamp) e, M .0))
+      unmoved n q (no d) = rw (changed-other (v .pr) p (idle (v .top) (v .pr p)) q d) λ M. M
+
       insert-used : {n T own lo hn : ℕ} → Inserts u (v .us) (v .st) (v .tick) n T own lo hn → Dec (v .us own ≡ 1) → 1 ≤ v .us own
       insert-used S (yes k) = omega arith
       insert-used S (no d) = omega (arith, S .later d)
@@ -276,12 +301,13 @@ module _ (v : View) (u : ℕ → ℕ → ℕ) (I : Inv v u) (H : NodeHeld v) (ro
       let same = gives-true b (entryAt v o) (v .tick o) (sym (F .due)) (sym (F .item)) refl in
       let marked : b .entry (v .tick o) .marked ≡ true = ap (λ (x : BookEntry). x .marked) l ∙ lt-ltb 0 (v .mk o) (S .marked) in
       go job e same (ap (λ (x : BookEntry). x .handedOut) l)
-      (λ x h d i m. rel-line v u I b R p (idle (v .top) (v .pr p)) (v .mk) (v .st)
+      (λ x h d i m y. rel-line v u I b R p (idle (v .top) (v .pr p)) (v .mk) (v .st)
       (changedAt (v .us) o (v .clock + 1 + 2)) o
       x nothing (S .low) (S .high) (omega (arith, S .used)) F (λ n d. refl) (λ n d. refl)
       (λ n d. changed-other (v .us) o (v .clock + 1 + 2) n d)
       h d i (λ nu. absurd (omega (arith, changed-same (v .us) o (v .clock + 1 + 2))))
-      (λ n. absurd (true≢false (sym marked ∙ sym m ∙ n))) refl (λ k. omega arith))
+      (λ n. absurd (true≢false (sym y ∙ n))) (λ n. absurd (true≢false (sym marked ∙ sym m ∙ n))) refl (λ k. omega arith)
+      (λ k. refl) (λ q nu. absurd (omega (arith, changed-same (v .us) o (v .clock + 1 + 2)))))
     where
       go : (job : Job) → v .pr p .stage ≡ stage.Removal job rem.Retire →
           gives b (entryAt v (v .pr p .own)) (v .tick (v .pr p .own)) ≡ true →
@@ -290,6 +316,7 @@ module _ (v : View) (u : ℕ → ℕ → ℕ) (I : Inv v u) (H : NodeHeld v) (ro
           x .due ≡ b .entry (v .tick (v .pr p .own)) .due →
           x .item ≡ b .entry (v .tick (v .pr p .own)) .item →
           x .marked ≡ b .entry (v .tick (v .pr p .own)) .marked →
+          x .handedOut ≡ true →
           Rel (ticked (withStatus v (v .mk) (v .st) (changedAt (v .us) (v .pr p .own) (v .clock + 1 + 2)))
           p (idle (v .top) (v .pr p)))
           (afterCall b (changedAt (b .entry) (v .tick (v .pr p .own)) x) p nothing)) →
@@ -299,7 +326,7 @@ module _ (v : View) (u : ℕ → ℕ → ℕ) (I : Inv v u) (H : NodeHeld v) (ro
             (changedAt (b .entry) (v .tick (v .pr p .own))
             (withHandOut (b .entry (v .tick (v .pr p .own))))) p nothing;
         fed = rw (open-at (stage.Removal jobs.Deliver rem.Retire) e, same, out);
-        rel = rel (withHandOut (b .entry (v .tick (v .pr p .own)))) refl refl refl refl;
+        rel = rel (withHandOut (b .entry (v .tick (v .pr p .own)))) refl refl refl refl refl;
       }
 
   quiet-step : (s : Stage) → v .pr p .stage ≡ s → 1 ≤ info (v .ht (v .pr p .own)) s .kind →
@@ -326,23 +353,28 @@ module _ (v : View) (u : ℕ → ℕ → ℕ) (I : Inv v u) (H : NodeHeld v) (ro
           eq-eqb (pick b (v .pr p .begin)) 0
               (nothing-left (stage.Delete (del.ReadNext a)) e a refl (eqb-true _ _ x)),
         );
-        rel = rel-open v b R p (idle (v .top) (v .pr p)) nothing refl (λ k. omega arith);
+        rel = rel-open v b R p (idle (v .top) (v .pr p)) nothing refl (λ k. omega arith)
+            (λ k. omega (arith, kind-at v u I p (stage.Delete (del.ReadNext a)) e));
       })
       go false x = rw x (quiet-step (stage.Delete (del.ReadNext a)) e (omega arith) _ (record { answer = tt; effect = tt; own-same = refl; begin-same = λ t b. refl; kind-same = λ h. refl; opens-same = λ t b. refl }))
 
   -- the mark of a node in use, in the book
-  rel-mark : (job : Job) (n : ℕ) → 1 ≤ n → n ≤ v .nodes → v .us n ≡ 1 →
-      Rel (ticked (withStatus v (changedAt (v .mk) n 1) (v .st) (v .us)) p (record { begin = v .pr p .begin; own = n; stage = stage.Removal job (rem.Search (place 0 (v .top))); saved = v .pr p .saved }))
+  rel-mark : claim v p .kind ≡ 2 → (job : Job) (n : ℕ) → 1 ≤ n → n ≤ v .nodes → v .us n ≡ 1 →
+      Rel (ticked (withStatus v (changedAt (v .mk) n (suc p)) (v .st) (v .us)) p (record { begin = v .pr p .begin; own = n; stage = stage.Removal job (rem.Search (place 0 (v .top))); saved = v .pr p .saved }))
       (afterCall b (changedAt (b .entry) (v .tick n) (withMarked (b .entry (v .tick n)))) p
       (opens (stage.Removal job (rem.Search (place 0 (v .top)))) (v .pr p .begin) (v .tick n)))
-  rel-mark job n low high used =
+  rel-mark walks job n low high used =
       let l = R .kept n low high used in
-      rel-line v u I b R p (record { begin = v .pr p .begin; own = n; stage = stage.Removal job (rem.Search (place 0 (v .top))); saved = v .pr p .saved }) (changedAt (v .mk) n 1) (v .st) (v .us) n
+      let c : Pr = record { begin = v .pr p .begin; own = n; stage = stage.Removal job (rem.Search (place 0 (v .top))); saved = v .pr p .saved } in
+      rel-line v u I b R p (record { begin = v .pr p .begin; own = n; stage = stage.Removal job (rem.Search (place 0 (v .top))); saved = v .pr p .saved }) (changedAt (v .mk) n (suc p)) (v .st) (v .us) n
       (withMarked (b .entry (v .tick n))) _ low high (omega (arith, used))
-      (in-use-filed v b R n low high used) (λ m d. changed-other (v .mk) n 1 m d) (λ m d. refl)
+      (in-use-filed v b R n low high used) (λ m d. changed-other (v .mk) n (suc p) m d) (λ m d. refl)
       (λ m d. refl)
-      refl refl refl (λ nu. rw (l, changed-same (v .mk) n 1)) (λ m. absurd (true≢false m)) refl
-      (λ k. omega arith)
+      refl refl refl (λ nu. rw (l, changed-same (v .mk) n (suc p), lt-ltb 0 (suc p) (omega arith)))
+      (λ m. R .found (v .tick n) (ap (λ (x : BookEntry). x .written) l) m) (λ m. absurd (true≢false m)) refl
+      (λ k. omega arith) (λ k. absurd (omega arith))
+      (λ q nu m. let e : q ≡ p = omega (arith, changed-same (v .mk) n (suc p)) in
+      rw (e, changed-same (v .pr) p c) (refl, refl))
 
   mark-booked : (a : Place) → v .pr p .stage ≡ stage.Delete (del.SetMark a) → Booked v p b (decision v p (stage.Delete (del.SetMark a)))
   mark-booked a e = go (ltb 0 (v .mk (a .node))) refl
@@ -363,7 +395,7 @@ module _ (v : View) (u : ℕ → ℕ → ℕ) (I : Inv v u) (H : NodeHeld v) (ro
           rw x (record {
             after = afterCall b (changedAt (b .entry) (v .tick n) (withMarked (b .entry (v .tick n)))) p (unlinking (v .tick n));
             fed = rw (open-at s e, is, pos, same);
-            rel = rel-mark jobs.Deliver n (L .low) (L .high) (L .used);
+            rel = rel-mark (kind-at v u I p s e) jobs.Deliver n (L .low) (L .high) (L .used);
           })
 
   pub booked : (s : Stage) → v .pr p .stage ≡ s → 1 ≤ info (v .ht (v .pr p .own)) s .kind → Booked v p b (decision v p s)

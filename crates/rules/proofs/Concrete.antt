@@ -1,6 +1,5 @@
 -- The queue record seen as a view.
 use mathlib.Core.Path.{_≡_, refl, sym, ap, _∙_}
-use mathlib.Core.Bool.{Bool, true, false}
 use mathlib.Core.List.{List}
 use Prim.Native.Nat.{ℕ, _+_, _-_, _≤_}
 use native.Mathlib.Omega.{arith}
@@ -38,9 +37,6 @@ useNumber use′.Never = 0
 useNumber use′.InUse = 1
 useNumber (use′.Retired r) = r + 2
 
-abbrev pub markNumber : Bool → ℕ
-markNumber m = cond m 1 0
-
 abbrev pub useOf : ℕ → ℕ → Node → ℕ
 useOf n x d = cond (eqb x 0) 1 (cond (eqb x (n + 1)) 1 (useNumber (d .state)))
 
@@ -56,7 +52,7 @@ seenAs P N L t nd pr = record {
   fwd = λ n. levelOf (nd n .forward);
   lk = λ n. levelOf (nd n .levelLocks);
   nl = λ n. nd n .nodeLock;
-  mk = λ n. markNumber (nd n .mark);
+  mk = λ n. nd n .mark;
   st = λ n. stampNumber (nd n .stamp);
   us = λ n. useOf N n (nd n);
   ht = λ n. nd n .height;
@@ -75,10 +71,6 @@ level-pos l i i≥ = rw (ne-eqb i 0 (λ h. omega arith))
 pub stamp-before : (s : Stamp) (T : ℕ) → T ≤ ever → stampedBefore s T ≡ ltb (stampNumber s) T
 stamp-before stamp.Unset T T≤ = sym (le-ltb ever T T≤)
 stamp-before (stamp.At t) T T≤ = refl
-
-pub mark-test : (m : Bool) → m ≡ ltb 0 (markNumber m)
-mark-test true = refl
-mark-test false = refl
 
 -- the view of a step, read from the record and from the view
 module _ (q : Queue) (c : Processor) (a : Place) (a≥ : 1 ≤ a .level) (T≤ : c .begin ≤ ever)
@@ -120,7 +112,7 @@ module _ (q : Queue) (c : Processor) (a : Place) (a≥ : 1 ≤ a .level) (T≤ :
     ownLock = level-pos (nodeAt q (c .own) .levelLocks) (a .level) a≥ i;
     nextIsTail = ap (λ (y : ℕ). eqb y (q .nodeCount + 1)) next-same i;
     levelCount = q .levelCount;
-    marked = mark-test (nodeAt q (a .node) .mark) i;
+    marked = ltb 0 (nodeAt q (a .node) .mark);
     stamped = stamp-before (nodeAt q (a .node) .stamp) (c .begin) T≤ i;
     savedAbove = getD (c .saved) (a .level + 1 - 1) 0;
     savedBelow = getD (c .saved) (a .level - 1 - 1) 0;

@@ -8,8 +8,9 @@ use Rattle.record.specs.Queues.{freshQueue}
 use Rattle.rules.specs.Book.{Book, emptyBook, agrees, feed, judged}
 use Rattle.rules.specs.Demand3.{InRange, Demand3, ReachedIsValid, OutsideIsUntouched}
 use Rattle.rules.specs.declared.calls.Call.the-variants as call
-use Rattle.rules.specs.Runs.{Turn, calls, backlog, after, reply, afterAll}
+use Rattle.rules.specs.Runs.{Turn, calls, backlog, markers, after, reply, afterAll}
 use Rattle.rules.proofs.Backlog.{backlog-agrees}
+use Rattle.rules.proofs.Markers.{markers-agrees}
 use Rattle.rules.proofs.Sound.{Sound, insert-agrees, delete-agrees, step-agrees}
 use Rattle.rules.proofs.Fresh.{fresh-sound}
 use Rattle.rules.proofs.Untouched.{untouched-all}
@@ -26,6 +27,7 @@ turned-by q b S (calls (call.Insert p due item height)) = let A = insert-agrees 
 turned-by q b S (calls (call.DeleteMin p)) = let A = delete-agrees q b S p in record { book = A .book; fed = A .fed; sound = A .sound }
 turned-by q b S (calls (call.Step p)) = let A = step-agrees q b S p in record { book = A .book; fed = A .fed; sound = A .sound }
 turned-by q b S backlog = record { book = b; fed = backlog-agrees q b S; sound = S }
+turned-by q b S (markers area) = record { book = b; fed = markers-agrees q b S area; sound = S }
 
 -- a list of calls from any record and book for which all of it holds
 pub record Judged (q : Queue) (b : Book) (cs : List Turn) : Type 0 where

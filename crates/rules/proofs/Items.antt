@@ -7,7 +7,7 @@ use Prim.Native.Nat.{ℕ, zero, suc, _+_, _≤_, _<_}
 use native.Mathlib.Decide.{decLe, ℕ-discrete}
 use native.Mathlib.Omega.{arith}
 use lib.Dec.{ltb, leb, eqb}
-use lib.ListN.{getD, set, List·getD-map}
+use lib.ListN.{length, getD, set, List·getD-map}
 use borrow.Author.Tests.{le-leb, lt-leb, lt-ltb, le-ltb, eq-eqb, ne-eqb}
 use Rattle.laws.proofs.Booleans.{cond-elim}
 use Rattle.laws.proofs.HowMany.{many-same}
@@ -33,7 +33,8 @@ use Rattle.record.specs.declared.stages.Seek.the-variants as seek
 use Rattle.record.specs.declared.stages.Stage.{Stage}
 use Rattle.record.specs.declared.stages.Stage.the-variants as stage
 use Rattle.record.specs.Limits.{maxNumber}
-use Rattle.record.specs.Nodes.{freshNode}
+use Rattle.record.specs.Nodes.{freshNode, isInUse}
+use Rattle.record_markers.specs.Markers.{markerByte, inUseAt, pairsTo, markersOf, areaAfter}
 use Rattle.record.specs.Queues.{nodeAt, processorAt}
 use Rattle.rules.specs.declared.answers.Outcome.{Outcome}
 use Rattle.rules.specs.declared.decisions.Effect.{Effect}
@@ -57,7 +58,7 @@ use Rattle.rules.specs.Effects.{changed, nodeOf, applied, accepted}
 use Rattle.rules.specs.Items.{Renaming, renamedNode, renamed, renamedEntry, renamedAnswer}
 use Rattle.rules.specs.Items.{renamedCall, itemOf}
 use Rattle.rules.specs.Items.{zeroFor, CheckSeesNoItem, NoRuleSeesAnItem, ItemZeroGoesOn}
-use Rattle.rules.specs.Runs.{calls, deleteMin, stepBy, backlog, Reply, answered, counted}
+use Rattle.rules.specs.Runs.{calls, deleteMin, stepBy, backlog, markers, Reply, answered, counted}
 
 -- a choice of images is the image of the choice
 cond-pair :
@@ -307,6 +308,20 @@ module _ (f : ℕ → ℕ) where
         many-same (pendingAt (renamed f q)) (pendingAt q) k
         (λ x _ _. ap holdsPending (node-read q x))
 
+    used-same : (q : Queue) (k : ℕ) → howMany (inUseAt (renamed f q)) k ≡ howMany (inUseAt q) k
+    used-same q k =
+        many-same (inUseAt (renamed f q)) (inUseAt q) k
+        (λ x _ _. ap (λ (n : Node). isInUse (n .state)) (node-read q x))
+
+    pairs-same : (q : Queue) (k : ℕ) → pairsTo (renamed f q) k ≡ pairsTo q k
+    pairs-same q zero = refl
+    pairs-same q (suc k) =
+        rw (
+          pairs-same q k,
+          ap (λ (n : Node). cond (isInUse (n .state)) (suc k ∷ markerByte (n .mark) ∷ []) [])
+              (node-read q (suc k)),
+        ) refl
+
     no-item : (item : ℕ) → (f item ≡ 0 → item ≡ 0) → eqb (f item) 0 ≡ eqb item 0
     no-item item h = go (ℕ-discrete item 0)
       where
@@ -359,6 +374,12 @@ module _ (f : ℕ → ℕ) where
     backlog-same : (q : Queue) → backlogOf (renamed f q) ≡ backlogOf q
     backlog-same q = rw (valid-same q, pending-same q (q .nodeCount)) refl
 
+    markers-same : (q : Queue) (room : ℕ) → markersOf (renamed f q) room ≡ markersOf q room
+    markers-same q room = rw (valid-same q, used-same q (q .nodeCount)) refl
+
+    area-same : (q : Queue) (area : List ℕ) → areaAfter (renamed f q) area ≡ areaAfter q area
+    area-same q area = rw (pairs-same q (q .nodeCount), markers-same q (length area)) refl
+
 pub check-sees-no-item : CheckSeesNoItem
 check-sees-no-item f R q = valid-same f R q
 
@@ -374,6 +395,8 @@ no-rule-sees-an-item f R q (calls c) h =
     record { left = ap left-in e; given = ap given-in e }
 no-rule-sees-an-item f R q backlog h =
     record { left = refl; given = ap counted (backlog-same f R q) }
+no-rule-sees-an-item f R q (markers area) h =
+    record { left = refl; given = rw (area-same f R q area, markers-same f R q (length area)) refl }
 
 -- 0 for k, one of the items in range, is such a renaming
 zero-renames : (k : ℕ) → k ≤ maxNumber → Renaming (zeroFor k)

@@ -32,6 +32,7 @@ pub mod Choose
 pub mod Chosen
 pub mod Sound
 pub mod Backlog
+pub mod Markers
 pub mod Fresh
 pub mod Slots
 pub mod ValidFacts

@@ -1,5 +1,6 @@
 -- What demand 3 means: a marked entry is the earliest one left, EMPTY is true, what is handed out
--- was marked, both happen once, and Backlog counts what is answered and not marked. Assumes nothing.
+-- was marked, both happen once, Backlog counts what is answered and not marked, and a mark names the
+-- processor that delivers. Assumes nothing.
 use mathlib.Core.Path.{_≡_, refl, sym, ap, subst, _∙_}
 use mathlib.Core.Bool.{Bool, true, _&&_, not, true≢false}
 use mathlib.Core.List.{List, [], _∷_, _++_}
@@ -12,9 +13,6 @@ use Rattle.laws.proofs.Counting.{and-left, and-right}
 use Rattle.laws.proofs.Updating.{changed-same}
 use Rattle.record_check.specs.Backlog.{pendingAt}
 use Rattle.record.specs.declared.queues.Queue.{Queue}
-use Rattle.record.specs.declared.stages.Job.the-variants as jobs
-use Rattle.record.specs.declared.stages.Stage.{Stage}
-use Rattle.record.specs.declared.stages.Stage.the-variants as stage
 use Rattle.record.specs.Queues.{freshQueue}
 use Rattle.rules.specs.declared.answers.Answer.{Answer}
 use Rattle.rules.specs.declared.answers.Answer.the-variants as ans
@@ -22,26 +20,19 @@ use Rattle.rules.specs.declared.answers.Deed.the-variants as deed
 use Rattle.rules.specs.declared.answers.Entry.{Entry}
 use Rattle.rules.specs.Book.{BookEntry, Open, nothing, inserting, walking, unlinking, Book, agrees, pick, gives, withAnswer, withMarked, withHandOut, marks, empties, handsOut, feed, feedStep, judged}
 use Rattle.rules.specs.Demand3.{InRange, BookAfter, Left, Entered, Earliest, MarkedIsEarliest, NoneLeft, EmptyIsTrue, Delivered, HandedOutIsMarked, MarkedOnce, HandedOutOnce}
-use Rattle.rules.specs.Demand3.{BacklogIsPending}
+use Rattle.rules.specs.Demand3.{BacklogIsPending, MarkerDelivers}
 use Rattle.rules.specs.Runs.{Turn, stepBy, Reply, answered, after, reply, afterAll}
 use Rattle.rules.proofs.BookLaws.{Right, right-book, right-if, Given, given, Stays, stays}
 use Rattle.rules.proofs.Concrete.{viewOf}
 use Rattle.rules.proofs.Demand3.{turned-by, all-judged, reached, reached-is-valid}
 use Rattle.rules.proofs.Backlog.{backlog-pending}
+use Rattle.rules.proofs.Markers.{opens-delivering, marker-is}
 use Rattle.rules.proofs.Picks.{Candidate, order, Picked, none, one, picked}
 use Rattle.rules.proofs.Put.{ever}
 use Rattle.rules.proofs.Ranks.{entries-before}
-use Rattle.rules.proofs.Rel.{opens}
 use Rattle.rules.proofs.Sound.{Sound}
-use Rattle.rules.proofs.StageKinds.{removal-kind}
-use Rattle.rules.proofs.View.{View, info}
-
-opens-delivering : (h : ℕ) (s : Stage) (T t x : ℕ) → opens s T t ≡ unlinking x →
-    (info h s .kind ≡ 3) × (t ≡ x)
-opens-delivering h stage.Idle T t x e = absurd (let z : _≡_ {A = ℕ} 0 1 = cc in omega arith)
-opens-delivering h (stage.Insert i) T t x e = absurd (let z : _≡_ {A = ℕ} 0 1 = cc in omega arith)
-opens-delivering h (stage.Delete d) T t x e = absurd (let z : _≡_ {A = ℕ} 0 1 = cc in omega arith)
-opens-delivering h (stage.Removal jobs.Deliver r) T t x e = (removal-kind jobs.Deliver h r, cc)
+use Rattle.rules.proofs.Untouched.{untouched-all}
+use Rattle.rules.proofs.View.{View}
 
 entered : (b : Book) (e : Entry) (t : ℕ) → Given b e t → Entered b e
 entered b e t G = record { due = rw (G .ticket) (sym (G .due)); item = rw (G .ticket) (sym (G .item)) }
@@ -149,6 +140,12 @@ backlog-is-pending P N L R cs b h =
     let ok = reached-is-valid P N L R cs in
     let S = sound-after P N L R cs b h in
     (howMany (pendingAt q) (q .nodeCount), rw ok refl, backlog-pending q b S ok)
+
+pub marker-delivers : MarkerDelivers
+marker-delivers P N L R cs b h x p x≥ x≤ used =
+    let S = sound-after P N L R cs b h in
+    let same = untouched-all (freshQueue P N L) cs .nodeCount in
+    marker-is (afterAll (freshQueue P N L) cs) b S p x x≥ (omega arith) used
 
 after-append : (q : Queue) (cs ds : List Turn) → afterAll q (cs ++ ds) ≡ afterAll (afterAll q cs) ds
 unfolding afterAll

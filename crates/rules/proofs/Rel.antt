@@ -1,7 +1,7 @@
 -- The book and the record: B1 and B2, kept by every step.
 use mathlib.Core.Path.{_≡_, refl, sym, ap, subst, _∙_}
 use mathlib.Core.Bool.{true, false}
-use Prim.Native.Nat.{ℕ, _+_, _≤_}
+use Prim.Native.Nat.{ℕ, suc, _+_, _≤_}
 use native.Mathlib.Omega.{arith}
 use native.Mathlib.Decide.{ℕ-discrete}
 use lib.Dec.{ltb}
@@ -61,17 +61,24 @@ pub record Filed (entry : ℕ → BookEntry) (tick dues items : ℕ → ℕ) (n 
   pub due : entry (tick n) .due ≡ dues n
   pub item : entry (tick n) .item ≡ items n
 
+-- q removes node n
+abbrev pub Marker : View → ℕ → ℕ → Type 0
+Marker v n q = (claim v q .kind ≡ 3) × (v .pr q .own ≡ n)
+
 pub record Rel (v : View) (b : Book) : Type 0 where
   pub count : b .count ≡ v .clock
   pub opened : (p : ℕ) → b .opened p ≡ opens (v .pr p .stage) (v .pr p .begin)
       (v .tick (v .pr p .own))
   -- B2
   pub kept : (n : ℕ) → 1 ≤ n → n ≤ v .nodes → v .us n ≡ 1 → b .entry (v .tick n) ≡ lineOf (v .due) (v .item) (v .st) (v .mk) n
-  pub found : (t : ℕ) → b .entry t .written ≡ true → b .entry t .marked ≡ false → Found (v .us) (v .tick) (v .nodes) t
+  pub found : (t : ℕ) → b .entry t .written ≡ true → b .entry t .handedOut ≡ false → Found (v .us) (v .tick) (v .nodes) t
+  pub unhanded : (t : ℕ) → b .entry t .marked ≡ false → b .entry t .handedOut ≡ false
   -- the entry of an open Insert, whose node may be retired already
   pub filed : (q : ℕ) → claim v q .kind ≡ 1 → Filed (b .entry) (v .tick) (v .due) (v .item) (v .pr q .own)
   -- tickets are times, and have passed
   pub late : (t : ℕ) → b .entry t .written ≡ true → (1 ≤ t) × (t ≤ b .count)
+  -- a marked node in use is that of the remover which its mark names
+  pub marker : (n q : ℕ) → 1 ≤ n → n ≤ v .nodes → v .us n ≡ 1 → v .mk n ≡ suc q → Marker v n q
 
 pub record Booked (v : View) (p : ℕ) (b : Book) (d : Decision) : Type 0 where
   pub after : Book
@@ -109,11 +116,11 @@ pub record Quiet (own : ℕ) (s : Stage) (d : Decision) : Type 0 where
 
 rel-effected : (v : View) (p : ℕ) (b : Book) (e : Effect) → quiet e → Rel v b → Rel (effected v e p) b
 rel-effected v p b eff.Keep q R = R
-rel-effected v p b (eff.HoldLevel a) q R = record { count = R .count; opened = R .opened; kept = R .kept; found = R .found; filed = R .filed; late = R .late }
-rel-effected v p b (eff.FreeLevel a) q R = record { count = R .count; opened = R .opened; kept = R .kept; found = R .found; filed = R .filed; late = R .late }
-rel-effected v p b (eff.SetForward a x) q R = record { count = R .count; opened = R .opened; kept = R .kept; found = R .found; filed = R .filed; late = R .late }
-rel-effected v p b (eff.HoldNode x) q R = record { count = R .count; opened = R .opened; kept = R .kept; found = R .found; filed = R .filed; late = R .late }
-rel-effected v p b (eff.FreeNode x) q R = record { count = R .count; opened = R .opened; kept = R .kept; found = R .found; filed = R .filed; late = R .late }
+rel-effected v p b (eff.HoldLevel a) q R = record { count = R .count; opened = R .opened; kept = R .kept; found = R .found; unhanded = R .unhanded; filed = R .filed; late = R .late; marker = R .marker }
+rel-effected v p b (eff.FreeLevel a) q R = record { count = R .count; opened = R .opened; kept = R .kept; found = R .found; unhanded = R .unhanded; filed = R .filed; late = R .late; marker = R .marker }
+rel-effected v p b (eff.SetForward a x) q R = record { count = R .count; opened = R .opened; kept = R .kept; found = R .found; unhanded = R .unhanded; filed = R .filed; late = R .late; marker = R .marker }
+rel-effected v p b (eff.HoldNode x) q R = record { count = R .count; opened = R .opened; kept = R .kept; found = R .found; unhanded = R .unhanded; filed = R .filed; late = R .late; marker = R .marker }
+rel-effected v p b (eff.FreeNode x) q R = record { count = R .count; opened = R .opened; kept = R .kept; found = R .found; unhanded = R .unhanded; filed = R .filed; late = R .late; marker = R .marker }
 rel-effected v p b (eff.Mark x) q R = absurd q
 rel-effected v p b (eff.Stamp x) q R = absurd q
 rel-effected v p b (eff.Retire x) q R = absurd q
@@ -152,8 +159,12 @@ rel-ticked : (w : View) (b : Book) (p : ℕ) (c : Pr) → Rel w b → c .begin �
     ((T t : ℕ) → opens (c .stage) T t ≡ opens (w .pr p .stage) T t) →
     Rel (ticked w p c) (counted b)
 rel-ticked w b p c R began own kind same =
-    record { count = omega (arith, R .count); opened = λ q. opened q (ℕ-discrete q p); kept = R .kept; found = R .found; filed = λ q. filed q (ℕ-discrete q p); late = λ t w. still-past (R .late t w) }
+    record { count = omega (arith, R .count); opened = λ q. opened q (ℕ-discrete q p); kept = R .kept; found = R .found; unhanded = R .unhanded; filed = λ q. filed q (ℕ-discrete q p); late = λ t w. still-past (R .late t w); marker = λ n q n≥ n≤ nu m. marker n q (ℕ-discrete q p) (R .marker n q n≥ n≤ nu m) }
   where
+    marker : (n q : ℕ) → Dec (q ≡ p) → Marker w n q → Marker (ticked w p c) n q
+    marker n q (yes e) = rw (e, changed-same (w .pr) p c) λ M. (kind ∙ M .0, own ∙ M .1)
+    marker n q (no d) = rw (changed-other (w .pr) p c q d) λ M. M
+
     filed : (q : ℕ) → Dec (q ≡ p) → claim (ticked w p c) q .kind ≡ 1 → Filed (b .entry) (w .tick) (w .due) (w .item) (changedAt (w .pr) p c q .own)
     filed q (yes e) = rw (e, changed-same (w .pr) p c) λ k. subst (λ (n : ℕ). Filed (b .entry) (w .tick) (w .due) (w .item) n) (sym own) (R .filed p (sym kind ∙ k))
     filed q (no d) = rw (changed-other (w .pr) p c q d) (R .filed q)

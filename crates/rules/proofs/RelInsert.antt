@@ -1,7 +1,7 @@
 -- A new Insert: the book's new entry is the node that was filled in. Assumes nothing.
 use mathlib.Core.Path.{_≡_, refl, sym, ap, _∙_}
 use mathlib.Core.Bool.{true, false}
-use Prim.Native.Nat.{ℕ, _+_, _≤_}
+use Prim.Native.Nat.{ℕ, suc, _+_, _≤_}
 use native.Mathlib.Omega.{arith}
 use native.Mathlib.Decide.{ℕ-discrete}
 use Rattle.laws.specs.Update.{changedAt}
@@ -14,10 +14,11 @@ use Rattle.rules.proofs.Facts.{kind-any}
 use Rattle.rules.proofs.Assemble.{ticked}
 use Rattle.rules.proofs.Machine.{filled}
 use Rattle.rules.proofs.Begin.{inserter}
-use Rattle.rules.proofs.Rel.{opens, opens-idle, lineOf, Found, Filed, Rel, still-past}
+use Rattle.rules.proofs.Rel.{opens, opens-idle, lineOf, Found, Filed, Marker, Rel, still-past}
 
 module _ (v : View) (u : ℕ → ℕ → ℕ) (I : Inv v u) (b : Book) (R : Rel v b) (p x d i h : ℕ) (fwd lk : ℕ → ℕ → ℕ)
-    (x≥ : 1 ≤ x) (x≤ : x ≤ v .nodes) (free : v .us x ≡ 1 → ⊥) (own-ne : (q : ℕ) → 1 ≤ claim v q .kind → v .pr q .own ≡ x → ⊥) where
+    (x≥ : 1 ≤ x) (x≤ : x ≤ v .nodes) (free : v .us x ≡ 1 → ⊥) (own-ne : (q : ℕ) → 1 ≤ claim v q .kind → v .pr q .own ≡ x → ⊥)
+    (idle : claim v p .kind ≡ 0) where
   abbrev t : ℕ
   t = v .clock + 1
 
@@ -28,8 +29,20 @@ module _ (v : View) (u : ℕ → ℕ → ℕ) (I : Inv v u) (b : Book) (R : Rel 
   w = filled v p x d i h fwd lk
 
   pub rel-insert : Rel (ticked w p (inserter v p x)) (afterCall b (changedAt (b .entry) t new-line) p (inserting t))
-  rel-insert = record { count = omega (arith, R .count); opened = λ q. opened q (ℕ-discrete q p); kept = λ n. kept′ n (ℕ-discrete n x); found = λ s. found s (ℕ-discrete s t); filed = λ q. filed q (ℕ-discrete q p); late = λ s. late s (ℕ-discrete s t) }
+  rel-insert = record { count = omega (arith, R .count); opened = λ q. opened q (ℕ-discrete q p); kept = λ n. kept′ n (ℕ-discrete n x); found = λ s. found s (ℕ-discrete s t); unhanded = λ s. unhanded s (ℕ-discrete s t); filed = λ q. filed q (ℕ-discrete q p); late = λ s. late s (ℕ-discrete s t); marker = λ n q. marker n q (ℕ-discrete n x) }
     where
+      unhanded : (s : ℕ) → Dec (s ≡ t) → changedAt (b .entry) t new-line s .marked ≡ false → changedAt (b .entry) t new-line s .handedOut ≡ false
+      unhanded s (yes e) = rw (e, changed-same (b .entry) t new-line) λ m. refl
+      unhanded s (no ne) = rw (changed-other (b .entry) t new-line s ne) (R .unhanded s)
+
+      removes : (n q : ℕ) → Dec (q ≡ p) → Marker v n q → Marker (ticked w p (inserter v p x)) n q
+      removes n q (yes e) = rw e λ M. absurd (omega (arith, M .0))
+      removes n q (no ne) = rw (changed-other (v .pr) p (inserter v p x) q ne) λ M. (kind-any (w .ht (v .pr q .own)) (v .ht (v .pr q .own)) (v .pr q .stage) ∙ M .0, M .1)
+
+      marker : (n q : ℕ) → Dec (n ≡ x) → 1 ≤ n → n ≤ v .nodes → w .us n ≡ 1 → w .mk n ≡ suc q → Marker (ticked w p (inserter v p x)) n q
+      marker n q (yes e) = rw (e, changed-same (v .mk) x 0) λ n≥ n≤ nu m. absurd (omega arith)
+      marker n q (no ne) = rw (changed-other (v .us) x 1 n ne, changed-other (v .mk) x 0 n ne) λ n≥ n≤ nu m. removes n q (ℕ-discrete q p) (R .marker n q n≥ n≤ nu m)
+
       opened : (q : ℕ) → Dec (q ≡ p) → changedAt (b .opened) p (inserting t) q ≡
           opens (changedAt (v .pr) p (inserter v p x) q .stage) (changedAt (v .pr) p (inserter v p x) q .begin)
           (w .tick (changedAt (v .pr) p (inserter v p x) q .own))
@@ -52,7 +65,7 @@ module _ (v : View) (u : ℕ → ℕ → ℕ) (I : Inv v u) (b : Book) (R : Rel 
       kept′ n (no ne) = rw (changed-other (v .tick) x t n ne, changed-other (v .us) x 1 n ne, changed-other (v .due) x d n ne, changed-other (v .item) x i n ne, changed-other (v .st) x ever n ne, changed-other (v .mk) x 0 n ne) λ n≥ n≤ nu.
           changed-other (b .entry) t new-line (v .tick n) (λ e. omega (arith, I .core .entered n n≥ (omega arith) .ticket)) ∙ R .kept n n≥ n≤ nu
 
-      found : (s : ℕ) → Dec (s ≡ t) → changedAt (b .entry) t new-line s .written ≡ true → changedAt (b .entry) t new-line s .marked ≡ false → Found (w .us) (w .tick) (v .nodes) s
+      found : (s : ℕ) → Dec (s ≡ t) → changedAt (b .entry) t new-line s .written ≡ true → changedAt (b .entry) t new-line s .handedOut ≡ false → Found (w .us) (w .tick) (v .nodes) s
       found s (yes e) = rw e λ y m. record { node = x; low = x≥; high = x≤; used = changed-same (v .us) x 1; ticket = changed-same (v .tick) x t }
       found s (no ne) = rw (changed-other (b .entry) t new-line s ne) λ y m.
           let F = R .found s y m in

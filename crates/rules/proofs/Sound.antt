@@ -146,7 +146,7 @@ module _ (q : Queue) (b : Book) (S : Sound q b) where
         (fed (open-idle i) (S .rel .count))
         (begin-walk v (S .until) (S .inv) (omega arith) p K s is)
         (rel-open v b (S .rel) p (walker v p s) o same
-        (λ k. omega (arith, ap (λ (f : Info). f .kind) is)))
+        (λ k. omega (arith, ap (λ (f : Info). f .kind) is)) (λ k. omega arith))
 
     pub delete-agrees : Agrees (feedDelete b p) (beginDeleteMin q p)
     delete-agrees = of (call.DeleteMin p) (feedDelete b p) (λ n. refl)
@@ -167,7 +167,7 @@ module _ (q : Queue) (b : Book) (S : Sound q b) where
           (rw (open-idle i, eq-eqb (q .clock + 1) (b .count + 1) (omega (arith, S .rel .count))))
           (begin-insert v (S .until) (S .inv) room p K x due item height fw lw (F .low) (F .high) due≤ h≥ h≤ (F .unused) older unseen fw-same lw-same)
           (rel-insert v (S .until) (S .inv) b (S .rel) p x due item height fw lw (F .low) (F .high) (F .unused)
-          (own-ne v (S .until) (S .inv) room p K x due item height fw lw (F .low) (F .high) due≤ h≥ h≤ (F .unused) older unseen fw-same lw-same))
+          (own-ne v (S .until) (S .inv) room p K x due item height fw lw (F .low) (F .high) due≤ h≥ h≤ (F .unused) older unseen fw-same lw-same) K)
         where
           fw : ℕ → ℕ → ℕ
           fw = relevel (v .fwd) x (v .top) (tail v)

@@ -23,22 +23,22 @@ kind-idle h (stage.Insert i) e = let z : _≡_ {A = ℕ} 0 1 = cc in absurd (ome
 kind-idle h (stage.Delete i) e = let z : _≡_ {A = ℕ} 0 1 = cc in absurd (omega arith)
 kind-idle h (stage.Removal job r) e = let z : _≡_ {A = ℕ} 0 1 = cc in absurd (omega arith)
 
-kind-insert : (h : ℕ) (i : Insert) → 1 ≤ info h (stage.Insert i) .kind
-kind-insert h (ins.Search a) = omega arith
-kind-insert h (ins.Seek (seek.Approach a)) = omega arith
-kind-insert h (ins.Seek (seek.Take a)) = omega arith
-kind-insert h (ins.Seek (seek.Confirm a)) = omega arith
-kind-insert h (ins.Seek (seek.Release a b)) = omega arith
-kind-insert h (ins.Copy a) = omega arith
-kind-insert h (ins.Link a) = omega arith
-kind-insert h (ins.FreeLevel a) = omega arith
-kind-insert h ins.FreeNode = omega arith
-kind-insert h ins.Stamp = omega arith
+pub insert-kind : (h : ℕ) (i : Insert) → info h (stage.Insert i) .kind ≡ 1
+insert-kind h (ins.Search a) = refl
+insert-kind h (ins.Seek (seek.Approach a)) = refl
+insert-kind h (ins.Seek (seek.Take a)) = refl
+insert-kind h (ins.Seek (seek.Confirm a)) = refl
+insert-kind h (ins.Seek (seek.Release a b)) = refl
+insert-kind h (ins.Copy a) = refl
+insert-kind h (ins.Link a) = refl
+insert-kind h (ins.FreeLevel a) = refl
+insert-kind h ins.FreeNode = refl
+insert-kind h ins.Stamp = refl
 
-kind-delete : (h : ℕ) (i : Delete) → 1 ≤ info h (stage.Delete i) .kind
-kind-delete h (del.ReadNext a) = omega arith
-kind-delete h (del.TestStamp a) = omega arith
-kind-delete h (del.SetMark a) = omega arith
+pub walk-kind : (h : ℕ) (d : Delete) → info h (stage.Delete d) .kind ≡ 2
+walk-kind h (del.ReadNext a) = refl
+walk-kind h (del.TestStamp a) = refl
+walk-kind h (del.SetMark a) = refl
 
 pub removal-kind : (job : Job) (h : ℕ) (r : Removal) → info h (stage.Removal job r) .kind ≡ 3
 removal-kind job h (rem.Search a) = refl
@@ -57,8 +57,8 @@ removal-kind job h rem.Retire = refl
 
 pub kind-busy : (h : ℕ) (s : Stage) → isIdle s ≡ false → 1 ≤ info h s .kind
 kind-busy h stage.Idle e = let z : _≡_ {A = ℕ} 0 1 = cc in absurd (omega arith)
-kind-busy h (stage.Insert i) e = kind-insert h i
-kind-busy h (stage.Delete i) e = kind-delete h i
+kind-busy h (stage.Insert i) e = omega (arith, insert-kind h i)
+kind-busy h (stage.Delete i) e = omega (arith, walk-kind h i)
 kind-busy h (stage.Removal job r) e = omega (arith, removal-kind job h r)
 
 pub idle-false : (h : ℕ) (s : Stage) → 1 ≤ info h s .kind → isIdle s ≡ false

@@ -45,6 +45,7 @@ module _ (s : Sizes) where
     forward = N .forward;
     levelLocks = N .levelLocks;
     nodeLock = N .nodeLock;
+    mark = N .mark;
     due = N .due;
     item = N .item;
     ticket = omega (arith, N .ticket);
@@ -70,6 +71,7 @@ module _ (s : Sizes) where
       forward = N .forward;
       levelLocks = λ k k<. set-either (λ y. y ≤ s .processorCount) (n .levelLocks) (i - 1) k h 0 (λ e. h≤) (N .levelLocks k k<);
       nodeLock = N .nodeLock;
+      mark = N .mark;
       due = N .due;
       item = N .item;
       ticket = N .ticket;
@@ -84,6 +86,7 @@ module _ (s : Sizes) where
       forward = λ k k<. set-either (λ y. y ≤ s .nodeCount + 1) (n .forward) (i - 1) k y 0 (λ e. y≤) (N .forward k k<);
       levelLocks = N .levelLocks;
       nodeLock = N .nodeLock;
+      mark = N .mark;
       due = N .due;
       item = N .item;
       ticket = N .ticket;
@@ -98,6 +101,7 @@ module _ (s : Sizes) where
       forward = N .forward;
       levelLocks = N .levelLocks;
       nodeLock = h≤;
+      mark = N .mark;
       due = N .due;
       item = N .item;
       ticket = N .ticket;
@@ -107,11 +111,12 @@ module _ (s : Sizes) where
       retired = N .retired;
     }
 
-    with-mark : ValidNode s x (withMark n)
-    with-mark = record {
+    with-mark : (h : ℕ) → h ≤ s .processorCount → ValidNode s x (withMark n h)
+    with-mark h h≤ = record {
       forward = N .forward;
       levelLocks = N .levelLocks;
       nodeLock = N .nodeLock;
+      mark = h≤;
       due = N .due;
       item = N .item;
       ticket = N .ticket;
@@ -126,6 +131,7 @@ module _ (s : Sizes) where
       forward = N .forward;
       levelLocks = N .levelLocks;
       nodeLock = N .nodeLock;
+      mark = N .mark;
       due = N .due;
       item = N .item;
       ticket = N .ticket;
@@ -140,6 +146,7 @@ module _ (s : Sizes) where
       forward = N .forward;
       levelLocks = N .levelLocks;
       nodeLock = N .nodeLock;
+      mark = N .mark;
       due = N .due;
       item = N .item;
       ticket = N .ticket;
@@ -155,6 +162,7 @@ module _ (s : Sizes) where
           forward = λ k k<. below-either (λ y. y ≤ s .nodeCount + 1) (n .forward) (s .levelCount) k (s .nodeCount + 1) 0 (omega arith) (N .forward k k<);
           levelLocks = λ k k<. below-either (λ y. y ≤ s .processorCount) (n .levelLocks) (s .levelCount) k 0 0 (omega arith) (N .levelLocks k k<);
           nodeLock = h≤;
+          mark = omega arith;
           due = F .due;
           item = F .item;
           ticket = t≤;
@@ -173,7 +181,7 @@ changed-valid s h h≤ n (eff.FreeLevel a) E N = with-lock (later s) (a .node) n
 changed-valid s h h≤ n (eff.SetForward a x) E N = with-forward (later s) (a .node) n (node-later s (a .node) n N) (a .level) x (E .to)
 changed-valid s h h≤ n (eff.HoldNode x) E N = with-node-lock (later s) x n (node-later s x n N) h h≤
 changed-valid s h h≤ n (eff.FreeNode x) E N = with-node-lock (later s) x n (node-later s x n N) 0 (omega arith)
-changed-valid s h h≤ n (eff.Mark x) E N = with-mark (later s) x n (node-later s x n N)
+changed-valid s h h≤ n (eff.Mark x) E N = with-mark (later s) x n (node-later s x n N) h h≤
 changed-valid s h h≤ n (eff.Stamp x) E N = with-stamp (later s) x n (node-later s x n N) (s .clock + 1) E (omega arith)
 changed-valid s h h≤ n (eff.Retire x) E N = retired-at (later s) x n (node-later s x n N) (s .clock + 1) (omega arith)
 changed-valid s h h≤ n (eff.Fill x due item height) E N =
@@ -233,6 +241,7 @@ fresh-node-valid s x tail l t =
       forward = λ k k<. replicate-either (λ y. y ≤ s .nodeCount + 1) 8 k tail 0 t (omega arith);
       levelLocks = λ k k<. replicate-either (λ y. y ≤ s .processorCount) 8 k 0 0 (omega arith) (omega arith);
       nodeLock = omega arith;
+      mark = omega arith;
       due = omega arith;
       item = omega arith;
       ticket = omega arith;

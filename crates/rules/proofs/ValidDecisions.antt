@@ -51,7 +51,7 @@ use Rattle.rules.specs.declared.calls.Call.the-variants as call
 use Rattle.rules.specs.Calls.{readingPlace, stepViewOf, stepDecision, insertDecision}
 use Rattle.rules.specs.Calls.{deleteDecision, decisionOf, processorOf}
 use Rattle.rules.proofs.Allowed.{Allowed, of-call, numbers}
-use Rattle.rules.specs.Runs.{Turn, calls, backlog, after}
+use Rattle.rules.specs.Runs.{Turn, calls, backlog, markers, after}
 use Rattle.laws.proofs.Booleans.{cond-cases}
 use Rattle.rules.proofs.ValidFacts.{Within, ValidPlace, ValidCarried, ValidProcessor, ValidQueue, valid-facts}
 
@@ -419,3 +419,4 @@ does q (calls c) =
     (λ v A. let Q = valid-facts q v in
     applies (processorOf c) (decisionOf q c) Q (A .ticks) (A .here) (decides-valid q c A Q))
 does q backlog = unchanged
+does q (markers area) = unchanged

@@ -40,6 +40,7 @@ pub record ValidNode (s : Sizes) (x : ℕ) (n : Node) : Type 0 where
   pub forward : (k : ℕ) → k < s .levelCount → getD (n .forward) k 0 ≤ s .nodeCount + 1
   pub levelLocks : (k : ℕ) → k < s .levelCount → getD (n .levelLocks) k 0 ≤ s .processorCount
   pub nodeLock : n .nodeLock ≤ s .processorCount
+  pub mark : n .mark ≤ s .processorCount
   pub due : n .due ≤ maxNumber
   pub item : n .item ≤ maxNumber
   pub ticket : n .ticket ≤ s .clock
@@ -135,12 +136,13 @@ facts-use (use′.Retired v) clock h = le-leb _ _ (h v refl)
 pub node-facts : (s : Sizes) (x : ℕ) (n : Node) → nodeValid s x n ≡ true → ValidNode s x n
 node-facts s x n h =
     let t = and-four _ _ _ _ h in
-    let links = and-three _ _ _ (t .0) in
+    let links = and-four _ _ _ _ (t .0) in
     let entry = and-four _ _ _ _ (t .1) in
     record {
       forward = most-facts (n .forward) _ _ (links .0);
       levelLocks = most-facts (n .levelLocks) _ _ (links .1);
       nodeLock = leb-true _ _ (links .2);
+      mark = leb-true _ _ (links .3);
       due = leb-true _ _ (entry .0);
       item = leb-true _ _ (entry .1);
       ticket = leb-true _ _ (entry .2);
@@ -153,7 +155,7 @@ node-facts s x n h =
 pub facts-node : (s : Sizes) (x : ℕ) (n : Node) → ValidNode s x n → nodeValid s x n ≡ true
 facts-node s x n v =
     and-all-four _ _ _ _
-    (and-all-three _ _ _ (facts-most (n .forward) _ _ (v .forward)) (facts-most (n .levelLocks) _ _ (v .levelLocks)) (le-leb _ _ (v .nodeLock)))
+    (and-all-four _ _ _ _ (facts-most (n .forward) _ _ (v .forward)) (facts-most (n .levelLocks) _ _ (v .levelLocks)) (le-leb _ _ (v .nodeLock)) (le-leb _ _ (v .mark)))
     (and-all-four _ _ _ _ (le-leb _ _ (v .due)) (le-leb _ _ (v .item)) (le-leb _ _ (v .ticket)) (facts-within _ _ (v .height)))
     (facts-stamp (n .stamp) _ _ (λ t f. facts-within _ _ (v .stamped t f)) (v .stamp-time))
     (facts-use (n .state) _ (v .retired))

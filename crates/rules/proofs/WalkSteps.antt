@@ -246,19 +246,19 @@ module _ (v : View) (u : ℕ → ℕ → ℕ) (I : Inv v u) (room : v .clock + 1
   -- the mark of a node in use
   pub mark-step : info h s .kind ≡ 2 → info h s .nx ≡ 0 → (job : Job) (n : ℕ) → 1 ≤ n →
       n ≤ v .nodes → v .us n ≡ 1 → v .mk n ≡ 0 →
-      Inv (ticked (withStatus v (changedAt (v .mk) n 1) (v .st) (v .us)) p (marker job n)) u
+      Inv (ticked (withStatus v (changedAt (v .mk) n (suc p)) (v .st) (v .us)) p (marker job n)) u
   mark-step two nx job n low high used m =
       let k : claim v p .kind ≡ 2 = ap (λ (t : Stage). info (v .ht (v .pr p .own)) t .kind) e
       ∙ two in
       let x : claim v p .nx ≡ 0 = ap (λ (t : Stage). info (v .ht (v .pr p .own)) t .nx) e ∙ nx in
       let B = I .busy p (omega arith) in
       let E = I .core .entered n low (omega arith) in
-      let same = changed-same (v .mk) n 1 in
+      let same = changed-same (v .mk) n (suc p) in
       let G = head-readable v u I (v .pr p .begin) (key v n) (v .top) (omega arith)
       (omega (arith, B .begun-by)) (I .core .ends .keys n low (omega arith) .0) in
-      restate v u I room p (marker job n) (changedAt (v .mk) n 1) (v .st) (v .us) n
+      restate v u I room p (marker job n) (changedAt (v .mk) n (suc p)) (v .st) (v .us) n
       (omega arith) (λ b. refl) (λ h. omega arith) low high
-      (λ x d. changed-other (v .mk) n 1 x d) (λ x d. refl) (λ x d. refl) (λ h. h)
+      (λ x d. changed-other (v .mk) n (suc p) x d) (λ x d. refl) (λ x d. refl) (λ h. h)
       (record {
         low-height = E .low-height;
         high-height = E .high-height;
@@ -300,7 +300,7 @@ module _ (v : View) (u : ℕ → ℕ → ℕ) (I : Inv v u) (room : v .clock + 1
         };
         walks = λ h. absurd (omega arith);
       })
-      (one-new (withStatus v (changedAt (v .mk) n 1) (v .st) (v .us)) u p (marker job n) (I .one)
+      (one-new (withStatus v (changedAt (v .mk) n (suc p)) (v .st) (v .us)) u p (marker job n) (I .one)
       (λ q ne b k d f. omega (arith, (rw f at (I .busy q b .removes k .marked)))))
-      (yields-new (withStatus v (changedAt (v .mk) n 1) (v .st) (v .us)) u p (marker job n) (I .yields)
+      (yields-new (withStatus v (changedAt (v .mk) n (suc p)) (v .st) (v .us)) u p (marker job n) (I .yields)
       (λ h t. absurd (omega arith)) (λ h. absurd (omega arith)))

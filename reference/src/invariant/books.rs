@@ -45,7 +45,7 @@ fn book_entries(view: &View) -> bool {
         let written = &view.book.entries[i];
         if written.entry != view.queue.entry(n)
             || written.answered != node.stamp
-            || written.marked != node.mark
+            || written.marked != node.is_marked()
         {
             return false;
         }

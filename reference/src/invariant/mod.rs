@@ -169,6 +169,6 @@ impl<'a> View<'a> {
     /// Whether the node may be marked by a walk begun then.
     fn eligible(&self, n: u8, begin: u32) -> bool {
         let node = self.node(n);
-        node.state == Use::InUse && !node.mark && node.stamp.is_some_and(|time| time < begin)
+        node.state == Use::InUse && !node.is_marked() && node.stamp.is_some_and(|time| time < begin)
     }
 }

@@ -76,7 +76,7 @@ fn hi_retired(view: &View) -> bool {
 /// A retired node is marked.
 fn retired_marked(view: &View) -> bool {
     view.entry_nodes().all(|n| match view.node(n).state {
-        Use::Retired(_) => view.node(n).mark,
+        Use::Retired(_) => view.node(n).is_marked(),
         _ => true,
     })
 }
@@ -85,7 +85,10 @@ fn retired_marked(view: &View) -> bool {
 fn unmarked_free(view: &View) -> bool {
     view.entry_nodes().all(|n| {
         let node = view.node(n);
-        node.state != Use::InUse || node.mark || node.node_lock != FREE || view.linked_to_height(n)
+        node.state != Use::InUse
+            || node.is_marked()
+            || node.node_lock != FREE
+            || view.linked_to_height(n)
     })
 }
 
@@ -93,7 +96,10 @@ fn unmarked_free(view: &View) -> bool {
 fn settled_full(view: &View) -> bool {
     view.entry_nodes().all(|n| {
         let node = view.node(n);
-        node.state != Use::InUse || node.mark || node.stamp.is_none() || view.linked_to_height(n)
+        node.state != Use::InUse
+            || node.is_marked()
+            || node.stamp.is_none()
+            || view.linked_to_height(n)
     })
 }
 

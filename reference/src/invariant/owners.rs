@@ -3,6 +3,7 @@
 use super::{Conjunct, View};
 use crate::claims::{Linked, Role};
 use crate::queue::{Stage, Use, FREE, NODE_SLOTS};
+use crate::stages::holder;
 
 pub(super) const CONJUNCTS: &[Conjunct] = &[
     ("OneInsert", one_insert),
@@ -10,6 +11,7 @@ pub(super) const CONJUNCTS: &[Conjunct] = &[
     ("OwnUse", own_use),
     ("InsStamp", ins_stamp),
     ("DelMark", del_mark),
+    ("MarkerRemoves", marker_removes),
     ("InsM", ins_m),
     ("LevelInsert", level_insert),
     ("HiInsert", hi_insert),
@@ -61,7 +63,20 @@ fn ins_stamp(view: &View) -> bool {
 /// The own node of a remover is marked.
 fn del_mark(view: &View) -> bool {
     view.of_role(Role::Delete)
-        .all(|(_, _, p)| view.node(p.own).mark)
+        .all(|(_, _, p)| view.node(p.own).is_marked())
+}
+
+/// A node in use is marked by a processor exactly if this processor is removing
+/// it (document 02, W6).
+fn marker_removes(view: &View) -> bool {
+    view.entry_nodes().all(|n| {
+        view.node(n).state != Use::InUse
+            || view.claims.iter().enumerate().all(|(number, p)| {
+                let known = number < view.queue.processor_count as usize;
+                let removes = known && p.role == Role::Delete && p.own == n;
+                removes == (view.node(n).mark == holder(number))
+            })
+    })
 }
 
 /// The own node of an Insert before I5 is linked on just the levels that the

@@ -58,6 +58,9 @@ fn node_breaking(queue: &Queue, n: usize) -> Vec<Change> {
         changes.push(on_node(n, format!("node lock {value}"), move |node| {
             node.node_lock = value
         }));
+        changes.push(on_node(n, format!("mark {value}"), move |node| {
+            node.mark = value
+        }));
     }
     for value in [MAX_NUMBER + 1, u32::MAX] {
         changes.push(on_node(n, format!("due {value}"), move |node| {

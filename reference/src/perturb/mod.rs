@@ -3,7 +3,7 @@
 
 use crate::calls::Call;
 use crate::queue::{Node, Operation, Place, Processor, Queue, Stage, Use, HEAD, MAX_NUMBER};
-use crate::queue::{MAX_LEVELS, MAX_PROCESSORS, NODE_SLOTS};
+use crate::queue::{MAX_LEVELS, MAX_PROCESSORS, NODE_SLOTS, UNMARKED};
 use crate::schedule::{Schedule, Sizes};
 use crate::trial::fresh_of;
 
@@ -13,8 +13,10 @@ pub use breaking::breaking;
 
 /// Calls of every kind by processor 0, and calls that would be refused for
 /// their numbers: check 21 comes before these.
-pub const CALLS: [Call; 6] = [
+pub const CALLS: [Call; 8] = [
     Call::Backlog,
+    Call::Markers { room: 400 },
+    Call::Markers { room: 0 },
     Call::Step { processor: 0 },
     Call::DeleteMin { processor: 0 },
     Call::Insert {
@@ -146,6 +148,7 @@ pub fn to_the_edge(queue: &Queue) -> Vec<Change> {
             node.forward[..levels as usize].fill(tail);
             node.level_locks[..levels as usize].fill(holders);
             node.node_lock = holders;
+            node.mark = holders;
             node.due = MAX_NUMBER;
             node.item = MAX_NUMBER;
             node.ticket = clock;
@@ -154,6 +157,7 @@ pub fn to_the_edge(queue: &Queue) -> Vec<Change> {
         }));
         changes.push(on_node(n, "at its least".to_string(), move |node| {
             node.forward[..levels as usize].fill(HEAD);
+            node.mark = UNMARKED;
             node.height = 1;
             node.state = Use::Retired(0);
             node.stamp = None;
@@ -209,7 +213,7 @@ pub fn past_slots(queue: &Queue) -> Vec<Change> {
                 forward: [u8::MAX; MAX_LEVELS],
                 level_locks: [u8::MAX; MAX_LEVELS],
                 node_lock: u8::MAX,
-                mark: true,
+                mark: u8::MAX,
                 stamp: Some(u32::MAX),
                 due: u32::MAX,
                 ticket: u32::MAX,

@@ -6,29 +6,30 @@ use super::rows::TABLES;
 use crate::calls::Call;
 use crate::queue::{Queue, Use};
 
-/// A kind of node: its use, its stamp, its mark, and 1 if Backlog counts it.
-type Kind = (Use, Option<u32>, bool, u32);
+/// A kind of node: its use, its stamp, its mark (1 is processor 0's), and 1 if
+/// Backlog counts it.
+type Kind = (Use, Option<u32>, u8, u32);
 
 const KINDS: [Kind; 12] = [
-    (Use::Never, None, false, 0),
-    (Use::Never, None, true, 0),
-    (Use::Never, Some(0), false, 0),
-    (Use::Never, Some(0), true, 0),
-    (Use::InUse, None, false, 0),
-    (Use::InUse, None, true, 0),
-    (Use::InUse, Some(0), false, 1),
-    (Use::InUse, Some(0), true, 0),
-    (Use::Retired(0), None, false, 0),
-    (Use::Retired(0), None, true, 0),
-    (Use::Retired(0), Some(0), false, 0),
-    (Use::Retired(0), Some(0), true, 0),
+    (Use::Never, None, 0, 0),
+    (Use::Never, None, 1, 0),
+    (Use::Never, Some(0), 0, 0),
+    (Use::Never, Some(0), 1, 0),
+    (Use::InUse, None, 0, 0),
+    (Use::InUse, None, 1, 0),
+    (Use::InUse, Some(0), 0, 1),
+    (Use::InUse, Some(0), 1, 0),
+    (Use::Retired(0), None, 0, 0),
+    (Use::Retired(0), None, 1, 0),
+    (Use::Retired(0), Some(0), 0, 0),
+    (Use::Retired(0), Some(0), 1, 0),
 ];
 
 /// The entry of this node is answered and not marked.
-const PENDING: Kind = (Use::InUse, Some(0), false, 1);
+const PENDING: Kind = (Use::InUse, Some(0), 0, 1);
 
 /// The Insert of this node's entry has not answered.
-const UNANSWERED: Kind = (Use::InUse, None, false, 0);
+const UNANSWERED: Kind = (Use::InUse, None, 0, 0);
 
 /// A record with what Backlog gives for it.
 pub struct Counted {
@@ -45,10 +46,10 @@ fn put(queue: &mut Queue, number: usize, (usage, stamp, mark, _): Kind) {
     (node.state, node.stamp, node.mark) = (usage, stamp, mark);
 }
 
-/// On the record of each table, in which no node is in use: each kind at the
-/// first node, at one in the middle and at the last, alone and where all the
-/// others count; and what never counts, the head, the tail and the slots past
-/// it.
+/// On the record of each table, in which no node is in use: each kind, and one
+/// with the last processor's mark, at the first node, at one in the middle and
+/// at the last, alone and where all the others count; and what never counts, the
+/// head, the tail and the slots past it.
 pub fn records() -> Vec<Counted> {
     let mut all = Vec::new();
     for table in &TABLES {
@@ -60,7 +61,8 @@ pub fn records() -> Vec<Counted> {
             let what = format!("{:?} {:?}, {words}", table.sizes, table.filling);
             all.push(Counted { what, queue, count });
         };
-        for kind in KINDS {
+        let by_the_last: Kind = (Use::InUse, Some(0), table.sizes[0], 0);
+        for kind in KINDS.into_iter().chain([by_the_last]) {
             for number in [1, last / 2 + 1, last] {
                 let mut queue = base.clone();
                 put(&mut queue, number, kind);

@@ -67,6 +67,7 @@ pub fn printed() -> Vec<(u32, Vec<u8>)> {
     ];
     let mut answered = begun;
     answered[16..23].copy_from_slice(&[0, 0, 1, 10, 0, 0, 0]);
+    // marked by processor 0
     let mut marked = answered;
     marked[17] = 1;
     let mut retired = marked;
@@ -105,12 +106,12 @@ const MANY: Processor = Processor {
 };
 const MANY_BYTES: [u8; 17] = [1, 2, 3, 4, 5, 19, 7, 8, 9, 10, 11, 12, 13, 14, 15, 16, 17];
 
-/// A node with another number in each of its bytes, but mark and tags.
+/// A node with another number in each of its bytes, but tags.
 const FULL: Node = Node {
     forward: [1, 2, 3, 4, 5, 6, 7, 8],
     level_locks: [9, 10, 11, 12, 13, 14, 15, 16],
     node_lock: 17,
-    mark: true,
+    mark: 18,
     stamp: Some(0x1716_1514),
     due: 0x1b1a_1918,
     ticket: 0x1f1e_1d1c,
@@ -119,7 +120,7 @@ const FULL: Node = Node {
     state: Use::Retired(0x2928_2726),
 };
 const FULL_BYTES: [u8; 41] = [
-    1, 2, 3, 4, 5, 6, 7, 8, 9, 10, 11, 12, 13, 14, 15, 16, 17, 1, 1, 20, 21, 22, 23, 24, 25, 26,
+    1, 2, 3, 4, 5, 6, 7, 8, 9, 10, 11, 12, 13, 14, 15, 16, 17, 18, 1, 20, 21, 22, 23, 24, 25, 26,
     27, 28, 29, 30, 31, 32, 33, 34, 35, 36, 2, 38, 39, 40, 41,
 ];
 
@@ -131,7 +132,7 @@ fn zeros([processor_count, node_count, level_count]: [u8; 3]) -> Queue {
         forward: [tail; 8],
         level_locks: [0; 8],
         node_lock: 0,
-        mark: false,
+        mark: 0,
         stamp: None,
         due: 0,
         ticket: 0,
@@ -199,30 +200,49 @@ pub const BEGUN: [([u8; 3], [ByteAt; 4]); 5] = [
 
 /// One byte of a fresh queue's image replaced: sizes, place, byte, and whether
 /// the calls take it. The last processor's own node (its fifth byte) and stage,
-/// the head's first forward number, the tail's mark, height and last byte.
-pub const EDITS: [([u8; 3], usize, u8, bool); 24] = [
+/// the head's first forward number, the tail's height and last byte, and the
+/// marks of the head, of the last entry and of the tail: a mark is nobody's, or
+/// one more than the processor that set it.
+pub const EDITS: [([u8; 3], usize, u8, bool); 41] = [
     ([1, 1, 1], 11, 2, true),
     ([1, 1, 1], 11, 3, false),
     ([1, 1, 1], 12, 27, false),
     ([1, 1, 1], 24, 2, true),
     ([1, 1, 1], 24, 3, false),
+    ([1, 1, 1], 41, 1, true),
+    ([1, 1, 1], 41, 2, false),
+    ([1, 1, 1], 82, 1, true),
+    ([1, 1, 1], 82, 2, false),
     ([1, 1, 1], 123, 1, true),
     ([1, 1, 1], 123, 2, false),
+    ([1, 1, 1], 123, 255, false),
     ([1, 1, 1], 146, 1, false),
     ([2, 3, 2], 28, 4, true),
     ([2, 3, 2], 28, 5, false),
     ([2, 3, 2], 29, 27, false),
     ([2, 3, 2], 41, 4, true),
     ([2, 3, 2], 41, 5, false),
+    ([2, 3, 2], 58, 2, true),
+    ([2, 3, 2], 58, 3, false),
+    ([2, 3, 2], 181, 2, true),
+    ([2, 3, 2], 181, 3, false),
     ([2, 3, 2], 222, 1, true),
-    ([2, 3, 2], 222, 2, false),
+    ([2, 3, 2], 222, 2, true),
+    ([2, 3, 2], 222, 3, false),
+    ([2, 3, 2], 222, 255, false),
     ([2, 3, 2], 245, 1, false),
     ([16, 200, 8], 266, 201, true),
     ([16, 200, 8], 266, 202, false),
     ([16, 200, 8], 267, 27, false),
     ([16, 200, 8], 279, 202, false),
-    ([16, 200, 8], 8_537, 1, true),
-    ([16, 200, 8], 8_537, 2, false),
+    ([16, 200, 8], 296, 16, true),
+    ([16, 200, 8], 296, 17, false),
+    ([16, 200, 8], 8_496, 16, true),
+    ([16, 200, 8], 8_496, 17, false),
+    ([16, 200, 8], 8_537, 2, true),
+    ([16, 200, 8], 8_537, 16, true),
+    ([16, 200, 8], 8_537, 17, false),
+    ([16, 200, 8], 8_537, 255, false),
     ([16, 200, 8], 8_555, 9, false),
     ([16, 200, 8], 8_560, 1, false),
 ];

@@ -13,7 +13,7 @@ fn begun(processor_count: u8, level_count: u8, item: u32) -> Queue {
         forward: [tail; 8],
         level_locks: [0; 8],
         node_lock: 0,
-        mark: false,
+        mark: 0,
         stamp: None,
         due: 0,
         ticket: 0,

@@ -21,6 +21,8 @@ pub enum Field {
     LevelLock,
     /// The holder of the node lock.
     NodeLock,
+    /// Who set the mark: 0 for nobody, p + 1 for processor p.
+    Mark,
     /// A due minute.
     Due,
     /// An item.
@@ -56,7 +58,7 @@ pub enum Field {
 }
 
 /// Every field.
-pub const FIELDS: [Field; 23] = [
+pub const FIELDS: [Field; 24] = [
     Processors,
     Nodes,
     Levels,
@@ -64,6 +66,7 @@ pub const FIELDS: [Field; 23] = [
     Forward,
     LevelLock,
     NodeLock,
+    Mark,
     Due,
     Item,
     Ticket,
@@ -205,10 +208,11 @@ const JUST_16_200_8: [Row; 4] = [
 ];
 
 /// One processor, one node, one level; the clock is 30. The tail is node 2.
-const SMALLEST: [Row; 19] = [
+const SMALLEST: [Row; 20] = [
     row(Forward, &[0, 1, 2], &[3, 255]),
     row(LevelLock, &[0, 1], &[2, 255]),
     row(NodeLock, &[0, 1], &[2, 255]),
+    row(Mark, &[0, 1], &[2, 255]),
     row(Due, &[0, 999_999], &[1_000_000, FAR]),
     row(Item, &[0, 999_999], &[1_000_000, FAR]),
     row(Ticket, &[0, 30], &[31, FAR]),
@@ -229,10 +233,11 @@ const SMALLEST: [Row; 19] = [
 
 /// Two processors, three nodes, two levels; the clock is 30. The tail is node
 /// 4.
-const SMALL: [Row; 19] = [
+const SMALL: [Row; 20] = [
     row(Forward, &[0, 1, 4], &[5, 255]),
     row(LevelLock, &[0, 1, 2], &[3, 255]),
     row(NodeLock, &[0, 1, 2], &[3, 255]),
+    row(Mark, &[0, 1, 2], &[3, 255]),
     row(Due, &[0, 999_999], &[1_000_000, FAR]),
     row(Item, &[0, 999_999], &[1_000_000, FAR]),
     row(Ticket, &[0, 30], &[31, FAR]),
@@ -253,10 +258,11 @@ const SMALL: [Row; 19] = [
 
 /// Sixteen processors, 200 nodes, eight levels; the clock is 999,998. The tail
 /// is node 201.
-const LARGEST: [Row; 19] = [
+const LARGEST: [Row; 20] = [
     row(Forward, &[0, 201], &[202, 255]),
     row(LevelLock, &[0, 16], &[17, 255]),
     row(NodeLock, &[0, 16], &[17, 255]),
+    row(Mark, &[0, 16], &[17, 255]),
     row(Due, &[0, 999_999], &[1_000_000, FAR]),
     row(Item, &[0, 999_999], &[1_000_000, FAR]),
     row(Ticket, &[0, 999_998], &[999_999, FAR]),
