@@ -46,3 +46,4 @@ pub mod Meaning
 pub mod LockFacts
 pub mod Items
 pub mod Allowed
+pub mod Marks
