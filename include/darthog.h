@@ -16,7 +16,7 @@
  *
  * What the host owes: image points to length readable bytes (writable ones where the pointer is not
  * const), is not null even where length is 0, and no other thread reads or writes these bytes
- * during the call. darthog_calls says what it asks for its lists.
+ * during the call. darthog_calls says what it asks for its lists, darthog_markers for its area.
  */
 #ifndef DARTHOG_H
 #define DARTHOG_H
@@ -43,7 +43,8 @@ struct darthog_reply {
 
 /* Codes of accepted calls. */
 enum {
-    DARTHOG_ACCEPTED = 0,   /* first is a begin's time, Backlog's count, or a due minute */
+    DARTHOG_ACCEPTED = 0,   /* first is a begin's time, the count of Backlog or of markers, or a due
+                               minute */
     DARTHOG_MOVED = 1,      /* of a step, as those below */
     DARTHOG_WAITS = 2,      /* a lock is held by another processor: let the others step first */
     DARTHOG_EMPTY = 3,
@@ -66,7 +67,13 @@ enum {
     DARTHOG_TOO_LARGE = 35,      /* Insert: due or item above 999,999; due: above 59,999,969 s */
     DARTHOG_NO_ITEM = 39,        /* Insert: item 0, which is no item */
     DARTHOG_BAD_HEIGHT = 36,     /* Insert: height not 1 to the queue's levels */
-    DARTHOG_NO_NODE = 37         /* Insert: no node that may be used now; later there may be one */
+    DARTHOG_NO_NODE = 37,        /* Insert: no node that may be used now; later there may be one */
+    DARTHOG_AREA_TOO_SHORT = 43  /* markers: the area has fewer than two bytes for each node in use */
+};
+
+/* What markers have in the place of a processor for a node that nobody has marked. */
+enum {
+    DARTHOG_NO_MARKER = 255
 };
 
 /* Kinds of calls in a list; every kind but the first two is a step. */
@@ -118,6 +125,21 @@ uint32_t darthog_calls(uint8_t *image, size_t length, const uint32_t *calls, siz
  * from the begin of its Insert until it is handed out, so that a small count does not say that an
  * Insert finds a node: 37 says whether it does. */
 struct darthog_reply darthog_backlog(const uint8_t *image, size_t length);
+
+/* Markers: which worker holds which entry that is not handed out yet. Each node in use has two
+ * bytes at the front of area, in the order of the nodes' numbers: its number, 1 to the queue's
+ * entries, and the processor whose Delete_Min has marked its entry (DARTHOG_MARKED), or
+ * DARTHOG_NO_MARKER. first is how many nodes these are; behind their bytes the area stays as it
+ * was. A node is in use from the begin of its Insert until its entry is handed out; till then its
+ * marker stays, whoever else comes by.
+ *
+ * Refused with 43 where area_length is less than twice the nodes in use; then nothing is written.
+ * Twice the queue's entries are always enough, and 400 for any queue.
+ *
+ * The host owes for area what it owes for image: a pointer that is not null, to area_length bytes
+ * that may be written and that no other thread reads or writes. The two share no memory. */
+struct darthog_reply darthog_markers(const uint8_t *image, size_t length, uint8_t *area,
+                                     size_t area_length);
 
 /* The due minute of a count of seconds: the minute nearest to it, and for half a minute the even
  * one of its two: 89 seconds are 1, 90 and 150 are 2. Refused with 35 above 59,999,969 seconds. */

@@ -36,11 +36,14 @@ pub enum Refusal {
     /// Insert: no node that may be used now. Let the workers step on or take
     /// entries out, and try again.
     NoNode = 37,
+    /// Markers: the area has fewer than two bytes for each node in use.
+    /// [`crate::Queue::markers`] lends one that has enough.
+    AreaTooShort = 43,
 }
 
 impl Refusal {
     /// Every refusal.
-    pub const ALL: [Refusal; 12] = [
+    pub const ALL: [Refusal; 13] = [
         Refusal::BadProcessors,
         Refusal::BadEntries,
         Refusal::BadLevels,
@@ -53,6 +56,7 @@ impl Refusal {
         Refusal::NoItem,
         Refusal::BadHeight,
         Refusal::NoNode,
+        Refusal::AreaTooShort,
     ];
 
     /// The specification's number.
@@ -83,6 +87,7 @@ impl fmt::Display for Refusal {
             Refusal::NoItem => "item 0",
             Refusal::BadHeight => "height not 1 to the queue's levels",
             Refusal::NoNode => "no node that may be used",
+            Refusal::AreaTooShort => "fewer than two bytes for each node in use",
         };
         write!(f, "{words} ({})", self.number())
     }
@@ -119,6 +124,16 @@ pub enum Step {
     HandedOut(Entry),
 }
 
+/// A node in use, with who has marked it.
+#[derive(Clone, Copy, PartialEq, Eq, Hash, Debug)]
+pub struct Marker {
+    /// The node's number, from 1.
+    pub node: u8,
+    /// The processor whose Delete_Min has marked the node's entry and not yet
+    /// handed it out; none while the entry is not marked.
+    pub marker: Option<u8>,
+}
+
 /// The refusal of a code. The contracts of the library have no other codes.
 pub(crate) fn refusal(code: u32) -> Refusal {
     match Refusal::from_number(code) {
@@ -127,7 +142,7 @@ pub(crate) fn refusal(code: u32) -> Refusal {
     }
 }
 
-/// The value of a begin, a Backlog or a due minute.
+/// The value of a begin, a Backlog, markers or a due minute.
 pub(crate) fn value(reply: Reply) -> Result<u32, Refusal> {
     match reply.code {
         raw::ACCEPTED => Ok(reply.first),

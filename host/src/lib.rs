@@ -4,7 +4,8 @@
 //! A [`Queue`] owns the bytes of its image, as many as its sizes take, and lends
 //! them to the calls of the proved library `libhost_calls.a`. A refused call leaves
 //! the queue as it was. [`Queue::calls`] makes the calls of a list in one go,
-//! and [`raw`] has the library's own functions.
+//! [`Queue::markers`] tells which worker holds which entry, and [`raw`] has the
+//! library's own functions.
 //!
 //! ```
 //! use darthog_host::{due_minute, image_length, Entry, Queue, Refusal, Step};
@@ -49,7 +50,7 @@ mod lists;
 mod queue;
 pub mod raw;
 
-pub use answers::{Entry, Refusal, Step};
+pub use answers::{Entry, Marker, Refusal, Step};
 pub use lists::{Answer, Call, Done};
 pub use queue::{due_minute, image_length, Queue};
 pub use raw::MAX_IMAGE_LENGTH;

@@ -1,6 +1,6 @@
 //! A queue that owns its bytes.
 
-use crate::answers::{refusal, step, value, Refusal, Step};
+use crate::answers::{refusal, step, value, Marker, Refusal, Step};
 use crate::lists::{Answer, Call, NUMBERS};
 use crate::raw;
 use std::fmt;
@@ -138,6 +138,58 @@ impl Queue {
     pub fn backlog(&self) -> Result<u32, Refusal> {
         // Safe: the bytes are lent for the call, with their length.
         value(unsafe { raw::darthog_backlog(self.image.as_ptr(), self.image.len()) })
+    }
+
+    /// Which worker holds which entry that is not handed out yet: the nodes in
+    /// use, in the order of their numbers, each with the processor that has
+    /// marked its entry.
+    ///
+    /// A node is in use from the begin of its Insert until its entry is handed
+    /// out. Its marker is the processor whose Delete_Min took the entry
+    /// ([`Step::Marked`]), and stays that until the hand-out
+    /// ([`Step::HandedOut`]).
+    ///
+    /// ```
+    /// use darthog_host::{Marker, Queue, Refusal, Step};
+    ///
+    /// # fn main() -> Result<(), Refusal> {
+    /// // processor 0 files two withdrawals, and processor 1 takes the first
+    /// let mut queue = Queue::new(2, 3, 1)?;
+    /// for (due, item) in [(7, 42), (8, 43)] {
+    ///     queue.begin_insert(0, due, item, 1)?;
+    ///     while !matches!(queue.step(0)?, Step::Inserted(_)) {}
+    /// }
+    /// queue.begin_delete_min(1)?;
+    /// while !matches!(queue.step(1)?, Step::Marked(_)) {}
+    /// let taken = Marker { node: 1, marker: Some(1) };
+    /// let free = Marker { node: 2, marker: None };
+    /// assert_eq!(queue.markers(), Ok(vec![taken, free]));
+    ///
+    /// // delivered, it is nobody's any more
+    /// while !matches!(queue.step(1)?, Step::HandedOut(_)) {}
+    /// assert_eq!(queue.markers(), Ok(vec![free]));
+    /// # Ok(())
+    /// # }
+    /// ```
+    pub fn markers(&self) -> Result<Vec<Marker>, Refusal> {
+        // two bytes for each entry that the queue is made for
+        let mut area = vec![0; 2 * usize::from(self.image[1])];
+        // Safe: bytes and area are lent for the call, with their lengths, and
+        // share no memory.
+        let nodes = value(unsafe {
+            raw::darthog_markers(
+                self.image.as_ptr(),
+                self.image.len(),
+                area.as_mut_ptr(),
+                area.len(),
+            )
+        })?;
+        let told = area.chunks_exact(2).take(nodes as usize);
+        let of = |pair: &[u8]| Marker {
+            node: pair[0],
+            marker: (pair[1] != raw::NO_MARKER).then_some(pair[1]),
+        };
+        Ok(told.map(of).collect())
     }
 }
 

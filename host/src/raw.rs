@@ -13,7 +13,8 @@ pub const MAX_IMAGE_LENGTH: usize = 8561;
 pub struct Reply {
     /// 0 to 6 for an accepted call, else the refusal's number.
     pub code: u32,
-    /// A begin's time, a backlog, a due minute, or an entry's due minute.
+    /// A begin's time, a backlog, how many nodes have markers told, a due
+    /// minute, or an entry's due minute.
     pub first: u32,
     /// An entry's item.
     pub second: u32,
@@ -21,7 +22,7 @@ pub struct Reply {
     pub third: u32,
 }
 
-/// A begin, a Backlog or a due minute was accepted.
+/// A begin, a Backlog, markers or a due minute was accepted.
 pub const ACCEPTED: u32 = 0;
 /// The operation went on.
 pub const MOVED: u32 = 1;
@@ -43,12 +44,17 @@ pub const CALL_DELETE_MIN: u32 = 2;
 /// A kind that is a step, as every kind but the two above.
 pub const CALL_STEP: u32 = 3;
 
+/// What stands for the processor in the markers where nobody has marked the
+/// node.
+pub const NO_MARKER: u8 = 255;
+
 // In every call the host owes: `image` is not null and points to `length`
 // bytes that may be read, and written where it is `*mut`; no other thread
-// reads or writes them during the call. The same goes for the lists of
-// `darthog_calls`, whose lengths count numbers: they are aligned, and neither
-// the image nor the answers share memory with another of the three. Nothing
-// else is asked.
+// reads or writes them during the call. The same goes for the area of
+// `darthog_markers`, which shares no memory with the image, and for the lists
+// of `darthog_calls`, whose lengths count numbers: they are aligned, and
+// neither the image nor the answers share memory with another of the three.
+// Nothing else is asked.
 extern "C" {
     /// The length of an image for so many processors and entries; 0 where no
     /// queue has these sizes.
@@ -93,6 +99,16 @@ extern "C" {
 
     /// How many entries are answered and not marked.
     pub fn darthog_backlog(image: *const u8, length: usize) -> Reply;
+
+    /// Writes two bytes for each node in use to the front of the area: its
+    /// number, and the processor that has marked it or [`NO_MARKER`]. Gives how
+    /// many nodes these are.
+    pub fn darthog_markers(
+        image: *const u8,
+        length: usize,
+        area: *mut u8,
+        area_length: usize,
+    ) -> Reply;
 
     /// The due minute of a count of seconds: the nearest, half a minute to the
     /// even one.

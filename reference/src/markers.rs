@@ -53,16 +53,15 @@ impl Queue {
 
     /// As `markers`, without check 21.
     pub fn markers_inner(&self, area: &mut [u8]) -> Result<u32, Refusal> {
-        let mut told = Vec::new();
-        for number in 1..=self.node_count {
-            let node = &self.nodes[number as usize];
-            if node.state == Use::InUse {
-                told.extend([number, node.marker().unwrap_or(NOBODY)]);
-            }
+        let nodes = self.in_use();
+        let front = area.get_mut(..PAIR * nodes as usize).ok_or(43u32)?;
+        let used = |number: &u8| self.nodes[*number as usize].state == Use::InUse;
+        let numbers = (1..=self.node_count).filter(used);
+        for (number, pair) in numbers.zip(front.chunks_exact_mut(PAIR)) {
+            let marker = self.nodes[number as usize].marker();
+            pair.copy_from_slice(&[number, marker.unwrap_or(NOBODY)]);
         }
-        let front = area.get_mut(..told.len()).ok_or(43u32)?;
-        front.copy_from_slice(&told);
-        Ok((told.len() / PAIR) as u32)
+        Ok(nodes)
     }
 
     /// As `markers_inner`, with an area of so many bytes.

@@ -4,7 +4,8 @@
 use darthog_reference::answer::{Answer, Entry};
 use darthog_reference::any_record::{any_record, slots_past};
 use darthog_reference::calls::{Call, Outcome};
-use darthog_reference::queue::{Queue, Stage, MAX_NUMBER};
+use darthog_reference::markers::{Listing, NOBODY, PAIR};
+use darthog_reference::queue::{Queue, Stage, Use, MAX_NUMBER, UNMARKED};
 use darthog_reference::random::Random;
 use std::collections::HashMap;
 use std::mem::{discriminant, Discriminant};
@@ -12,10 +13,19 @@ use std::mem::{discriminant, Discriminant};
 const RECORDS: u64 = 100_000;
 const CALLS_EACH: u64 = 8;
 
+/// A room for markers: just enough, a byte less or more, none, or plenty.
+fn any_room(random: &mut Random, queue: &Queue) -> usize {
+    let enough = PAIR * queue.in_use() as usize;
+    random.among(&[enough, enough.saturating_sub(1), enough + 1, 0, 500])
+}
+
 fn any_call(random: &mut Random, queue: &Queue) -> Call {
     let processor = random.below(u64::from(queue.processor_count) + 1);
-    match random.below(8) {
+    match random.below(9) {
         0 => Call::Backlog,
+        8 => Call::Markers {
+            room: any_room(random, queue),
+        },
         1 => Call::DeleteMin { processor },
         2 | 3 => Call::Insert {
             processor,
@@ -40,17 +50,17 @@ fn differing(before: &Queue, after: &Queue) -> (Vec<usize>, Vec<usize>) {
 
 fn check_call(before: &Queue, call: &Call, outcome: &Outcome, after: &Queue) {
     assert!(after.sound(), "{call:?} {outcome:?}");
-    let processor = match (*call, *outcome) {
+    let processor = match (*call, outcome) {
         (_, Outcome::Refused(number)) => {
-            assert_ne!(number, 21);
+            assert_ne!(*number, 21);
             assert!(
                 before == after,
                 "{call:?} was refused and changed something"
             );
             return;
         }
-        (Call::Backlog, _) => {
-            assert!(before == after, "Backlog changed something");
+        (Call::Backlog | Call::Markers { .. }, _) => {
+            assert!(before == after, "{call:?} changed something");
             return;
         }
         (Call::Insert { processor, .. }, _) => processor,
@@ -68,6 +78,30 @@ fn check_call(before: &Queue, call: &Call, outcome: &Outcome, after: &Queue) {
         "{call:?} changed processors {processors:?}"
     );
     assert!(slots_past(before) == slots_past(after), "{call:?}");
+    check_marks(before, call, outcome, after);
+}
+
+/// A mark that is set stays, but where an Insert takes the node, which is then
+/// unmarked; a mark that is not set is set by a step that reports it, and is
+/// that of its processor.
+fn check_marks(before: &Queue, call: &Call, outcome: &Outcome, after: &Queue) {
+    for (number, (old, new)) in before.nodes.iter().zip(&after.nodes).enumerate() {
+        let expected = match (*call, outcome) {
+            (Call::Insert { processor, .. }, _)
+                if usize::from(after.processors[processor as usize].own) == number =>
+            {
+                UNMARKED
+            }
+            (Call::Step { processor }, Outcome::Stepped(Answer::Marked(_)))
+                if usize::from(after.processors[processor as usize].own) == number =>
+            {
+                assert_eq!(old.mark, UNMARKED, "{call:?}: node {number} was marked");
+                processor as u8 + 1
+            }
+            _ => old.mark,
+        };
+        assert_eq!(new.mark, expected, "{call:?}: the mark of node {number}");
+    }
 }
 
 #[test]
@@ -75,6 +109,7 @@ fn every_call_keeps_check_21_on_any_record() {
     let mut random = Random::new(5);
     let mut steps: HashMap<Discriminant<Stage>, u64> = HashMap::new();
     let mut begins = [0u64; 2];
+    let mut listings = 0;
     let mut refusals: HashMap<u32, u64> = HashMap::new();
     for _ in 0..RECORDS {
         let mut queue = any_record(&mut random);
@@ -94,6 +129,10 @@ fn every_call_keeps_check_21_on_any_record() {
                 }
                 (Call::Insert { .. }, Outcome::Began(_)) => begins[0] += 1,
                 (Call::DeleteMin { .. }, Outcome::Began(_)) => begins[1] += 1,
+                (Call::Markers { .. }, Outcome::Listed(listing)) => {
+                    check_listing(&before, &listing);
+                    listings += 1;
+                }
                 (_, Outcome::Refused(number)) => *refusals.entry(number).or_default() += 1,
                 _ => {}
             }
@@ -102,9 +141,24 @@ fn every_call_keeps_check_21_on_any_record() {
     assert_eq!(steps.len(), 21, "some stage never stepped");
     assert!(steps.values().all(|&count| count > 1000), "{steps:?}");
     assert!(begins.iter().all(|&count| count > 1000), "{begins:?}");
-    for number in 31..=37 {
+    assert!(listings > 1000, "{listings}");
+    for number in [31, 32, 33, 34, 35, 36, 37, 39, 43] {
         assert!(refusals[&number] > 1000, "{refusals:?}");
     }
+}
+
+/// Node by node: a node in use has its pair, another has none.
+fn check_listing(queue: &Queue, listing: &Listing) {
+    let mut pairs = listing.pairs();
+    for number in 1..=queue.node_count {
+        let node = &queue.nodes[usize::from(number)];
+        if node.state == Use::InUse {
+            let marker = if node.mark == 0 { 255 } else { node.mark - 1 };
+            assert_eq!(pairs.next(), Some((number, marker)), "node {number}");
+        }
+    }
+    assert_eq!(pairs.next(), None, "one node too many");
+    assert!(listing.leaves_the_rest(), "written past the nodes");
 }
 
 /// The walk reads level 1 whatever level its place holds.
@@ -153,7 +207,7 @@ fn renamed_outcome(outcome: &Outcome, name: impl Fn(u32) -> u32) -> Outcome {
         Outcome::Stepped(Answer::HandedOut(entry)) => {
             Outcome::Stepped(Answer::HandedOut(other(entry)))
         }
-        outcome => outcome,
+        _ => outcome.clone(),
     }
 }
 
@@ -185,4 +239,63 @@ fn no_rule_looks_at_the_item_of_an_entry() {
     }
     println!("{told} answers had another item");
     assert!(told > 1000, "only {told} answers had another item");
+}
+
+/// The same record with each set mark as that of another processor.
+fn marked_by_others(queue: &Queue, random: &mut Random) -> Queue {
+    let mut other = queue.clone();
+    let last = usize::from(queue.tail());
+    for node in &mut other.nodes[..=last] {
+        if node.is_marked() {
+            node.mark = random.between(1, u64::from(queue.processor_count)) as u8;
+        }
+    }
+    other
+}
+
+/// The same record with each set mark as that of processor 0.
+fn anonymous(queue: &Queue) -> Queue {
+    let mut other = queue.clone();
+    for node in &mut other.nodes {
+        node.mark = node.mark.min(1);
+    }
+    other
+}
+
+/// The same outcome with each marker as processor 0.
+fn anonymous_outcome(outcome: &Outcome) -> Outcome {
+    let mut other = outcome.clone();
+    if let Outcome::Listed(listing) = &mut other {
+        let told = PAIR * listing.nodes as usize;
+        for pair in listing.area[..told].chunks_exact_mut(PAIR) {
+            if pair[1] != NOBODY {
+                pair[1] = 0;
+            }
+        }
+    }
+    other
+}
+
+/// Whoever set the marks: every call gives and leaves the same, but for the
+/// markers themselves.
+#[test]
+fn no_rule_looks_at_who_set_a_mark() {
+    let mut random = Random::new(7);
+    let (mut told, mut differ) = (0, 0);
+    for _ in 0..RECORDS {
+        let mut queue = any_record(&mut random);
+        let mut other = marked_by_others(&queue, &mut random);
+        assert!(other.sound());
+        for _ in 0..CALLS_EACH {
+            let call = any_call(&mut random, &queue);
+            let (outcome, others) = (queue.call(&call), other.call(&call));
+            let same = anonymous_outcome(&outcome) == anonymous_outcome(&others);
+            assert!(same, "{call:?} gave {outcome:?} and {others:?}");
+            assert!(anonymous(&queue) == anonymous(&other), "{call:?}");
+            told += u64::from(outcome != others);
+            differ += u64::from(queue != other);
+        }
+    }
+    println!("{differ} calls on other marks, {told} told other markers");
+    assert!(told > 1000 && differ > 100_000, "{told} {differ}");
 }

@@ -4,6 +4,7 @@
 use darthog_reference::answer::{Answer, Entry};
 use darthog_reference::book::{Book, Fault};
 use darthog_reference::calls::{Call, Outcome};
+use darthog_reference::markers::Listing;
 use darthog_reference::mistakes::{Mistake, Wrong};
 use darthog_reference::schedule::Sizes;
 use darthog_reference::trial::{fresh_of, Trial};
@@ -130,6 +131,91 @@ fn wrong_backlogs_are_noticed() {
         list.push(call);
         counts(&list, right);
     }
+}
+
+/// A listing with these bytes, so many of which are told of.
+fn listed(nodes: u32, area: &[u8]) -> (Call, Outcome) {
+    let room = area.len();
+    let area = area.to_vec();
+    let outcome = Outcome::Listed(Listing { nodes, area });
+    (Call::Markers { room }, outcome)
+}
+
+const OTHER_NUMBER: &str = "markers of another number of entries";
+const LEFT_OUT: &str = "markers without one that delivers an entry";
+const DELIVERS_NOTHING: &str = "markers with one that delivers nothing";
+const TWICE: &str = "markers with one that stands there twice";
+
+/// 0 delivers the first entry, the second is not marked: the book takes the
+/// listings of two nodes with 0 as one marker.
+#[test]
+fn wrong_markers_are_noticed() {
+    let marked = step(0, Answer::Marked(FIRST));
+    let fault = |nodes: u32, area: &[u8]| {
+        let more = [marked.clone(), listed(nodes, area)];
+        after_two_entries(&more).err()
+    };
+    for area in [
+        &[1, 0, 2, 255][..],
+        &[1, 255, 2, 0],
+        &[1, 0, 2, 255, 0, 0, 1, 3],
+    ] {
+        assert_eq!(fault(2, area), None, "{area:?}");
+    }
+    for (nodes, area, words) in [
+        (0, &[][..], OTHER_NUMBER),
+        (1, &[1, 0], OTHER_NUMBER),
+        (3, &[1, 0, 2, 255, 3, 255], OTHER_NUMBER),
+        (4, &[1, 0, 2, 255, 3, 255, 4, 255], OTHER_NUMBER),
+        (2, &[1, 255, 2, 255], LEFT_OUT),
+        (2, &[1, 16, 2, 255], LEFT_OUT),
+        (2, &[1, 1, 2, 0], DELIVERS_NOTHING),
+        (2, &[1, 0, 2, 1], DELIVERS_NOTHING),
+        (2, &[1, 0, 2, 15], DELIVERS_NOTHING),
+        (2, &[1, 0, 2, 0], TWICE),
+        (2, &[1, 255, 2, 255, 3, 0], LEFT_OUT),
+    ] {
+        assert_eq!(fault(nodes, area), Some(words), "{nodes} of {area:?}");
+    }
+}
+
+/// An entry is told of from the begin of its Insert until it is handed out, and
+/// its marker from the mark on; a listing ticks no count.
+#[test]
+fn markers_along_a_run() {
+    let takes = |list: &[(Call, Outcome)], nodes: u32, area: &[u8]| {
+        for (count, pairs) in [(0, &[][..]), (1, &[1, 255]), (1, &[1, 0]), (1, &[1, 1])] {
+            let mut list = list.to_vec();
+            list.push(listed(count, pairs));
+            let right = (count, pairs) == (nodes, area);
+            assert_eq!(enter(&list).is_ok(), right, "{pairs:?} after {list:?}");
+        }
+    };
+    takes(&[], 0, &[]);
+    let mut list = Vec::new();
+    let calls = [
+        (insert(0, FIRST), 1, &[1, 255][..]),
+        (step(0, Answer::Moved), 1, &[1, 255]),
+        (step(0, Answer::Inserted(FIRST)), 1, &[1, 255]),
+        (delete(1, 4), 1, &[1, 255]),
+        (step(1, Answer::Moved), 1, &[1, 255]),
+        (step(1, Answer::Marked(FIRST)), 1, &[1, 1]),
+        (listed(1, &[1, 1]), 1, &[1, 1]),
+        (step(1, Answer::Waits), 1, &[1, 1]),
+        (step(1, Answer::HandedOut(FIRST)), 0, &[]),
+        (delete(0, 9), 0, &[]),
+    ];
+    for (call, nodes, area) in calls {
+        list.push(call);
+        takes(&list, nodes, area);
+    }
+    let refused = (Call::Markers { room: 0 }, Outcome::Refused(43));
+    assert!(enter(&[insert(0, FIRST), refused]).is_ok());
+    let mixed = enter(&[(Call::Markers { room: 9 }, Outcome::Count(0))]);
+    assert!(mixed.unwrap_err().contains("cannot give this back"));
+    let (_, none) = listed(0, &[]);
+    let mixed = enter(&[(Call::Backlog, none)]);
+    assert!(mixed.unwrap_err().contains("cannot give this back"));
 }
 
 #[test]

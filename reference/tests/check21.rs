@@ -3,6 +3,7 @@
 //! and L are neither looked at nor changed.
 
 use darthog_reference::calls::Outcome;
+use darthog_reference::markers::lent;
 use darthog_reference::perturb::{bases, breaking, past_levels, past_slots, to_the_edge, CALLS};
 use darthog_reference::schedule::Schedule;
 
@@ -20,6 +21,11 @@ fn each_field_out_of_range_is_refused_with_21() {
                 assert_eq!(outcome, Outcome::Refused(21), "{}", change.name);
             }
             assert_eq!(queue.backlog(), Err(21));
+            for room in [0, 400, 1000] {
+                let mut area = lent(room);
+                assert_eq!(queue.markers(&mut area), Err(21), "{}", change.name);
+                assert!(area == lent(room), "{}: written", change.name);
+            }
             assert_eq!(queue.step(0), Err(21));
             assert_eq!(queue.begin_delete_min(0), Err(21));
             assert_eq!(queue.begin_insert(0, 0, 1, 1), Err(21));
@@ -39,6 +45,8 @@ fn each_field_at_the_edge_of_its_range_passes() {
             (change.make)(&mut queue);
             assert!(queue.sound(), "{}", change.name);
             assert!(queue.backlog().is_ok(), "{}", change.name);
+            let used = queue.in_use();
+            assert_eq!(queue.markers(&mut lent(400)), Ok(used), "{}", change.name);
             count += 1;
         }
     }

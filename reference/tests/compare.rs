@@ -195,9 +195,9 @@ fn history(machine: &mut dyn Machine, lines: &[u8]) -> Vec<u8> {
 }
 
 fn event(call: &Call, outcome: &Outcome) -> Option<(char, [u64; 3])> {
-    let values = |e: Entry| [u64::from(e.due), u64::from(e.item), u64::from(e.ticket)];
-    match (*outcome, *call) {
-        (Outcome::Refused(number), _) => Some(('R', [u64::from(number), 0, 0])),
+    let values = |e: &Entry| [u64::from(e.due), u64::from(e.item), u64::from(e.ticket)];
+    match (outcome, *call) {
+        (Outcome::Refused(number), _) => Some(('R', [u64::from(*number), 0, 0])),
         (
             Outcome::Began(_),
             Call::Insert {

@@ -130,7 +130,7 @@ fn nodes_broken_one_conjunct_at_a_time() {
         ["HiRetired"]
     );
     assert_eq!(
-        broken_by(&state, |s| s.queue.nodes[1].mark = false),
+        broken_by(&state, |s| s.queue.nodes[1].mark = 0),
         ["RetiredMarked"]
     );
     assert_eq!(
@@ -140,6 +140,11 @@ fn nodes_broken_one_conjunct_at_a_time() {
     assert_eq!(
         broken_by(&state, |s| s.queue.nodes[3].forward[1] = 2),
         ["Succ"]
+    );
+    assert_eq!(
+        broken_by(&state, |s| s.queue.nodes[1].mark = 2),
+        Vec::<&str>::new(),
+        "whose mark a retired node has is not looked at"
     );
     let mut fresh = State::new();
     fresh.queue.clock = 3;
@@ -242,4 +247,27 @@ fn book_broken_one_conjunct_at_a_time() {
         broken_by(&state, |s| s.book.entries.truncate(1)),
         ["BookEntries"]
     );
+}
+
+/// The mark of the node that processor 0 removes, as that of processor 1.
+#[test]
+fn a_mark_of_another_than_the_remover_breaks_one_conjunct() {
+    let mut delete = settled();
+    delete.call(Call::DeleteMin { processor: 0 });
+    delete.step_to(0, |stage| matches!(stage, Stage::Search(..)));
+    assert_eq!(delete.queue.nodes[2].mark, 1);
+    for stage in [
+        |stage: &Stage| matches!(stage, Stage::Search(..)),
+        |stage: &Stage| matches!(stage, Stage::L3Unlink(..)),
+        |stage: &Stage| matches!(stage, Stage::L8Retire),
+    ] {
+        delete.step_to(0, stage);
+        assert_eq!(
+            broken_by(&delete, |s| s.queue.nodes[2].mark = 2),
+            ["MarkerRemoves"]
+        );
+        assert_eq!(broken_by(&delete, |s| s.queue.nodes[2].mark = 3), ["Sound"]);
+    }
+    delete.finish(0);
+    assert_eq!(delete.queue.nodes[2].mark, 1);
 }

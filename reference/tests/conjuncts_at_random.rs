@@ -35,7 +35,7 @@ fn change_something(random: &mut Random, state: &mut State) {
         0 => node.forward[i] = any_node,
         1 => node.level_locks[i] = random.between(0, processors) as u8,
         2 => node.node_lock = random.between(0, processors) as u8,
-        3 => node.mark = !node.mark,
+        3 => node.mark = random.between(0, processors) as u8,
         4 => node.stamp = random.among(&[None, Some(time)]),
         5 => node.due = random.below(3) as u32,
         6 => node.ticket = time,

@@ -54,10 +54,7 @@ fn run_1_a_fresh_queue_is_as_described() {
     for node in &queue.nodes {
         assert_eq!(node.forward, [4; 8]);
         assert_eq!((node.level_locks, node.node_lock), ([0; 8], 0));
-        assert_eq!(
-            (node.mark, node.stamp, node.state),
-            (false, None, Use::Never)
-        );
+        assert_eq!((node.mark, node.stamp, node.state), (0, None, Use::Never));
         assert_eq!(
             (node.due, node.ticket, node.item, node.height),
             (0, 0, 0, 1)
@@ -175,9 +172,17 @@ fn refusals_come_in_their_order() {
     assert_eq!(queue.begin_delete_min(2), Err(31));
     assert_eq!(queue.step(2), Err(31));
     assert_eq!(queue.backlog(), Ok(0));
+    let mut area = [9; 3];
+    assert_eq!(queue.markers(&mut area[..1]), Err(43));
+    assert_eq!(area, [9; 3]);
+    assert_eq!(queue.markers(&mut area), Ok(1));
+    assert_eq!(area, [1, 255, 9]);
     queue.clock = 1_000_000;
     assert_eq!(queue.begin_insert(2, 1_000_000, 0, 0), Err(21));
     assert_eq!(queue.backlog(), Err(21));
+    assert_eq!(queue.markers(&mut area[..1]), Err(21));
+    assert_eq!(queue.markers(&mut area), Err(21));
+    assert_eq!(area, [1, 255, 9]);
 }
 
 #[test]

@@ -123,7 +123,7 @@ fn the_numbers_stand_where_the_layout_has_them() {
     let mut queue: Queue = fresh(2, 3, 4).unwrap();
     queue.clock = 0x000a_0b0c;
     queue.nodes[3].due = 0x0001_0203;
-    queue.nodes[3].mark = true;
+    queue.nodes[3].mark = 2;
     queue.nodes[3].stamp = Some(7);
     queue.nodes[3].state = Use::Retired(9);
     queue.processors[1].begin = 5;
@@ -134,7 +134,7 @@ fn the_numbers_stand_where_the_layout_has_them() {
     let node = &image[node_at(2, 3)..][..NODE_BYTES];
     assert_eq!(node[..8], [4; 8]);
     assert_eq!(node[8..17], [0; 9]);
-    assert_eq!(node[17..23], [1, 1, 7, 0, 0, 0]);
+    assert_eq!(node[17..23], [2, 1, 7, 0, 0, 0]);
     assert_eq!(node[23..27], [3, 2, 1, 0]);
     assert_eq!(node[27..35], [0; 8]);
     assert_eq!(node[35..], [1, 2, 9, 0, 0, 0]);
@@ -185,8 +185,7 @@ fn another_length_is_no_image() {
 fn wrong_tags_are_no_image() {
     let image = encode(&fresh(2, 3, 4).unwrap());
     let damage = [
-        // mark, stamp, a stamp's time, use, a retirement's time
-        (17, 2),
+        // stamp, a stamp's time, use, a retirement's time
         (18, 2),
         (19, 1),
         (22, 1),
@@ -208,6 +207,23 @@ fn wrong_tags_are_no_image() {
             damaged[processor_at(processor) + at] = byte;
             let whose = format!("processor {processor}");
             assert!(decode(&damaged).is_none(), "{whose}: {at} is {byte}");
+        }
+    }
+}
+
+/// Every byte is a mark, and one that is above P is refused with 21.
+#[test]
+fn any_byte_is_a_mark() {
+    for (p, n) in [(1, 1), (2, 3), (16, 200)] {
+        let image = encode(&fresh(p, n, 4).unwrap());
+        for node in [0, 1, n, n + 1] {
+            for byte in 0..=255 {
+                let mut bytes = image.clone();
+                bytes[node_at(p as usize, node as usize) + 17] = byte;
+                let queue = decode(&bytes).expect("it is an image");
+                assert_eq!(queue.nodes[node as usize].mark, byte);
+                assert_eq!(taken(&bytes), u64::from(byte) <= p, "{p}: {byte} at {node}");
+            }
         }
     }
 }

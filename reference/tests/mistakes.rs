@@ -1,5 +1,6 @@
-//! Each mistake of document 01's "Where an implementer goes astray", put in on
-//! purpose, is caught, and the right queue passes the very same calls.
+//! Each mistake of document 01's "Where an implementer goes astray", and two of
+//! document 02's marks, put in on purpose, is caught, and the right queue passes
+//! the very same calls.
 
 use darthog_reference::book::Book;
 use darthog_reference::calls::Call;
@@ -116,4 +117,25 @@ fn a_walk_led_back_marks_the_head() {
 fn an_unlinked_node_is_taken_at_once() {
     let faults = faults_of(Mistake::ReuseAtOnce);
     assert!(count(&faults, "marked, but") > 0, "{faults:?}");
+}
+
+/// The markers name another than who delivers the entry, and nothing else is
+/// wrong.
+#[test]
+fn a_second_walk_takes_the_mark_over() {
+    let faults = faults_of(Mistake::MarkTakenOver);
+    let left_out = count(&faults, "markers without one that delivers an entry");
+    let idle = count(&faults, "markers with one that delivers nothing");
+    let twice = count(&faults, "markers with one that stands there twice");
+    assert!(left_out > 0 && idle > 0 && twice > 0, "{faults:?}");
+    assert_eq!(left_out + idle + twice, faults.len(), "{faults:?}");
+}
+
+/// A walk that tested the stamp of a node marks it once more after it is handed
+/// out.
+#[test]
+fn a_mark_is_taken_off_with_the_hand_out() {
+    let faults = faults_of(Mistake::MarkTakenOff);
+    let again = count(&faults, "marked, but");
+    assert!(again > 0, "{faults:?}");
 }

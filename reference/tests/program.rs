@@ -68,7 +68,7 @@ fn a_trace_has_one_line_for_each_call_and_follows_from_its_seed() {
     for line in trace.lines() {
         let (call, answer) = line.split_once(" -> ").expect("a call and its answer");
         let word = call.split(' ').next().unwrap();
-        assert!(["insert", "delete", "step", "backlog"].contains(&word));
+        assert!(["insert", "delete", "step", "backlog", "markers"].contains(&word));
         assert!(!answer.is_empty());
     }
     assert_eq!(printed(&["trace", "11", "3", "4", "2", "500"]), trace);

@@ -1,7 +1,7 @@
 //! Random schedules: every answer goes through the book and the table of
-//! refusals, and the backlog and the whole invariant are looked at after every
-//! single call, on the large sizes too. The two tests together make 5,000,000
-//! calls and more.
+//! refusals, and the backlog, the markers and the whole invariant are looked at
+//! after every single call, on the large sizes too. The two tests together make
+//! 5,000,000 calls and more.
 
 use darthog_reference::queue::MAX_NUMBER;
 use darthog_reference::random::Random;
@@ -47,6 +47,8 @@ fn assert_rich(total: &Tally) {
         total.handed,
         total.empty,
         total.backlogs,
+        total.listings,
+        total.markers,
         total.fewer_than_in_use,
         total.reused,
     ] {
@@ -60,7 +62,7 @@ fn assert_rich(total: &Tally) {
     ] {
         assert!(count > 300, "{total:?}");
     }
-    for number in [2, 3, 4, 5, 6, 7, 9] {
+    for number in [2, 3, 4, 5, 6, 7, 9, 13] {
         assert!(total.refused[number] > 1000, "{total:?}");
     }
 }
@@ -76,7 +78,7 @@ fn random_schedules_keep_book_refusals_and_invariant_second_half() {
 }
 
 /// Runs up to the end of the clock: after its last tick every begin and step
-/// is refused with 31, before any other refusal, and Backlog still answers.
+/// is refused with 31, before any other refusal; Backlog and markers still answer.
 /// Book, refusals and invariant are followed at every call here too.
 #[test]
 fn long_runs_reach_the_end_of_the_clock() {

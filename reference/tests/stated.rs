@@ -3,6 +3,7 @@
 
 use darthog_reference::any_record::slots_past;
 use darthog_reference::calls::{Call, Outcome};
+use darthog_reference::markers::{lent, Listing};
 use darthog_reference::perturb::CALLS;
 use darthog_reference::queue::{fresh, Queue};
 use darthog_reference::sheet::{run, SheetRefusal};
@@ -10,12 +11,14 @@ use darthog_reference::stated::backlogs;
 use darthog_reference::stated::cases::each_case;
 use darthog_reference::stated::columns;
 use darthog_reference::stated::items;
+use darthog_reference::stated::markers;
 use darthog_reference::stated::records::record;
 use darthog_reference::stated::rows::{Field, Filling, Row, FIELDS, TABLES};
 use darthog_reference::stated::sheets::{areas, refused};
 
 /// Makes every call on a copy of its own: 21 where that is expected and no
-/// change; else never 21, and Backlog counts 0, since no node is in use.
+/// change; else never 21, and Backlog counts 0 and markers tell of 0 nodes,
+/// since none is in use.
 fn judge(queue: &Queue, taken: bool, what: &str) {
     for call in &CALLS {
         let mut after = queue.clone();
@@ -28,6 +31,11 @@ fn judge(queue: &Queue, taken: bool, what: &str) {
         assert_ne!(got, Outcome::Refused(21), "{what}, {call:?}");
         if *call == Call::Backlog {
             assert_eq!(got, Outcome::Count(0), "{what}, {call:?}");
+        }
+        if let Call::Markers { room } = *call {
+            let (nodes, area) = (0, lent(room));
+            let untouched = Outcome::Listed(Listing { nodes, area });
+            assert_eq!(got, untouched, "{what}, {call:?}");
         }
         let same = slots_past(&after) == slots_past(queue);
         assert!(same, "{what}, {call:?} changed a slot past the sizes");
@@ -170,6 +178,60 @@ fn backlog_is_as_stated_along_the_printed_run() {
         }
     }
     assert_eq!(calls.next(), None, "the run is longer");
+}
+
+/// Areas that are enough and areas that are not, each with what is told.
+fn judge_areas(queue: &Queue, bytes: &[u8], what: &str) -> (u64, u64) {
+    let nodes = bytes.len() / 2;
+    let (enough, too_short) = markers::rooms(nodes);
+    for &length in enough {
+        let mut area = junk(length);
+        let mut expected = junk(length);
+        expected[..bytes.len()].copy_from_slice(bytes);
+        assert_eq!(
+            queue.markers(&mut area),
+            Ok(nodes as u32),
+            "{what}, {length}"
+        );
+        assert!(area == expected, "{what}, area of {length}: other bytes");
+    }
+    for &length in too_short {
+        let mut area = junk(length);
+        assert_eq!(queue.markers(&mut area), Err(43), "{what}, {length}");
+        assert!(area == junk(length), "{what}, area of {length}: touched");
+    }
+    (enough.len() as u64, too_short.len() as u64)
+}
+
+#[test]
+fn markers_tell_of_the_stated_nodes() {
+    let (mut cases, mut fitted, mut short) = (0, 0, 0);
+    for markers::Told { what, queue, bytes } in markers::records() {
+        let (enough, too_short) = judge_areas(&queue, &bytes, &what);
+        (cases, fitted, short) = (cases + 1, fitted + enough, short + too_short);
+    }
+    println!("{cases} records, {fitted} areas with room, {short} without");
+    assert!(cases > 700, "only {cases} records");
+    assert!(fitted > 3_000 && short > 2_000, "{fitted} {short}");
+}
+
+#[test]
+fn markers_are_as_stated_along_the_runs() {
+    for run in markers::runs() {
+        let mut queue = fresh(run.processors.into(), 1, 1).expect("the sizes are in range");
+        let mut calls = run.calls.into_iter();
+        for (from, to, bytes, mark) in run.spans {
+            for time in *from..=*to {
+                let what = format!("{}, at {time}", run.what);
+                assert_eq!((queue.clock, queue.nodes[1].mark), (time, *mark), "{what}");
+                judge_areas(&queue, bytes, &what);
+                if let Some(call) = calls.next() {
+                    queue.call(&call);
+                }
+            }
+        }
+        assert_eq!(calls.next(), None, "{} is longer", run.what);
+    }
 }
 
 #[test]

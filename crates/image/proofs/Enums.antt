@@ -17,26 +17,9 @@ use Rattle.record.specs.declared.stages.Job.the-variants as jobs
 use Rattle.record.specs.declared.stages.Delete.the-variants as del
 use Rattle.record.specs.declared.stages.Stage.{Stage}
 use Rattle.record.specs.declared.stages.Stage.the-variants as stage
-use Rattle.image.specs.Tags.{Timed, Code, markByte, timed, timedSame, stampTimed, stampOf}
+use Rattle.image.specs.Tags.{Timed, Code, timed, timedSame, stampTimed, stampOf}
 use Rattle.image.specs.Tags.{useTimed, useOf, stampTaken, useTaken, code, codeSame, stageCode}
 use Rattle.image.specs.Tags.{stageOf, stageTaken}
-
-pub mark-back : (m : Bool) → eqb (markByte m) 1 ≡ m
-mark-back true = refl
-mark-back false = refl
-
-pub mark-low : (m : Bool) → leb (markByte m) 1 ≡ true
-mark-low true = refl
-mark-low false = refl
-
--- a byte that is 0 or 1 is the mark's that it is read as
-pub mark-kept : (x : ℕ) → leb x 1 ≡ true → markByte (eqb x 1) ≡ x
-mark-kept zero h = refl
-mark-kept (suc zero) h = refl
-mark-kept (suc (suc x)) h = absurd (low (leb-true (suc (suc x)) 1 h))
-  where
-    low : suc (suc x) ≤ 1 → ⊥
-    low l = omega arith
 
 pub timed-same : (x : Timed) → timedSame x x ≡ true
 timed-same x =

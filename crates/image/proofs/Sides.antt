@@ -15,7 +15,7 @@ use Rattle.image.specs.Pieces.{timedBytes, timedAt, codeBytes, codeAt, n
 use Rattle.image.specs.Pieces.{processorImage, readProcessor}
 use Rattle.image.specs.OneToOne.{Bytes}
 use Rattle.image.proofs.Bytes.{number-back, four-back, from-whole, eight-back}
-use Rattle.image.proofs.Enums.{mark-back, mark-low, mark-kept, timed-eq, stamp-back}
+use Rattle.image.proofs.Enums.{timed-eq, stamp-back}
 use Rattle.image.proofs.Enums.{stamp-taken, use-back, use-taken, code-eq, stage-back}
 use Rattle.image.proofs.Enums.{stage-taken}
 
@@ -31,8 +31,6 @@ node-back n forward locks =
       number-back (n .due),
       number-back (n .ticket),
       number-back (n .item),
-      mark-low (n .mark),
-      mark-back (n .mark),
       stamp-taken (n .stamp),
       stamp-back (n .stamp),
       use-taken (n .state),
@@ -56,31 +54,27 @@ processor-back c saved =
     ) refl
 
 -- what is written of what is read and taken: the bytes of a node, but for the pieces that are not single bytes
-glued : List ℕ → ℕ → List ℕ → List ℕ → List ℕ → List ℕ → List ℕ → List ℕ
-glued b m s d t i u =
-    (eight b 0 ++ eight b 8 ++ (getD b 16 0 ∷ []) ++ (m ∷ [])) ++
+glued : List ℕ → List ℕ → List ℕ → List ℕ → List ℕ → List ℕ → List ℕ
+glued b s d t i u =
+    (eight b 0 ++ eight b 8 ++ (getD b 16 0 ∷ []) ++ (getD b 17 0 ∷ [])) ++
     (s ++ d ++ t ++ i ++ (getD b 35 0 ∷ []) ++ u)
 
-module _ (b : List ℕ) (m m′ : ℕ) (s s′ d d′ t t′ i i′ u u′ : List ℕ) where
+module _ (b : List ℕ) (s s′ d d′ t t′ i i′ u u′ : List ℕ) where
   glued-same :
-      m ≡ m′ → s ≡ s′ → d ≡ d′ → t ≡ t′ → i ≡ i′ → u ≡ u′ → glued b m s d t i u
-      ≡ glued b m′ s′ d′ t′ i′ u′
-  glued-same em es ed et ei eu = rw (em, es, ed, et, ei, eu) refl
+      s ≡ s′ → d ≡ d′ → t ≡ t′ → i ≡ i′ → u ≡ u′ → glued b s d t i u ≡ glued b s′ d′ t′ i′ u′
+  glued-same es ed et ei eu = rw (es, ed, et, ei, eu) refl
 
 module _ (b : List ℕ) (low : Bytes b) where
   pub node-kept : length b ≡ 41 → readNode b .ok ≡ true → nodeImage (readNode b .node) ≡ b
   unfolding nodeImage readNode glued
   node-kept long ok =
-      let marked = leb (getD b 17 0) 1 in
       let stamped = stampTaken (timedAt b 18) in
       let used = useTaken (timedAt b 36) in
-      let rest = and-right marked (stamped && used) ok in
-      let m = mark-kept (getD b 17 0) (and-left marked (stamped && used) ok) in
       let s = timed-eq (stampTimed (stampOf (timedAt b 18))) (timedAt b 18)
-      (and-left stamped used rest) in
+      (and-left stamped used ok) in
       let u = timed-eq (useTimed (useOf (timedAt b 36))) (timedAt b 36)
-      (and-right stamped used rest) in
-      glued-same b _ _ _ _ _ _ _ _ _ _ _ _ m
+      (and-right stamped used ok) in
+      glued-same b _ _ _ _ _ _ _ _ _ _
       (ap timedBytes s ∙ ap (λ (r : List ℕ). getD b 18 0 ∷ r) (four-back b low 19))
       (four-back b low 23)
       (four-back b low 27)

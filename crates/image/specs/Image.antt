@@ -82,7 +82,7 @@ hasRoom b = leb (getD b 0 0) maxProcessors && leb (getD b 1 0 + 2) nodeSlots
 abbrev pub fits : List ℕ → Bool
 fits b = hasRoom b && eqb (length b) (lengthOf b)
 
--- the bytes are the image of a record: every tag, mark and unused number is one that is written
+-- the bytes are the image of a record: every tag and unused number is one that is written
 unfoldable pub isImage : List ℕ → Bool
 isImage b =
     fits b

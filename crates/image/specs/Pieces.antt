@@ -4,7 +4,7 @@
 --      0  forward, by level       8 bytes        0  begin              4 bytes
 --      8  locks, by level         8              4  own node           1
 --     16  node lock               1              5  stage: tag         1
---     17  mark, 0 or 1            1              6         place node  1
+--     17  mark                    1              6         place node  1
 --     18  stamp: tag              1              7         place level 1
 --     19         time             4              8         node of G3  1
 --     23  due                     4              9  saved, by level    8
@@ -16,12 +16,11 @@
 use Prim.Native.Nat.{ℕ, _+_}
 use mathlib.Core.Bool.{Bool, _&&_}
 use mathlib.Core.List.{List, [], _∷_, _++_}
-use lib.Dec.{eqb, leb}
 use lib.ListN.{getD}
 use Rattle.record.specs.declared.nodes.Node.{Node}
 use Rattle.record.specs.declared.queues.Processor.{Processor}
 use Rattle.image.specs.Numbers.{bytesOf32, number32, eight}
-use Rattle.image.specs.Tags.{Timed, Code, markByte, timed, stampTimed, stampOf, stampTaken}
+use Rattle.image.specs.Tags.{Timed, Code, timed, stampTimed, stampOf, stampTaken}
 use Rattle.image.specs.Tags.{useTimed, useOf, useTaken, code, stageCode, stageOf, stageTaken}
 
 -- what bytes are read as, and whether they are the ones that are written for it
@@ -47,8 +46,7 @@ codeAt b i = code (getD b i 0) (getD b (i + 1) 0) (getD b (i + 2) 0) (getD b (i 
 
 abbrev pub linksImage : Node → List ℕ
 linksImage n =
-    eight (n .forward) 0 ++ eight (n .levelLocks) 0 ++ (n .nodeLock ∷ [])
-    ++ (markByte (n .mark) ∷ [])
+    eight (n .forward) 0 ++ eight (n .levelLocks) 0 ++ (n .nodeLock ∷ []) ++ (n .mark ∷ [])
 
 abbrev pub entryImage : Node → List ℕ
 entryImage n =
@@ -62,16 +60,15 @@ entryImage n =
 unfoldable pub nodeImage : Node → List ℕ
 nodeImage n = linksImage n ++ entryImage n
 
--- the node in 41 bytes, and whether they are taken: the mark is 0 or 1, and the stamp and the use
--- are ones that are written
+-- the node in 41 bytes, and whether they are taken: the stamp and the use are ones that are written
 unfoldable pub readNode : List ℕ → NodeRead
 readNode b = record {
-  ok = leb (getD b 17 0) 1 && (stampTaken (timedAt b 18) && useTaken (timedAt b 36));
+  ok = stampTaken (timedAt b 18) && useTaken (timedAt b 36);
   node = record {
     forward = eight b 0;
     levelLocks = eight b 8;
     nodeLock = getD b 16 0;
-    mark = eqb (getD b 17 0) 1;
+    mark = getD b 17 0;
     stamp = stampOf (timedAt b 18);
     due = number32 b 23;
     ticket = number32 b 27;

@@ -5,7 +5,7 @@
 --   use     0 never used   1 in use   2 retired, with a time
 --   stage   0 to 26: the column `tag` of the table in record/specs/Stages
 use Prim.Native.Nat.{ℕ, _-_}
-use mathlib.Core.Bool.{Bool, true, false, cond, _&&_}
+use mathlib.Core.Bool.{Bool, cond, _&&_}
 use lib.Dec.{eqb, leb}
 use Rattle.record.specs.declared.nodes.Stamp.{Stamp}
 use Rattle.record.specs.declared.nodes.Stamp.the-variants as stamp
@@ -36,11 +36,6 @@ pub record Code : Type 0 where
   pub node : ℕ
   pub level : ℕ
   pub ahead : ℕ
-
--- a mark
-abbrev pub markByte : Bool → ℕ
-markByte true = 1
-markByte false = 0
 
 abbrev pub timed : ℕ → ℕ → Timed
 timed tag time = record { tag = tag; time = time }

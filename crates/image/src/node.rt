@@ -1,5 +1,5 @@
-// Where the parts of a node stand in its bytes (specs/Pieces.antt), and the tags of its stamp and
-// its use.
+// Where the parts of a node stand in its bytes (specs/Pieces.antt), and what stands for no mark, for
+// a stamp and for its use.
 pub const FORWARD: usize = 0;
 
 pub const LEVEL_LOCKS: usize = 8;
@@ -24,8 +24,8 @@ pub const USE: usize = 36;
 
 pub const USE_TIME: usize = 37;
 
-// A mark, a stamp, a node in use, a retired one.
-pub const MARKED: u8 = 1;
+// No mark, a stamp, a node in use, a retired one.
+pub const UNMARKED: u8 = 0;
 
 pub const STAMPED: u8 = 1;
 

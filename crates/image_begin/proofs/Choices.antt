@@ -6,7 +6,7 @@ use Prim.Native.Nat.{ℕ, zero, suc, _+_, _*_, _/_, _≤_, _<_}
 use native.Mathlib.Omega.{arith}
 use native.Mathlib.Numerals.{add-one}
 use native.Mathlib.Decide.{ℕ-discrete}
-use lib.Dec.{eqb, ltb, leb}
+use lib.Dec.{eqb, ltb}
 use lib.ListN.{getD}
 use borrow.Author.Tests.{eq-eqb, ne-eqb, lt-ltb, le-ltb, ltb-true, ltb-false, eqb-true}
 use Rattle.laws.proofs.Booleans.{cond-cases}
@@ -181,9 +181,7 @@ module _ (b : List ℕ) (base : ℕ) (p : Based b base) (s : Sound b) where
         let m = nodePart b x in
         let k = all-at (λ k. readNode (nodePart b k) .ok) (getD b 1 0 + 2) x
         (image-facts b taken .known) (omega arith) in
-        let u = and-right (stampTaken (timedAt m 18)) (useTaken (timedAt m 36))
-        (and-right (leb (getD m 17 0) 1)
-        (stampTaken (timedAt m 18) && useTaken (timedAt m 36)) k) in
+        let u = and-right (stampTaken (timedAt m 18)) (useTaken (timedAt m 36)) k in
         let e : timedAt m 36 ≡ here =
         ap (λ (f : ℕ → ℕ). timed (f 36) (number f 37)) (part-bytes b 41 (startOf b + 41 * x))
         ∙ ap (λ (o : ℕ). timed (piece b (o + 41 * x) 36) (number (piece b (o + 41 * x)) 37))

@@ -38,7 +38,7 @@ fn put_unmarked(b: &mut [u8], o: usize, h: u8)
     ensures { λ _. ⌜ now (b .exit) ≡ puts (now (b .entry)) o (unmarked h) ⌝ }
 {
     b[o + node::NODE_LOCK] = h;
-    b[o + node::MARK] = 0;
+    b[o + node::MARK] = node::UNMARKED;
     b[o + node::STAMP] = 0;
     b[o + node::STAMP_TIME] = 0;
     b[o + 20] = 0;

@@ -2,18 +2,18 @@
 use mathlib.Core.Path.{_≡_, refl, sym, _∙_, ap}
 use mathlib.Core.Bool.{Bool, true, false, cond, _&&_, not}
 use mathlib.Core.List.{List}
-use Prim.Native.Nat.{ℕ, _+_, _*_, _≤_}
+use Prim.Native.Nat.{ℕ, zero, suc, _+_, _*_, _≤_}
 use native.Mathlib.Omega.{arith}
 use lib.Dec.{eqb}
 use lib.ListN.{getD}
-use borrow.Author.Tests.{eqb-true, ne-eqb}
+use borrow.Author.Tests.{eqb-true, ne-eqb, lt-ltb}
 use Rattle.laws.specs.HowMany.{howMany}
 use Rattle.laws.proofs.HowMany.{many-more}
 use Rattle.record_check.specs.Backlog.{holdsPending, pendingAt}
 use Rattle.record_check.proofs.Sizes.{valid-sizes}
 use Rattle.record.specs.declared.nodes.Stamp.the-variants as stamp
 use Rattle.record.specs.declared.nodes.Use.the-variants as use′
-use Rattle.record.specs.Nodes.{isInUse, isStamped}
+use Rattle.record.specs.Nodes.{isInUse, isMarked, isStamped}
 use Rattle.image.specs.Image.{queueIn, startOf, Sound}
 use Rattle.image.specs.Tags.{timed, stampOf, useOf}
 use Rattle.image.proofs.Fields.{node-is}
@@ -37,6 +37,10 @@ stamped t u = go (eqb t 1)
     go true = refl
     go false = refl
 
+unmarked : (m : ℕ) → not (isMarked m) ≡ eqb m 0
+unmarked zero = refl
+unmarked (suc m) = rw (lt-ltb 0 (suc m) (omega arith), ne-eqb (suc m) 0 (λ e. omega arith)) refl
+
 -- sizes of sound bytes
 pub few : (b : List ℕ) → Sound b → getD b 0 0 ≤ 16
 unfolding queueIn
@@ -55,7 +59,8 @@ module _ (b : List ℕ) (s : Sound b) where
   pending-is x h =
       let o = startOf b + 41 * x in
       ap holdsPending (node-is b (startOf b) refl (short b s) x (omega arith))
-      ∙ rw (used (getD b (o + 36) 0) _, stamped (getD b (o + 18) 0) _) refl
+      ∙ rw (used (getD b (o + 36) 0) _, stamped (getD b (o + 18) 0) _, unmarked (getD b (o + 17) 0))
+      refl
 
   -- one more node
   pub pending-next :
@@ -70,8 +75,8 @@ module _ (b : List ℕ) (s : Sound b) where
 
 -- the test of a node, made of its parts
 pub counted-is :
-    (used stamped marked : ℕ) (x y t : Bool) → x ≡ (eqb stamped 1 && not (eqb marked 1)) →
+    (used stamped mark : ℕ) (x y t : Bool) → x ≡ (eqb stamped 1 && eqb mark 0) →
     y ≡ (eqb used 1 && x) → y ≡ t →
-    _≡_ {A = ℕ} (cond t 1 0) (cond (pendingBytes used stamped marked) 1 0)
-counted-is used stamped marked x y t e f g =
+    _≡_ {A = ℕ} (cond t 1 0) (cond (pendingBytes used stamped mark) 1 0)
+counted-is used stamped mark x y t e f g =
     ap (λ (z : Bool). cond z 1 0) (sym g ∙ f ∙ ap (λ (z : Bool). eqb used 1 && z) e)

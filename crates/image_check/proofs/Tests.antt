@@ -38,9 +38,7 @@ levels-same f j (suc l) top h =
     rw (levels-same f j l top (omega arith), eight-at f j l (omega arith)) refl
 
 abbrev nodeTaken : (ℕ → ℕ) → Bool
-nodeTaken f =
-    leb (f 17) 1 &&
-    (stampTaken (timed (f 18) (number f 19)) && useTaken (timed (f 36) (number f 37)))
+nodeTaken f = stampTaken (timed (f 18) (number f 19)) && useTaken (timed (f 36) (number f 37))
 
 abbrev processorTaken : (ℕ → ℕ) → Bool
 processorTaken f = stageTaken (code (f 5) (f 6) (f 7) (f 8))
@@ -54,10 +52,10 @@ unfolding readProcessor
 processor-ok b = refl
 
 spread : (m s u l e sv uv : Bool) → (l && (e && (m && ((s && sv) && (u && uv)))))
-    ≡ ((m && (s && u)) && (((l && e) && sv) && uv))
-spread m s u false e sv uv = sym (and-false (m && (s && u)))
-spread m s u true false sv uv = sym (and-false (m && (s && u)))
-spread false s u true true sv uv = refl
+    ≡ ((s && u) && ((((l && m) && e) && sv) && uv))
+spread m s u false e sv uv = sym (and-false (s && u))
+spread false s u true e sv uv = and-false e ∙ sym (and-false (s && u))
+spread true s u true false sv uv = sym (and-false (s && u))
 spread true false u true true sv uv = refl
 spread true true false true true sv uv = and-false sv
 spread true true true true true sv uv = refl
@@ -68,7 +66,7 @@ module _ (b : List ℕ) (x : ℕ) (low : x ≤ getD b 1 0 + 1) (short : getD b 1
   pub node-tests :
       (linksTest b (startOf b + 41 * x) (getD b 0 0) (getD b 1 0) (getD b 2 0)
       && (entryTest b (startOf b + 41 * x) (getD b 2 0) (number32 b 3)
-      && (leb (getD b (startOf b + 41 * x + 17) 0) 1
+      && (leb (getD b (startOf b + 41 * x + 17) 0) (getD b 0 0)
       && ((stampTaken
       (timed (getD b (startOf b + 41 * x + 18) 0) (number32 b (startOf b + 41 * x + 19)))
       && stampValid
@@ -99,7 +97,7 @@ module _ (b : List ℕ) (x : ℕ) (low : x ≤ getD b 1 0 + 1) (short : getD b 1
         sym (levels-same f 0 (getD b 2 0) (getD b 1 0 + 1) few),
         sym (levels-same f 8 (getD b 2 0) (getD b 0 0) few),
       )
-      (spread (leb (f 17) 1) (stampTaken (timed (f 18) (number f 19)))
+      (spread (leb (f 17) (getD b 0 0)) (stampTaken (timed (f 18) (number f 19)))
       (useTaken (timed (f 36) (number f 37)))
       (allAtMost (eightFrom f 0) (getD b 2 0) (getD b 1 0 + 1) && allAtMost (eightFrom f 8)
       (getD b 2 0) (getD b 0 0) && leb (f 16) (getD b 0 0))

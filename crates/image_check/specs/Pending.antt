@@ -1,7 +1,7 @@
 -- Whether Backlog counts a node, by the bytes of its use, its stamp and its mark.
-use mathlib.Core.Bool.{Bool, _&&_, not}
+use mathlib.Core.Bool.{Bool, _&&_}
 use Prim.Native.Nat.{ℕ}
 use lib.Dec.{eqb}
 
 abbrev pub pendingBytes : ℕ → ℕ → ℕ → Bool
-pendingBytes used stamped marked = eqb used 1 && (eqb stamped 1 && not (eqb marked 1))
+pendingBytes used stamped mark = eqb used 1 && (eqb stamped 1 && eqb mark 0)

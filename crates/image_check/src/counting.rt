@@ -15,12 +15,12 @@ use image::node;
 use record::levels::both;
 
 // 1 for a node that is counted, and 0 for any other.
-fn counted(used: u8, stamped: u8, marked: u8) -> u8
-    ensures { λ r. ⌜ (r ≡ cond (pendingBytes used stamped marked) 1 0) × (r ≤ 1) ⌝ }
+fn counted(used: u8, stamped: u8, mark: u8) -> u8
+    ensures { λ r. ⌜ (r ≡ cond (pendingBytes used stamped mark) 1 0) × (r ≤ 1) ⌝ }
 {
     if both(
         used == node::IN_USE,
-        both(stamped == node::STAMPED, marked != node::MARKED),
+        both(stamped == node::STAMPED, mark == node::UNMARKED),
     ) {
         1
     } else {

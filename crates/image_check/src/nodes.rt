@@ -65,7 +65,7 @@ pub(crate) fn node_passes(b: &[u8], x: usize) -> bool
     if !entry_passes(b, o, l, clock) {
         return false;
     }
-    if node::MARKED < b[o + node::MARK] {
+    if p < b[o + node::MARK] {
         return false;
     }
     let entry = is_within(x, n as usize);

@@ -64,7 +64,7 @@ module _ (b : List ℕ) (base p tag : ℕ) (r : Walked b base p tag) where
       (number (piece b (base + 41 * mine b p 6)) 19) (number (piece b (7 + 17 * p)) 0)
       ∙ rw (number-at b (base + 41 * mine b p 6) 19, number-at b (7 + 17 * p) 0) refl
 
-  marked-is : nodeAt (queueIn b) (mine b p 6) .mark ≡ eqb (getD b (base + 41 * mine b p 6 + 17) 0) 1
+  marked-is : nodeAt (queueIn b) (mine b p 6) .mark ≡ getD b (base + 41 * mine b p 6 + 17) 0
   marked-is =
       ap (λ (n : Node). n .mark)
       (node-is b base (r .start) (r .nodes-high) (mine b p 6) (omega (arith, r .node-low)))
@@ -189,7 +189,7 @@ module _ (b : List ℕ) (base p : ℕ) (r : Walked b base p 12) (after : List �
 -- W3
 module _ (b : List ℕ) (base p : ℕ) (r : Walked b base p 13) (after : List ℕ) (answer : Answer) where
   pub mark-set :
-      getD b (base + 41 * mine b p 6 + 17) 0 ≡ 1 →
+      (getD b (base + 41 * mine b p 6 + 17) 0 ≡ 0 → ⊥) →
       after ≡ puts (puts b 0 (four 3 (number32 b 3 + 1))) (7 + 17 * p) ((5, 11) ∷ []) →
       answer ≡ ans.Moved →
       Stepped b p after answer
@@ -202,14 +202,14 @@ module _ (b : List ℕ) (base p : ℕ) (r : Walked b base p 13) (after : List �
       arm b base p 13 (r .sound) (r .start) (r .nodes-high) (r .processors-high) (r .low)
       (r .few) (r .early) (r .tagged) (stage.Delete (del.SetMark a)) refl refl
       (moved s eff.Keep (stage.Delete (del.ReadNext a)))
-      (rw (marked-is b base p 13 r, eq-eqb _ _ h) refl)
+      (rw (marked-is b base p 13 r, lt-ltb 0 (getD b (base + 41 * mine b p 6 + 17) 0) (omega arith)) refl)
       ([]) ((5, 11) ∷ []) (omega arith) tt (omega arith, tt)
       (refl) (refl) after e answer f
 
   pub marks :
-      (getD b (base + 41 * mine b p 6 + 17) 0 ≡ 1 → ⊥) →
+      getD b (base + 41 * mine b p 6 + 17) 0 ≡ 0 →
       after ≡ puts
-      (puts (puts b 0 (four 3 (number32 b 3 + 1))) (base + 41 * mine b p 6) ((17, 1) ∷ []))
+      (puts (puts b 0 (four 3 (number32 b 3 + 1))) (base + 41 * mine b p 6) ((17, p + 1) ∷ []))
       (7 + 17 * p) ((4, mine b p 6) ∷ (5, 14) ∷ (6, 0) ∷ (7, getD b 2 0) ∷ []) →
       answer ≡ ans.Did deed.Marked (entryIn b (base + 41 * mine b p 6)) →
       Stepped b p after answer
@@ -232,12 +232,12 @@ module _ (b : List ℕ) (base p : ℕ) (r : Walked b base p 13) (after : List �
       })
       (rw (
         marked-is b base p 13 r,
-        ne-eqb _ _ h,
+        h,
         entry-is b base (r .start) (r .nodes-high)
             (mine b p 6) (omega (arith, r .node-low)),
         levels-is b,
       ) refl)
-      ((17, 1) ∷ []) ((4, mine b p 6) ∷ (5, 14) ∷ (6, 0) ∷ (7, getD b 2 0) ∷ [])
+      ((17, p + 1) ∷ []) ((4, mine b p 6) ∷ (5, 14) ∷ (6, 0) ∷ (7, getD b 2 0) ∷ [])
       (omega (arith, r .node-low)) (omega arith, tt)
       (omega arith, (omega arith, (omega arith, (omega arith, tt))))
-      (put-mark (nodeAt q (mine b p 6))) (refl) after e answer f
+      (put-mark (nodeAt q (mine b p 6)) (p + 1)) (refl) after e answer f

@@ -72,7 +72,7 @@ pub fn set_mark(image: &mut [u8], base: usize, p: usize) -> Answer
     let l = image[header::LEVEL_COUNT];
     let here = base + NODE_BYTES * (a as usize);
     let m = image[here + node::MARK];
-    if m == 1 {
+    if m != node::UNMARKED {
         tick(image);
         image[at + processor::TAG] = tag::READ_NEXT;
         return Answer::Moved;
@@ -80,8 +80,9 @@ pub fn set_mark(image: &mut [u8], base: usize, p: usize) -> Answer
     let due = number_from(image, here + node::DUE);
     let ticket = number_from(image, here + node::TICKET);
     let item = number_from(image, here + node::ITEM);
+    let h = (p as u8) + 1;
     tick(image);
-    image[here + node::MARK] = node::MARKED;
+    image[here + node::MARK] = h;
     image[at + processor::OWN] = a;
     image[at + processor::TAG] = tag::REMOVAL_SEARCH;
     image[at + processor::PLACE] = 0;

@@ -33,7 +33,7 @@ use Rattle.rules.proofs.Allowed.{of-call}
 use Rattle.rules.specs.Decide.{searchStep, seekStep, insertSearched, insertSought, insertStep}
 use Rattle.rules.specs.Decide.{removalSearched, removalSought, removalStep, deleteStep, decide}
 use Rattle.rules.specs.Effects.{accepted}
-use Rattle.rules.specs.Runs.{Turn, calls, backlog, after}
+use Rattle.rules.specs.Runs.{Turn, calls, backlog, markers, after}
 use Rattle.image_parts.proofs.Arrays.{applied-sized}
 
 pub record Kept (q : Queue) (o : Outcome) : Type 0 where
@@ -120,3 +120,4 @@ module _ (q : Queue) (S : Sized q) where
 pub sized-after : (q : Queue) → Sized q → (c : Turn) → Sized (after q c)
 sized-after q S (calls c) = kept-call q S c .sized
 sized-after q S backlog = S
+sized-after q S (markers area) = S

@@ -104,9 +104,9 @@ pub put-idle :
 unfolding processorImage
 put-idle c l long = put-clears c l rests long
 
-pub put-mark : (n : Node) → putsIn (nodeImage n) ((17, 1) ∷ []) ≡ nodeImage (withMark n)
+pub put-mark : (n : Node) (h : ℕ) → putsIn (nodeImage n) ((17, h) ∷ []) ≡ nodeImage (withMark n h)
 unfolding nodeImage
-put-mark n = refl
+put-mark n h = refl
 
 pub put-retired : (n : Node) (t : ℕ) → putsIn (nodeImage n) ((36, 2) ∷ four 37 t)
     ≡ nodeImage (retiredAt n t)

@@ -30,7 +30,7 @@ pub fn node_of(e: Effect) -> u8
 }
 
 // The node n after an effect: in a queue of these levels and this tail, by the processor whose
-// locks bear the number h, at the time t.
+// locks and marks bear the number h, at the time t.
 pub fn changed(levels: u8, tail: u8, h: u8, t: u32, e: Effect, n: Node) -> Node
     ensures { λ r. ⌜ r ≡ changedOf levels tail h t e n ⌝ }
 {
@@ -41,7 +41,7 @@ pub fn changed(levels: u8, tail: u8, h: u8, t: u32, e: Effect, n: Node) -> Node
         Effect::SetForward(a, x) => n.with_forward(a.level, x),
         Effect::HoldNode(_) => n.with_node_lock(h),
         Effect::FreeNode(_) => n.with_node_lock(0),
-        Effect::Mark(_) => n.with_mark(),
+        Effect::Mark(_) => n.with_mark(h),
         Effect::Stamp(_) => n.with_stamp(t),
         Effect::Retire(_) => n.retired_at(t),
         Effect::Fill(_, due, item, height) => n.filled(levels, tail, h, t, due, item, height),

@@ -127,7 +127,7 @@ pub fn step_view_from(
         ownNext: own.forward_at(a.level),
         ownLock: own.lock_at(a.level),
         levelCount: levels,
-        marked: here.mark,
+        marked: 0 < here.mark,
         stamped: stamped_before(stamp, c.begin),
         savedAbove: saved_above(c, a.level),
         savedBelow: saved_below(c, a.level),

@@ -8,7 +8,7 @@ use Rattle.rules.specs.declared.calls.Call.{Call}
 use Rattle.rules.specs.declared.calls.Call.the-variants as call
 use Rattle.rules.specs.Answers.{isRefused}
 use Rattle.rules.specs.Calls.{called}
-use Rattle.rules.specs.Runs.{Turn, calls, backlog, after, afterAll}
+use Rattle.rules.specs.Runs.{Turn, calls, backlog, markers, after, afterAll}
 use Rattle.sheet_format.specs.declared.events.HistoryLine.{HistoryLine}
 use Rattle.sheet_format.specs.declared.lines.SheetLine.{SheetLine}
 use Rattle.sheet_format.specs.Events.{callEvents}
@@ -51,6 +51,7 @@ allCalls s q = sheetCalls s q (lineCount s - 1)
 abbrev pub callPrints : Queue → Turn → List HistoryLine
 callPrints q (calls c) = callEvents c (called q c .queue .clock) (called q c .answer)
 callPrints q backlog = []
+callPrints q (markers area) = []
 
 -- what a list of them prints
 unfoldable pub callsPrint : Queue → List Turn → List HistoryLine

@@ -15,7 +15,7 @@ returns : tie.Need-returns
 returns c =
     let a = c .before .before .before .args in
     let e = c .before .before .both .ensures in (
-      counted-is (a .used) (a .stamped) (a .marked) _ _ true e (c .before .both2 .ensures)
+      counted-is (a .used) (a .stamped) (a .mark) _ _ true e (c .before .both2 .ensures)
           (c .if1 .taken),
       omega arith,
     )
@@ -24,7 +24,7 @@ returns-2 : tie.Need-returns-2
 returns-2 c =
     let a = c .before .before .before .args in
     let e = c .before .before .both .ensures in (
-      counted-is (a .used) (a .stamped) (a .marked) _ _ false e (c .before .both2 .ensures)
+      counted-is (a .used) (a .stamped) (a .mark) _ _ false e (c .before .both2 .ensures)
           (c .if1 .left),
       omega arith,
     )

@@ -127,7 +127,7 @@ returns-4 c =
           (c .before .before .before .before .before .before .before .before .entry-passes .ensures))
           ∙ not-false _ (c .before .before .before .before .before .before .before .if2 .left),
       le-leb
-          (getD b (o + 17) 0) 1 (omega (arith, c .before .before .before .before .before .if3 .left)),
+          (getD b (o + 17) 0) (getD b 0 0) (omega (arith, c .before .before .before .before .before .if3 .left)),
       sym (rw (
         c .before .before .before .before .before .before .before .before .before .before
             .before .number-from .ensures,
@@ -176,7 +176,7 @@ returns-5 c =
           (c .before .before .before .before .before .before .before .before .before .before .before
           .entry-passes .ensures)) ∙ not-false _
           (c .before .before .before .before .before .before .before .before .before .before .if2 .left),
-      le-leb (getD b (o + 17) 0) 1 (omega (
+      le-leb (getD b (o + 17) 0) (getD b 0 0) (omega (
         arith,
         c .before .before .before .before .before .before .before .before .if3 .left,
       )),

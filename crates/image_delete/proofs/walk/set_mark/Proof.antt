@@ -73,6 +73,12 @@ add-number-from-3 c = search needs
 number-from-requires-3 : tie.Need-number-from-requires-3
 number-from-requires-3 c κs = search needs
 
+cast-h : tie.Need-cast-h
+cast-h c = search needs
+
+add-h : tie.Need-add-h
+add-h c = search needs
+
 tick-requires-2 : tie.Need-tick-requires-2
 tick-requires-2 c κs = search needs
 
@@ -139,6 +145,8 @@ set-mark-spec =
     number-from-requires-2
     add-number-from-3
     number-from-requires-3
+    cast-h
+    add-h
     tick-requires-2
     add-image-2
     slice-write-image-2

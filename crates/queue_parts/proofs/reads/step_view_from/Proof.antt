@@ -46,7 +46,7 @@ entry-of-requires-2 c κs = search needs
 
 returns : tie.Need-returns
 returns c =
-    let k = c .before .before .before .before .before .before .before .before .before .before in
+    let k = c .before .before .before .before .before .before .before .before .before .before .before in
     simp (
       c .entry-of2 .ensures,
       c .before .entry-of .ensures,
@@ -54,10 +54,10 @@ returns c =
       c .before .before .before .saved-below .ensures,
       c .before .before .before .before .saved-above .ensures,
       c .before .before .before .before .before .stamped-before .ensures,
-      c .before .before .before .before .before .before .lock-at2 .ensures,
-      c .before .before .before .before .before .before .before .forward-at .ensures,
-      c .before .before .before .before .before .before .before .before .lock-at .ensures,
-      c .before .before .before .before .before .before .before .before .before .is-tail .ensures,
+      c .before .before .before .before .before .before .before .lock-at2 .ensures,
+      c .before .before .before .before .before .before .before .before .forward-at .ensures,
+      c .before .before .before .before .before .before .before .before .before .lock-at .ensures,
+      c .before .before .before .before .before .before .before .before .before .before .is-tail .ensures,
       k .before2 .ensures,
       k .before .key-for .ensures,
       k .before .before .key2 .ensures,
