@@ -3,8 +3,11 @@ use mathlib.Core.Path.{_≡_, refl, sym, ap, _∙_}
 use mathlib.Core.Bool.{Bool, true, false, cond, true≢false}
 use mathlib.Core.List.{List, [], _∷_}
 use Prim.Native.Nat.{ℕ}
+use lib.ListN.{length}
 use Rattle.record_check.specs.declared.counting.Count.{Count}
 use Rattle.record_check.specs.Backlog.{backlogOf, reportedCount}
+use Rattle.record_markers.specs.declared.listing.Listed.{Listed}
+use Rattle.record_markers.specs.Markers.{pairsTo, markersOf, areaBy, areaAfter, reportedMarkers}
 use Rattle.image.specs.Image.{imageOf, queueIn, isImage}
 use Rattle.image.specs.OneToOne.{Sized, Trim}
 use Rattle.image.proofs.Inverse.{image-facts, image-taken, read-write, trim-in}
@@ -18,10 +21,11 @@ use Rattle.record.specs.Queues.{freshQueue}
 use Rattle.rules.specs.declared.answers.Outcome.{Outcome}
 use Rattle.rules.specs.Answers.{refused, isRefused}
 use Rattle.rules.specs.Calls.{called}
-use Rattle.rules.specs.Runs.{Turn, calls, backlog, reply, after, afterAll}
+use Rattle.rules.specs.Runs.{Turn, calls, backlog, markers, reply, after, afterAll}
 use Rattle.rules.proofs.Untouched.{untouched}
 use Rattle.rules.specs.Answers.{plainReport}
-use Rattle.host_calls.specs.Entries.{plainOutcome, onBytes, bytesAfter, countOn}
+use Rattle.host_calls.specs.Entries.{plainOutcome, onBytes, bytesAfter, countOn, markersOn}
+use Rattle.host_calls.specs.Entries.{areaOn}
 use Rattle.host_calls.specs.Lists.{
   bytesAfterTurn,
   plainTurn,
@@ -96,13 +100,28 @@ module _ (q : Queue) (S : Sized q) (T : Trim q) where
   unfolding countOn
   count-image = rw (image-taken q S T) (ap backlogOf (read-write q S T))
 
+  markers-image : (room : ℕ) → markersOn (imageOf q) room ≡ markersOf q room
+  unfolding markersOn
+  markers-image room =
+      rw (image-taken q S T) (ap (λ (r : Queue). markersOf r room) (read-write q S T))
+
+  area-image : (a : List ℕ) → areaOn (imageOf q) a ≡ areaAfter q a
+  unfolding areaOn
+  area-image a =
+      ap (λ (r : Queue). areaBy (pairsTo r (r .nodeCount)) a (markersOn (imageOf q) (length a)))
+      (read-write q S T)
+      ∙ ap (areaBy (pairsTo q (q .nodeCount)) a) (markers-image (length a))
+
   bytes-call : (c : Turn) → bytesAfterTurn (imageOf q) c ≡ imageOf (after q c)
   bytes-call (calls c) = called-after (λ (r : Queue). called r c) (kept-call q S c)
   bytes-call backlog = refl
+  bytes-call (markers area) = refl
 
   reply-call : (c : Turn) → plainTurn (imageOf q) c ≡ inNumbers (reply q c)
   reply-call (calls c) = ap plainOutcome (on-image (λ (r : Queue). called r c))
   reply-call backlog = ap (λ (k : Count). plainReport (reportedCount k)) count-image
+  reply-call (markers area) =
+      ap (λ (k : Listed). plainReport (reportedMarkers k)) (markers-image (length area))
 
 -- after a list of calls
 bytes-all :
@@ -124,6 +143,7 @@ same-run q S T cs =
       image = ap isImage e ∙ image-taken (afterAll q cs) s t;
       read = ap queueIn e ∙ read-write (afterAll q cs) s t;
       next = λ c. ap (λ (b : List ℕ). plainTurn b c) e ∙ reply-call (afterAll q cs) s t c;
+      area = λ a. ap (λ (b : List ℕ). areaOn b a) e ∙ area-image (afterAll q cs) s t a;
     }
 
 pub bytes-are-the-record : BytesAreTheRecord

@@ -3,15 +3,20 @@
 use mathlib.Core.Path.{_≡_, refl, sym, ap, subst, _∙_}
 use mathlib.Core.Bool.{Bool, true, false, cond, _&&_, _||_, true≢false}
 use mathlib.Core.List.{List, [], _∷_}
-use Prim.Native.Nat.{ℕ, _<_}
+use Prim.Native.Nat.{ℕ, _*_, _≤_, _<_}
 use native.Mathlib.Omega.{arith}
 use lib.ListN.{length, getD}
-use borrow.Author.Tests.{eq-eqb, ne-eqb, le-ltb}
+use lib.Dec.{ltb}
+use borrow.Author.Tests.{eq-eqb, ne-eqb, le-ltb, lt-ltb}
+use Rattle.laws.specs.Front.{atFront}
 use Rattle.laws.specs.HowMany.{howMany}
 use Rattle.laws.proofs.Counting.{and-left, and-right}
 use Rattle.record_check.specs.declared.counting.Count.the-variants as count
 use Rattle.record_check.specs.Backlog.{pendingAt, reportedCount}
 use Rattle.record_check.specs.Check.{valid}
+use Rattle.record_markers.specs.declared.listing.Listed.{Listed}
+use Rattle.record_markers.specs.declared.listing.Listed.the-variants as listed
+use Rattle.record_markers.specs.Markers.{pairsTo, usedCount, areaBy, reportedMarkers}
 use Rattle.record_check.specs.Making.{outside, made}
 use Rattle.record_check.proofs.Made.{made-sizes, made-fresh}
 use Rattle.record.specs.declared.queues.Queue.{Queue}
@@ -35,6 +40,8 @@ use Rattle.host_calls.specs.Entries.{
   onBytes,
   bytesAfter,
   countOn,
+  markersOn,
+  areaOn,
   lengthFor,
   makeCode,
   bytesMade,
@@ -120,6 +127,64 @@ module _ (b : List ℕ) (r : PlainAnswer) where
         and-right (isImage b)
             (valid (queueIn b)) h,
       ) refl
+
+-- markers: what is told of an answer, and the answers in their order
+module _ (b area : List ℕ) where
+  abbrev pairs : List ℕ
+  pairs = pairsTo (queueIn b) (queueIn b .nodeCount)
+
+  told :
+      (k : Listed) (r : PlainAnswer) (after : List ℕ) → markersOn b (length area) ≡ k →
+      r ≡ plainReport (reportedMarkers k) → after ≡ areaBy pairs area k →
+      (r ≡ plainReport (reportedMarkers (markersOn b (length area)))) × (after ≡ areaOn b area)
+  unfolding areaOn
+  told k r after e f g = (
+    f ∙ ap (λ (m : Listed). plainReport (reportedMarkers m)) (sym e),
+    g ∙ ap (areaBy pairs area) (sym e),
+  )
+
+  pub not-listed :
+      (r : PlainAnswer) → passesOf b ≡ false → r ≡ plainReport (report 21 []) →
+      (r ≡ plainReport (reportedMarkers (markersOn b (length area)))) × (area ≡ areaOn b area)
+  unfolding markersOn passesOf
+  not-listed r h e = told (listed.Refused 21) r area (go (isImage b) (valid (queueIn b)) h) e refl
+    where
+      go : (x y : Bool) → (x && y) ≡ false →
+          cond x
+          (cond y
+          (cond (ltb (length area) (2 * usedCount (queueIn b))) (listed.Refused 43)
+          (listed.Nodes (usedCount (queueIn b))))
+          (listed.Refused 21)) (listed.Refused 21)
+          ≡ listed.Refused 21
+      go true true k = absurd (true≢false k)
+      go true false k = refl
+      go false y k = refl
+
+  module _ (h : passesOf b ≡ true) (k : ℕ) (e : k ≡ usedCount (queueIn b)) where
+    pub too-short :
+        (r : PlainAnswer) → length area < 2 * k → r ≡ plainReport (report 43 []) →
+        (r ≡ plainReport (reportedMarkers (markersOn b (length area)))) × (area ≡ areaOn b area)
+    unfolding markersOn passesOf
+    too-short r l f =
+        told (listed.Refused 43) r area
+        (rw (
+          and-left (isImage b) (valid (queueIn b)) h,
+          and-right (isImage b) (valid (queueIn b)) h,
+          lt-ltb (length area) (2 * usedCount (queueIn b)) (omega arith),
+        ) refl) f refl
+
+    pub listed-all :
+        (r : PlainAnswer) (after : List ℕ) → 2 * k ≤ length area →
+        r ≡ plainReport (report 0 (k ∷ [])) → after ≡ atFront pairs area →
+        (r ≡ plainReport (reportedMarkers (markersOn b (length area)))) × (after ≡ areaOn b area)
+    unfolding markersOn passesOf
+    listed-all r after l f g =
+        told (listed.Nodes (usedCount (queueIn b))) r after
+        (rw (
+          and-left (isImage b) (valid (queueIn b)) h,
+          and-right (isImage b) (valid (queueIn b)) h,
+          le-ltb (length area) (2 * usedCount (queueIn b)) (omega arith),
+        ) refl) (f ∙ ap (λ (n : ℕ). plainReport (report 0 (n ∷ []))) e) g
 
 -- the length of an image
 module _ (p n : ℕ) where

@@ -11,6 +11,9 @@ use Rattle.record_check.specs.declared.counting.Count.the-variants as count
 use Rattle.record_check.specs.declared.making.Made.{Made}
 use Rattle.record_check.specs.Backlog.{backlogOf}
 use Rattle.record_check.specs.Making.{outside}
+use Rattle.record_markers.specs.declared.listing.Listed.{Listed}
+use Rattle.record_markers.specs.declared.listing.Listed.the-variants as listed
+use Rattle.record_markers.specs.Markers.{pairsTo, markersOf, areaBy}
 use Rattle.image.specs.Layout.{imageLength}
 use Rattle.image.specs.Image.{imageOf, queueIn, isImage}
 use Rattle.record.specs.declared.queues.Queue.{Queue}
@@ -33,6 +36,14 @@ bytesAfter b o = cond (isRefused (o .answer)) b (imageOf (o .queue))
 -- Backlog on lent bytes
 unfoldable pub countOn : List ℕ → Count
 countOn b = cond (isImage b) (backlogOf (queueIn b)) (count.Refused 21)
+
+-- markers on lent bytes, with room for so many bytes in the area; and the area after it
+unfoldable pub markersOn : List ℕ → ℕ → Listed
+markersOn b room = cond (isImage b) (markersOf (queueIn b) room) (listed.Refused 21)
+
+unfoldable pub areaOn : List ℕ → List ℕ → List ℕ
+areaOn b area =
+    areaBy (pairsTo (queueIn b) (queueIn b .nodeCount)) area (markersOn b (length area))
 
 -- how long the image of a queue of these sizes is, or 0 where no queue has them
 unfoldable pub lengthFor : ℕ → ℕ → ℕ

@@ -19,7 +19,7 @@ use Rattle.image.specs.Tags.{timed, stampOf, useOf}
 use Rattle.image.proofs.Fields.{node-is}
 use Rattle.image_check.specs.Pending.{pendingBytes}
 
-used : (t u : ℕ) → isInUse (useOf (timed t u)) ≡ eqb t 1
+pub used : (t u : ℕ) → isInUse (useOf (timed t u)) ≡ eqb t 1
 used t u = go (eqb t 2) (eqb t 1) refl refl
   where
     go : (x y : Bool) → eqb t 2 ≡ x → eqb t 1 ≡ y →

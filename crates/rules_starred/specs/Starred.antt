@@ -1,7 +1,8 @@
 -- The starred runs of document 01 (runs at the edges) in one table: what is asked of the
 -- definitions, and what document 01 expects. Run 2 is as document 02 changes it (W8), with its
 -- examples and the last count that is taken; the backlog along the printed run is document 02's
--- (W2). proofs/Starred.antt has the one fact that covers the table.
+-- (W2), and so are markers (W6), asked along that run and run 5. proofs/Starred.antt has the one
+-- fact that covers the table.
 use Prim.Native.Nat.{ℕ, zero, suc, _-_}
 use mathlib.Core.Path.{_≡_}
 use mathlib.Core.List.{List, [], _∷_, _++_}
@@ -14,8 +15,9 @@ use Rattle.due.specs.Due.{dueFromSeconds}
 use Rattle.record_check.specs.Making.{made}
 use Rattle.record.specs.Queues.{freshQueue, processorAt}
 use Rattle.rules.specs.Answers.{reported}
-use Rattle.rules.specs.Runs.{Turn, insert, deleteMin, stepBy, backlog, after, afterAll}
-use Rattle.rules.specs.Runs.{Reply, answered, counted, reply}
+use Rattle.record_markers.specs.Markers.{reportedMarkers}
+use Rattle.rules.specs.Runs.{Turn, insert, deleteMin, stepBy, backlog, markers, after, afterAll}
+use Rattle.rules.specs.Runs.{Reply, answered, counted, listed, reply}
 
 -- what is asked
 pub data Question : Type 0 where
@@ -24,7 +26,7 @@ pub data Question : Type 0 where
   -- what a count of seconds gives: the number of the refusal or 0, and the minutes
   seconds : ℕ → Question
   -- on a fresh queue of these sizes, after this list of calls: the clock after one more call, and
-  -- that call's answer as its number and values
+  -- that call's answer as its number and values, and of markers the area too
   answer : Queue → List Turn → Turn → Question
   -- the same, and the own node of a processor after the call
   own : Queue → List Turn → Turn → ℕ → Question
@@ -40,6 +42,8 @@ abbrev pub replyNumbers : Reply → List ℕ
 replyNumbers (answered a) = reported a .number ∷ reported a .values
 replyNumbers (counted (count.Refused n)) = n ∷ []
 replyNumbers (counted (count.Pending k)) = 0 ∷ k ∷ []
+replyNumbers (listed k area) =
+    reportedMarkers k .number ∷ (reportedMarkers k .values ++ area)
 
 abbrev pub backlogsAlong : Queue → List Turn → List ℕ
 backlogsAlong q [] = q .clock ∷ replyNumbers (reply q backlog)
@@ -95,6 +99,13 @@ fourth = insert 0 7 42 1 ∷ (replicate 8 (stepBy 0) ++ (deleteMin 1 ∷ []))
 abbrev pub fifth : List Turn
 fifth = filed ++ (deleteMin 0 ∷ (replicate 8 (stepBy 0) ++ (deleteMin 1 ∷ replicate 7 (stepBy 0))))
 
+-- up to the mark of the printed sheet's Delete_Min; the same on two processors, the second marking
+abbrev pub markedByFirst : List Turn
+markedByFirst = filed ++ (deleteMin 0 ∷ replicate 3 (stepBy 0))
+
+abbrev pub markedBySecond : List Turn
+markedBySecond = filed ++ (deleteMin 1 ∷ replicate 3 (stepBy 1))
+
 -- so many times from one on, at each of them 0 and this count; and the times from one to another
 abbrev counts : ℕ → ℕ → ℕ → List ℕ
 counts zero time k = []
@@ -141,6 +152,14 @@ starred =
     ∷ run (answer pair [] (stepBy 0)) (0 ∷ 34 ∷ [])
     -- 02, W2: the backlog of the printed run is 0, from the answer on 1, and from the mark on 0
     ∷ run (backlogs single printed) (fromTo 0 9 0 ++ (fromTo 10 13 1 ++ fromTo 14 28 0))
+    -- 02, W6: nobody has the entry; the first processor has it, or the second; nobody, and no node
+    -- is in use; and an area that is one byte too short
+    ∷ run (answer single filed (markers (9 ∷ 9 ∷ 9 ∷ []))) (10 ∷ 0 ∷ 1 ∷ 1 ∷ 255 ∷ 9 ∷ [])
+    ∷ run (answer single markedByFirst (markers (9 ∷ 9 ∷ []))) (14 ∷ 0 ∷ 1 ∷ 1 ∷ 0 ∷ [])
+    ∷ run (answer pair markedBySecond (markers (9 ∷ 9 ∷ []))) (14 ∷ 0 ∷ 1 ∷ 1 ∷ 1 ∷ [])
+    ∷ run (answer single printed (markers (9 ∷ 9 ∷ []))) (28 ∷ 0 ∷ 0 ∷ 9 ∷ 9 ∷ [])
+    ∷ run (answer single printed (markers [])) (28 ∷ 0 ∷ 0 ∷ [])
+    ∷ run (answer single filed (markers (9 ∷ []))) (10 ∷ 43 ∷ 9 ∷ [])
     ∷ []
 
 -- every row's question has the expected result
