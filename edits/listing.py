@@ -168,7 +168,7 @@ def collect(top, crates, edits):
 def show(top, crates, edits):
     files, definitions, held, through = collect(top, crates, edits)
     short, rows = [], 0
-    print(f"{'crate':<14}{'function or definition':<48}edits")
+    print(f"{'crate':<16}{'function or definition':<48}edits")
     for (crate, _), items in files.items():
         for item in items:
             names = held[id(item)]
@@ -176,13 +176,13 @@ def show(top, crates, edits):
             count = len(names) + len(through[key] if item.kind == "definition" else ())
             asked = item.public and item.kind in ("fn", "definition")
             if names or (asked and item.kind == "fn"):
-                print(f"{crate:<14}{item.title:<48}{', '.join(names)}")
+                print(f"{crate:<16}{item.title:<48}{', '.join(names)}")
                 rows += 1
             if asked and count < ENOUGH:
                 short.append((crate, item.title, count))
     print(f"{rows} functions and definitions with edits of their own")
     for crate, title, count in short:
-        print(f"fewer than {ENOUGH}: {crate:<14}{title:<48}{count}")
+        print(f"fewer than {ENOUGH}: {crate:<16}{title:<48}{count}")
     public = [i for items in files.values() for i in items
               if i.public and i.kind in ("fn", "definition")]
     print(f"{len(public) - len(short)} passed, {len(short)} failed")

@@ -4,5 +4,6 @@
 pub mod batch;
 pub mod calls;
 pub mod making;
+pub mod markers;
 pub mod reads;
 pub mod replies;
