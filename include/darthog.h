@@ -68,7 +68,7 @@ enum {
     DARTHOG_NO_ITEM = 39,        /* Insert: item 0, which is no item */
     DARTHOG_BAD_HEIGHT = 36,     /* Insert: height not 1 to the queue's levels */
     DARTHOG_NO_NODE = 37,        /* Insert: no node that may be used now; later there may be one */
-    DARTHOG_AREA_TOO_SHORT = 43  /* markers: the area has fewer than two bytes for each node in use */
+    DARTHOG_AREA_TOO_SHORT = 43  /* markers: fewer than two bytes for each node in use */
 };
 
 /* What markers have in the place of a processor for a node that nobody has marked. */

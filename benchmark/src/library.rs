@@ -2,7 +2,7 @@
 //! calls for hosts of crates/host_calls. A lent slice is a pointer and a length.
 
 use darthog_host::raw::{
-    darthog_backlog, darthog_begin_insert, darthog_calls, darthog_step, Reply,
+    darthog_backlog, darthog_begin_insert, darthog_calls, darthog_markers, darthog_step, Reply,
 };
 
 extern "C" {
@@ -31,6 +31,12 @@ pub fn begin_insert(image: &mut [u8], processor: u32, due: u32, item: u32, heigh
 /// A test of the bytes, then Backlog.
 pub fn backlog(image: &[u8]) -> Reply {
     unsafe { darthog_backlog(image.as_ptr(), image.len()) }
+}
+
+/// A test of the bytes, then markers.
+pub fn markers(image: &[u8], area: &mut [u8]) -> Reply {
+    let (bytes, length) = (image.as_ptr(), image.len());
+    unsafe { darthog_markers(bytes, length, area.as_mut_ptr(), area.len()) }
 }
 
 /// A test of the bytes, then the calls of a list. 0 or 21.

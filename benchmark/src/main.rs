@@ -12,7 +12,9 @@ use darthog_benchmark::ways::{cost, BareSteps, Cost, Lists, Order, Single, Way};
 use darthog_benchmark::workload::{Shares, Workload};
 use darthog_reference::answer::Answer;
 use darthog_reference::calls::Outcome;
-use darthog_reference::queue::Queue;
+use darthog_reference::markers::{Listing, PAIR};
+use darthog_reference::queue::{Queue, MAX_NODES};
+use std::hint::black_box;
 use std::process::ExitCode;
 
 /// How many calls a list has.
@@ -69,6 +71,7 @@ fn all_ways(workload: &Workload) -> Result<(), String> {
     row("step", workload, 1, &step())?;
     row("insert", &workload.idle(), 1, &insert())?;
     row("backlog", workload, 1, &backlog())?;
+    row("markers", workload, 1, &markers())?;
     row("refused", workload, 1, &refused())
 }
 
@@ -112,6 +115,32 @@ fn backlog() -> impl Way {
             queue
                 .backlog()
                 .map_or_else(Outcome::Refused, Outcome::Count)
+        },
+    }
+}
+
+/// Both with an area that is enough for every queue.
+fn markers() -> impl Way {
+    const ROOM: usize = PAIR * MAX_NODES;
+    Single {
+        library: |image: &mut [u8], _| {
+            let mut area = [0; ROOM];
+            let reply = library::markers(image, black_box(&mut area));
+            black_box(&area);
+            reply
+        },
+        reference: |queue: &mut Queue, _| {
+            let mut area = [0; ROOM];
+            let nodes = queue.markers(black_box(&mut area));
+            black_box(&area);
+            // the area is not told on: that would allocate
+            let listed = |nodes| {
+                Outcome::Listed(Listing {
+                    nodes,
+                    area: Vec::new(),
+                })
+            };
+            nodes.map_or_else(Outcome::Refused, listed)
         },
     }
 }

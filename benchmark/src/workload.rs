@@ -154,7 +154,7 @@ fn numbers_for(call: &Call) -> [u32; NUMBERS] {
         } => [1, processor, due, item, height].map(|number| number as u32),
         Call::DeleteMin { processor } => [2, processor as u32, 0, 0, 0],
         Call::Step { processor } => [3, processor as u32, 0, 0, 0],
-        Call::Backlog => unreachable!("a list has begins and steps"),
+        Call::Backlog | Call::Markers { .. } => unreachable!("a list has begins and steps"),
     }
 }
 

@@ -4,7 +4,8 @@
  *
  * Which entry a Delete_Min takes is decided when it marks it; unlinking it takes one worker more
  * steps than another. So each withdrawal gets its turn when it is marked, and is printed once it
- * and all before it were handed out. */
+ * and all before it were handed out. When every worker has marked one, the queue is asked which
+ * worker holds which: these are not delivered yet. */
 #include <inttypes.h>
 #include <stdio.h>
 #include <stdlib.h>
@@ -159,15 +160,38 @@ static int print_from(int turn) {
     return turn;
 }
 
+/* Prints which worker holds an entry that it has not delivered yet, by the markers of the nodes,
+ * and how many nodes nobody holds. */
+static void print_holders(const struct worker *workers) {
+    uint8_t area[2 * ENTRIES];
+    uint32_t nodes = value("markers", darthog_markers(queue, length, area, sizeof area));
+    uint32_t unheld = 0;
+    for (const uint8_t *node = area; node < area + 2 * nodes; node += 2) {
+        if (node[1] == DARTHOG_NO_MARKER) {
+            unheld++;
+        } else if (node[1] < WORKERS) {
+            uint32_t item = taken[workers[node[1]].turn].entry.second;
+            printf("worker %d holds item %" PRIu32 ", in node %d\n", node[1], item, node[0]);
+        } else {
+            stop("no worker's marker: markers", node[1]);
+        }
+    }
+    printf("%" PRIu32 " more are not taken\n", unheld);
+}
+
 static void take_all(void) {
     struct worker workers[WORKERS] = {0};
-    int marked = 0, turn = 0, ended = 0;
-    printf("%7s%7s%7s%7s\n", "due", "item", "ticket", "worker");
+    int marked = 0, turn = 0, ended = 0, asked = 0;
     while (ended < WORKERS) {
         ended = 0;
         for (uint32_t w = 0; w < WORKERS; w++) {
             if (!workers[w].ended) work(&workers[w], w, &marked);
             ended += workers[w].ended;
+        }
+        if (!asked && marked == WORKERS) {
+            print_holders(workers);
+            printf("%7s%7s%7s%7s\n", "due", "item", "ticket", "worker");
+            asked = 1;
         }
         turn = print_from(turn);
     }

@@ -62,9 +62,10 @@ const SIZES: [(u64, u64, u64); 6] = [
 
 /// The calls that are made on damaged bytes.
 fn calls(number: usize) -> Call {
-    let processor = (number / 4 % 6) as u32;
-    match number % 4 {
+    let processor = (number / 5 % 6) as u32;
+    match number % 5 {
         0 => Call::Backlog,
+        4 => Call::Markers([400, 3, 401, 0][number / 5 % 4]),
         1 => Call::Step(processor),
         2 => Call::DeleteMin(processor),
         _ => Call::Insert(processor, 7, 42, 1),
@@ -95,6 +96,7 @@ fn flipped_bits_are_seen_as_the_reference_sees_them() {
     assert!(all > 18_000, "only {all} damaged images");
     counts.must_have(&[
         ("backlog", &[0, 21]),
+        ("markers", &[0, 21, 43]),
         ("step", &[1, 21]),
         ("delete_min", &[21, 33]),
         ("insert", &[21, 33]),
@@ -123,6 +125,7 @@ fn every_value_of_every_byte_is_seen_as_the_reference_sees_it() {
     }
     counts.must_have(&[
         ("backlog", &[0, 21]),
+        ("markers", &[0, 21, 43]),
         ("step", &[1, 21, 32]),
         ("delete_min", &[21, 33]),
         ("insert", &[21, 33]),
@@ -152,6 +155,7 @@ fn every_byte_value_at_a_tag_is_seen_as_the_reference_sees_it() {
     }
     counts.must_have(&[
         ("backlog", &[0, 21]),
+        ("markers", &[0, 21, 43]),
         ("step", &[1, 21, 32, 34]),
         ("delete_min", &[0, 21, 33]),
         ("insert", &[0, 21, 33]),
@@ -179,6 +183,7 @@ fn damage_at_random_places_of_any_record() {
     counts.must_have(&[
         ("make", &[0]),
         ("backlog", &[0, 21]),
+        ("markers", &[0, 21, 43]),
         ("step", &[1, 21]),
         ("delete_min", &[0, 21]),
         ("insert", &[0, 21]),
@@ -207,6 +212,7 @@ fn random_bytes_are_no_image() {
     }
     counts.must_have(&[
         ("backlog", &[21]),
+        ("markers", &[21]),
         ("step", &[21]),
         ("delete_min", &[21]),
         ("insert", &[21]),

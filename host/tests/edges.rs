@@ -2,7 +2,8 @@
 
 mod common;
 
-use common::{compare, compare_list, edge, junk, refused, seed, Call, Counts, Lent, ALL_CODES};
+use common::{any_room, compare, compare_list, edge, junk, refused, seed};
+use common::{Call, Counts, Lent, ALL_CODES};
 use darthog_host::raw::{darthog_due, darthog_image_length, Reply};
 use darthog_host::MAX_IMAGE_LENGTH;
 use darthog_reference::image::{encode, image_length};
@@ -56,6 +57,8 @@ fn judge_length(bytes: &[u8], random: &mut Random, counts: &mut Counts) {
         Call::DeleteMin(0),
         Call::Step(0),
         Call::Backlog,
+        Call::Markers(400),
+        Call::Markers(0),
     ] {
         let number = match call {
             Call::Make(0, ..) => 11,
@@ -94,6 +97,7 @@ fn another_length_is_refused_and_no_byte_changes() {
             }
         }
         compare(&image, &Call::Backlog, &mut random, &mut counts);
+        compare(&image, &Call::Markers(0), &mut random, &mut counts);
         compare_list(&image, &LIST, 10, &mut random);
     }
     let megabyte = vec![1; 1 << 20];
@@ -104,6 +108,7 @@ fn another_length_is_refused_and_no_byte_changes() {
         ("delete_min", &[21]),
         ("step", &[21]),
         ("backlog", &[0, 21]),
+        ("markers", &[0, 21]),
     ]);
 }
 
@@ -216,6 +221,7 @@ fn numbers_at_and_past_every_edge() {
                 Call::DeleteMin(processor),
                 Call::Step(processor),
                 Call::Backlog,
+                Call::Markers(any_room(&mut random, &record)),
             ] {
                 compare(&bytes, &call, &mut random, &mut counts);
             }
@@ -244,6 +250,7 @@ fn numbers_at_and_past_every_edge() {
         ALL_CODES[2],
         ("step", &[1, 3, 21, 31, 32, 34]),
         ALL_CODES[4],
+        ALL_CODES[5],
     ]);
 }
 

@@ -67,6 +67,8 @@ fn a_begin_changes_the_stated_bytes() {
 fn judge(bytes: &[u8], taken: bool, what: &str, random: &mut Random, counts: &mut Counts) {
     for call in [
         Call::Backlog,
+        Call::Markers(400),
+        Call::Markers(0),
         Call::Step(0),
         Call::DeleteMin(0),
         Call::Insert(0, 7, 42, 1),
@@ -103,7 +105,11 @@ fn bytes_are_taken_and_refused_as_stated() {
     for (what, _, bytes) in images::pieces() {
         judge(&bytes, false, &what, &mut random, &mut counts);
     }
-    counts.must_have(&[("backlog", &[0, 21]), ("step", &[21, 32, 34])]);
+    counts.must_have(&[
+        ("backlog", &[0, 21]),
+        ("markers", &[0, 21]),
+        ("step", &[21, 32, 34]),
+    ]);
 }
 
 /// The bytes of an earlier release: all 202 nodes behind the sizes and the
@@ -148,5 +154,28 @@ fn bytes_of_an_earlier_release_are_refused_and_brought_over() {
         assert!(image == encode(&record), "brought over");
         judge(&image, true, "brought over", &mut random, &mut counts);
     }
-    counts.must_have(&[("backlog", &[0, 21])]);
+    counts.must_have(&[("backlog", &[0, 21]), ("markers", &[0, 21, 43])]);
+}
+
+/// Before document 02's W6 a mark was 0 or 1. Such bytes are taken as before,
+/// and each of their markers is processor 0.
+#[test]
+fn marks_of_an_earlier_release_are_those_of_processor_0() {
+    let mut random = Random::new(seed());
+    let mut counts = Counts::default();
+    let (mut changed, mut told) = (0, 0);
+    for (_, mut record) in bases() {
+        for node in &mut record.nodes {
+            changed += usize::from(node.mark > 1);
+            node.mark = node.mark.min(1);
+        }
+        let image = encode(&record);
+        judge(&image, true, "before W6", &mut random, &mut counts);
+        let queue = Queue::from_bytes(&image).expect("it is taken");
+        let nodes = queue.markers().expect("it is taken");
+        assert!(nodes.iter().all(|node| node.marker.unwrap_or(0) == 0));
+        told += nodes.iter().filter(|node| node.marker.is_some()).count();
+    }
+    println!("{changed} marks of another processor, {told} markers of nodes in use");
+    assert!(changed > 10 && told > 3, "{changed} {told}");
 }

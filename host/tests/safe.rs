@@ -5,7 +5,7 @@ mod common;
 
 use common::{edge, seed};
 use darthog_host::{due_minute, image_length, Answer as Told, Call as Asked, Done};
-use darthog_host::{Entry, Queue, Refusal, Step, MAX_IMAGE_LENGTH};
+use darthog_host::{Entry, Marker, Queue, Refusal, Step, MAX_IMAGE_LENGTH};
 use darthog_reference::answer::{self, Answer};
 use darthog_reference::calls::{Call, Outcome};
 use darthog_reference::image::encode;
@@ -65,6 +65,7 @@ fn word(outcome: &Outcome) -> String {
     match outcome {
         Outcome::Began(_) => "began".to_string(),
         Outcome::Count(_) => "count".to_string(),
+        Outcome::Listed(_) => "listed".to_string(),
         Outcome::Refused(number) => number.to_string(),
         Outcome::Stepped(answer) => {
             let words = format!("{answer:?}");
@@ -81,7 +82,7 @@ fn compare(queue: &mut Queue, call: &Call, outcome: &Outcome) {
         Outcome::Began(time) => Ok(time),
         Outcome::Count(count) => Ok(count),
         Outcome::Refused(number) => Err(refusal(number)),
-        Outcome::Stepped(_) => Ok(0),
+        Outcome::Stepped(_) | Outcome::Listed(_) => Ok(0),
     };
     match *call {
         Call::Insert {
@@ -104,6 +105,26 @@ fn compare(queue: &mut Queue, call: &Call, outcome: &Outcome) {
             assert_eq!(queue.step(cut(processor)), expected, "{call:?}");
         }
         Call::Backlog => assert_eq!(queue.backlog(), value),
+        Call::Markers { .. } => compare_markers(queue, outcome),
+    }
+}
+
+/// The queue lends enough, whatever room the reference was lent.
+fn compare_markers(queue: &Queue, outcome: &Outcome) {
+    let got = queue.markers();
+    match outcome {
+        Outcome::Listed(listing) => {
+            let none = 255;
+            let of = |(node, marker)| Marker {
+                node,
+                marker: (marker != none).then_some(marker),
+            };
+            assert_eq!(got, Ok(listing.pairs().map(of).collect()));
+        }
+        _ => {
+            assert_eq!(*outcome, Outcome::Refused(43));
+            assert!(got.is_ok_and(|nodes| !nodes.is_empty()), "none is in use");
+        }
     }
 }
 
@@ -141,10 +162,12 @@ fn the_queue_does_what_the_reference_does() {
         }
     }
     all_occurred(&counts);
-    assert!(counts.contains_key("count"), "Backlog never occurred");
+    for wanted in ["count", "listed", "43"] {
+        assert!(counts.contains_key(wanted), "{wanted} never occurred");
+    }
 }
 
-/// A call of a schedule as one of a list; Backlog is none.
+/// A call of a schedule as one of a list; Backlog and markers are none.
 fn asked(call: &Call) -> Option<Asked> {
     let cut = |number: u64| u32::try_from(number).unwrap_or(u32::MAX);
     match *call {
@@ -161,7 +184,7 @@ fn asked(call: &Call) -> Option<Asked> {
         )),
         Call::DeleteMin { processor } => Some(Asked::delete_min(cut(processor))),
         Call::Step { processor } => Some(Asked::step(cut(processor))),
-        Call::Backlog => None,
+        Call::Backlog | Call::Markers { .. } => None,
     }
 }
 
@@ -171,7 +194,7 @@ fn done(outcome: &Outcome) -> Result<Done, Refusal> {
         Outcome::Began(time) => Ok(Done::Began(time)),
         Outcome::Stepped(answer) => Ok(Done::Stepped(same_step(answer))),
         Outcome::Refused(number) => Err(Refusal::from_number(number).expect("a known number")),
-        Outcome::Count(_) => panic!("a list has no Backlog"),
+        Outcome::Count(_) | Outcome::Listed(_) => panic!("a list has neither of these"),
     }
 }
 
@@ -260,9 +283,8 @@ fn bytes_that_the_library_does_not_take_make_no_queue() {
     for other in [&[][..], &bytes[..1], &bytes[..bytes.len() - 1], &long] {
         assert_eq!(Queue::from_bytes(other), Err(Refusal::BadRecord));
     }
-    // no processor, no level, an unknown stage, a mark that is neither 0 nor 1, a clock past its
-    // end
-    for (at, value) in [(0, 0), (2, 0), (7 + 5, 27), (41 + 17, 2), (6, 1)] {
+    // no processor, no level, an unknown stage, the mark of a third processor, a clock past its end
+    for (at, value) in [(0, 0), (2, 0), (7 + 5, 27), (41 + 17, 3), (6, 1)] {
         let mut damaged = bytes.clone();
         damaged[at] = value;
         assert_eq!(Queue::from_bytes(&damaged), Err(Refusal::BadRecord));
@@ -291,7 +313,8 @@ fn each_refusal_has_its_number() {
         .iter()
         .map(|refusal| refusal.number())
         .collect();
-    assert_eq!(numbers, [11, 12, 13, 21, 31, 32, 33, 34, 35, 39, 36, 37]);
+    let expected = [11, 12, 13, 21, 31, 32, 33, 34, 35, 39, 36, 37, 43];
+    assert_eq!(numbers, expected);
     for number in 0..=u32::from(u16::MAX) {
         let expected = numbers.contains(&number).then_some(number);
         assert_eq!(Refusal::from_number(number).map(Refusal::number), expected);
@@ -315,6 +338,8 @@ fn the_calls_run_on_a_small_stack() {
         let list = [Asked::delete_min(2), Asked::step(2), Asked::step(3)];
         let answers = queue.calls(&list).expect("its bytes are an image");
         assert_eq!(answers[2].done(), Err(Refusal::Idle));
+        let told = queue.markers().expect("its bytes are an image");
+        assert_eq!((told.len(), told[0].marker), (1, None));
         queue.backlog()
     };
     let thread = std::thread::Builder::new()

@@ -1,12 +1,14 @@
 //! Random schedules of calls on one queue: after each call the bytes are the
-//! image of the reference's record, and the reply is the reference's.
+//! image of the reference's record, the reply is the reference's, and so is what
+//! an area for markers holds.
 
 mod common;
 
-use common::{call_on, refused, seed, Call, Counts, Lent};
+use common::{call_on, expected_area, refused, seed, Call, Counts, Lent};
 use darthog_reference::answer::{Answer, Entry};
 use darthog_reference::calls::Outcome;
 use darthog_reference::image::encode;
+use darthog_reference::markers::Listing;
 use darthog_reference::queue::MAX_NUMBER;
 use darthog_reference::random::Random;
 use darthog_reference::schedule::{Schedule, Sizes};
@@ -24,6 +26,10 @@ fn outcome_of(call: &Call, reply: &darthog_host::raw::Reply) -> Outcome {
     };
     match (call, reply.code) {
         (Call::Insert(..) | Call::DeleteMin(_), 0) => Outcome::Began(reply.first),
+        (Call::Markers(_), 0) => Outcome::Listed(Listing {
+            nodes: reply.first,
+            area: Vec::new(),
+        }),
         (_, 0) => Outcome::Count(reply.first),
         (_, 1) => Outcome::Stepped(Answer::Moved),
         (_, 2) => Outcome::Stepped(Answer::Waits),
@@ -43,21 +49,23 @@ fn sizes_of(number: u64, random: &mut Random) -> Sizes {
     }
 }
 
-fn run(number: u64, random: &mut Random, counts: &mut Counts) {
-    let sizes = sizes_of(number, random);
-    let mut record = fresh_of(sizes);
-    let junk: Vec<u8> = (0..encode(&record).len())
-        .map(|_| random.draw() as u8)
-        .collect();
+/// A queue of these sizes, made in bytes that held anything.
+fn made(sizes: Sizes, random: &mut Random, counts: &mut Counts) -> Lent {
+    let image = encode(&fresh_of(sizes));
+    let junk: Vec<u8> = image.iter().map(|_| random.draw() as u8).collect();
     let mut lent = Lent::new(&junk, random);
     let (p, n, l) = (sizes.processors, sizes.nodes, sizes.levels);
     let make = Call::Make(p as u32, n as u32, l as u32);
     assert_eq!(lent.call(&make), refused(0));
-    assert!(
-        lent.now() == encode(&record),
-        "the fresh queue of {sizes:?}"
-    );
+    assert!(lent.now() == image, "the fresh queue of {sizes:?}");
     counts.note(make.entry(), 0);
+    lent
+}
+
+fn run(number: u64, random: &mut Random, counts: &mut Counts) {
+    let sizes = sizes_of(number, random);
+    let mut record = fresh_of(sizes);
+    let mut lent = made(sizes, random, counts);
     // one schedule in five runs into the end of the clock
     if number % 5 == 4 {
         record.clock = MAX_NUMBER - 400;
@@ -79,8 +87,12 @@ fn run(number: u64, random: &mut Random, counts: &mut Counts) {
             lent.now() == after,
             "schedule {number}, call {at}: {call:?} {reply:?}: other bytes"
         );
-        let accepted = reply.code < 11 && call != Call::Backlog;
+        let accepted = reply.code < 11 && !call.only_reads();
         assert_eq!(before != after, accepted, "{call:?} {reply:?}");
+        if let Call::Markers(room) = call {
+            let area = expected_area(&after, room);
+            assert!(lent.area == area, "schedule {number}, call {at}: {call:?}");
+        }
         counts.note(call.entry(), reply.code);
         schedule.note(&asked, &outcome_of(&call, &reply));
     }
@@ -99,5 +111,6 @@ fn every_call_of_a_schedule_leaves_the_image_of_the_references_record() {
         ("delete_min", &[0, 31, 32, 33]),
         ("step", &[1, 2, 3, 4, 5, 6, 31, 32, 34]),
         ("backlog", &[0]),
+        ("markers", &[0, 43]),
     ]);
 }

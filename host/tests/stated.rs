@@ -8,7 +8,8 @@
 
 mod common;
 
-use common::{compare_list, expected, refused, seed, Call, Counts, Lent};
+use common::{compare_list, expected, expected_area, refused, seed, untouched};
+use common::{Call, Counts, Lent};
 use darthog_host::raw::Reply;
 use darthog_reference::any_record::slots_past;
 use darthog_reference::image::{decode, encode, node_at, processor_at};
@@ -20,9 +21,11 @@ use darthog_reference::stated::records::record;
 use darthog_reference::stated::rows::TABLES;
 
 /// Every call on a record, by one processor.
-fn calls(processor: u32) -> [Call; 4] {
+fn calls(processor: u32) -> [Call; 6] {
     [
         Call::Backlog,
+        Call::Markers(400),
+        Call::Markers(0),
         Call::Step(processor),
         Call::DeleteMin(processor),
         Call::Insert(processor, 7, 42, 1),
@@ -67,6 +70,12 @@ impl Judge {
         }
         let (reply, after) = expected(bytes, call);
         assert_eq!(got, reply, "{what}, {call:?}: the reference differs");
+        if let Call::Markers(room) = *call {
+            let area = expected_area(bytes, room);
+            assert!(lent.area == area, "{what}, {call:?}: another area");
+            let left = lent.area == untouched(room);
+            assert!(taken || left, "{what}, {call:?}: it is written");
+        }
         assert!(lent.now() == after, "{what}, {call:?}: other bytes");
         if let Some(numbers) = call.numbers() {
             compare_list(bytes, &numbers, 5, &mut self.random);
@@ -83,7 +92,7 @@ impl Judge {
         let bytes = encode(queue);
         for call in calls(processor) {
             let got = self.call(&bytes, &call, taken, what);
-            if taken && call == Call::Backlog {
+            if taken && call.only_reads() {
                 assert_eq!(got, refused(0), "{what}, {call:?}");
             }
         }
@@ -123,6 +132,7 @@ fn each_field_is_taken_and_refused_as_stated() {
     assert!(inside > 45_000, "only {inside} cases of images");
     judge.counts.must_have(&[
         ("backlog", &[0, 21]),
+        ("markers", &[0, 21]),
         ("step", &[1, 2, 3, 4, 5, 6, 21, 31, 34]),
         ("delete_min", &[0, 21, 31, 33]),
         ("insert", &[0, 21, 31, 33]),
@@ -136,8 +146,8 @@ fn judge_changes(judge: &mut Judge, base: &Queue, changes: &[Change], taken: boo
         let mut queue = base.clone();
         (change.make)(&mut queue);
         let bytes = encode(&queue);
-        let processor = (number / 4) as u32 % u32::from(base.processor_count);
-        let call = calls(processor)[number % 4];
+        let processor = (number / 6) as u32 % u32::from(base.processor_count);
+        let call = calls(processor)[number % 6];
         judge.call(&bytes, &call, taken, &change.name);
         if taken {
             let (_, after) = expected(&bytes, &call);
@@ -167,6 +177,7 @@ fn the_references_changes_are_taken_and_refused_as_their_lists_say() {
     assert!(broken > 10_000 && edge > 1_000 && far > 250);
     judge.counts.must_have(&[
         ("backlog", &[0, 21]),
+        ("markers", &[0, 21, 43]),
         ("step", &[1, 2, 21]),
         ("delete_min", &[0, 21, 33]),
         ("insert", &[0, 21, 33]),
@@ -175,9 +186,7 @@ fn the_references_changes_are_taken_and_refused_as_their_lists_say() {
 
 /// Bytes of a node that are no image where the node is as a fresh one: what it
 /// is, where, and the byte.
-const NODE_TAGS: [(&str, usize, u8); 9] = [
-    ("mark", 17, 2),
-    ("mark", 17, 255),
+const NODE_TAGS: [(&str, usize, u8); 7] = [
     ("stamp", 18, 2),
     ("time without a stamp", 19, 1),
     ("time without a stamp", 22, 1),
@@ -213,7 +222,7 @@ fn a_wrong_tag_is_21_in_every_node_and_processor() {
         let whose = format!("processor {slot}");
         places.extend(PROCESSOR_TAGS.map(|tag| (tag, whose.clone(), processor_at(slot))));
     }
-    assert_eq!(places.len(), 55);
+    assert_eq!(places.len(), 45);
     for ((field, at, byte), whose, start) in places {
         let mut bytes = image.clone();
         bytes[start + at] = byte;
@@ -225,7 +234,7 @@ fn a_wrong_tag_is_21_in_every_node_and_processor() {
 }
 
 /// At 999,998 a call is accepted and its time is 999,999; then all but Backlog
-/// are refused with 31, which comes after 21 and before 32.
+/// and markers are refused with 31, which comes after 21 and before 32.
 #[test]
 fn the_clock_ends_at_999_999() {
     let mut judge = Judge::new();
@@ -246,12 +255,11 @@ fn the_clock_ends_at_999_999() {
             assert_eq!(got, delete_min, "{what}");
         }
         let bytes = encode(&queue);
-        for call in calls(0).into_iter().skip(1).chain(STRANGE) {
+        for call in calls(0).into_iter().chain(STRANGE) {
+            let number = if call.only_reads() { 0 } else { 31 };
             let got = judge.call(&bytes, &call, true, &whose);
-            assert_eq!(got, refused(31), "{whose}, clock 999,999, {call:?}");
+            assert_eq!(got, refused(number), "{whose}, clock 999,999, {call:?}");
         }
-        let backlog = judge.call(&bytes, &Call::Backlog, true, &whose);
-        assert_eq!(backlog, refused(0), "{whose}, clock 999,999, Backlog");
         queue.clock = 1_000_000;
         judge.case(&queue, 0, false, &format!("{whose}, clock 1,000,000"));
     }

@@ -27,17 +27,32 @@ pub fn call_of(numbers: [u32; NUMBERS]) -> Call {
 
 /// An outcome's code and its values; 0 for a value that it has not.
 pub fn numbers_of(outcome: &Outcome) -> [u32; 4] {
-    let of = |code: u32, entry: Entry| [code, entry.due, entry.item, entry.ticket];
     match *outcome {
-        Outcome::Began(value) | Outcome::Count(value) => [0, value, 0, 0],
-        Outcome::Listed(ref listing) => [0, listing.nodes, 0, 0],
-        Outcome::Refused(number) => [number, 0, 0, 0],
-        Outcome::Stepped(Answer::Moved) => [1, 0, 0, 0],
-        Outcome::Stepped(Answer::Waits) => [2, 0, 0, 0],
-        Outcome::Stepped(Answer::Empty) => [3, 0, 0, 0],
-        Outcome::Stepped(Answer::Marked(entry)) => of(4, entry),
-        Outcome::Stepped(Answer::Inserted(entry)) => of(5, entry),
-        Outcome::Stepped(Answer::HandedOut(entry)) => of(6, entry),
+        Outcome::Began(value) | Outcome::Count(value) => valued(Ok(value)),
+        Outcome::Listed(ref listing) => valued(Ok(listing.nodes)),
+        Outcome::Stepped(answer) => stepped(Ok(answer)),
+        Outcome::Refused(number) => refused(number),
+    }
+}
+
+fn refused(number: Refusal) -> [u32; 4] {
+    [number, 0, 0, 0]
+}
+
+fn valued(value: Result<u32, Refusal>) -> [u32; 4] {
+    value.map_or_else(refused, |value| [0, value, 0, 0])
+}
+
+fn stepped(answer: Result<Answer, Refusal>) -> [u32; 4] {
+    let of = |code: u32, entry: Entry| [code, entry.due, entry.item, entry.ticket];
+    match answer {
+        Err(number) => refused(number),
+        Ok(Answer::Moved) => [1, 0, 0, 0],
+        Ok(Answer::Waits) => [2, 0, 0, 0],
+        Ok(Answer::Empty) => [3, 0, 0, 0],
+        Ok(Answer::Marked(entry)) => of(4, entry),
+        Ok(Answer::Inserted(entry)) => of(5, entry),
+        Ok(Answer::HandedOut(entry)) => of(6, entry),
     }
 }
 
@@ -46,26 +61,34 @@ pub fn numbers_of(outcome: &Outcome) -> [u32; 4] {
 /// then no answer is written.
 pub fn run(queue: &mut Queue, calls: &[u32], answers: &mut [u32]) -> Result<(), Refusal> {
     queue.backlog()?;
-    make_each(queue, calls, answers, Queue::call);
+    make_each(queue, calls, answers, |queue, asked| {
+        numbers_of(&queue.call(&call_of(asked)))
+    });
     Ok(())
 }
 
-/// As `run`, without check 21.
+/// As `run`, without check 21, and without outcomes in between.
 pub fn run_inner(queue: &mut Queue, calls: &[u32], answers: &mut [u32]) {
-    make_each(queue, calls, answers, Queue::call_inner);
+    make_each(queue, calls, answers, |queue, asked| {
+        let [kind, processor, due, item, height] = asked.map(u64::from);
+        match kind {
+            1 => valued(queue.begin_insert_inner(processor, due, item, height)),
+            2 => valued(queue.begin_delete_min_inner(processor)),
+            _ => stepped(queue.step_inner(processor)),
+        }
+    });
 }
 
 fn make_each(
     queue: &mut Queue,
     calls: &[u32],
     answers: &mut [u32],
-    make: impl Fn(&mut Queue, &Call) -> Outcome,
+    make: impl Fn(&mut Queue, [u32; NUMBERS]) -> [u32; 4],
 ) {
     let turns = calls.chunks_exact(NUMBERS);
     for (asked, told) in turns.zip(answers.chunks_exact_mut(NUMBERS)) {
         let asked = asked.try_into().expect("five numbers");
-        let outcome = make(queue, &call_of(asked));
-        told[..4].copy_from_slice(&numbers_of(&outcome));
+        told[..4].copy_from_slice(&make(queue, asked));
         told[4] = queue.clock;
     }
 }

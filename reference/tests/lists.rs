@@ -1,10 +1,13 @@
 //! Lists of calls as numbers: the stated one, and how many calls are made.
 
+use darthog_reference::any_record::any_record;
 use darthog_reference::image::encode;
-use darthog_reference::lists::run;
+use darthog_reference::lists::{run, run_inner};
 use darthog_reference::queue::fresh;
+use darthog_reference::random::Random;
 use darthog_reference::stated::images;
 use darthog_reference::stated::lists::{printed, Turn};
+use std::collections::BTreeSet;
 
 /// What an area for answers holds before a run.
 fn junk(length: usize) -> Vec<u32> {
@@ -65,6 +68,34 @@ fn as_many_calls_are_made_as_both_lists_have_numbers_for() {
             assert_eq!(queue.clock, clock);
         }
     }
+}
+
+/// Calls that are refused too, on records that no run reached.
+#[test]
+fn the_inner_form_does_the_same() {
+    let mut random = Random::new(3);
+    let mut codes = BTreeSet::new();
+    for _ in 0..3_000 {
+        let queue = any_record(&mut random);
+        let processors = u64::from(queue.processor_count);
+        let calls: Vec<u32> = (0..20)
+            .flat_map(|_| {
+                let kind = random.below(5);
+                let processor = random.below(processors + 1);
+                let (due, item) = (random.among(&[7, 1_000_000]), random.below(3));
+                [kind, processor, due, item, random.below(4)].map(|number| number as u32)
+            })
+            .collect();
+        let (mut first, mut second) = (queue.clone(), queue);
+        let (mut told, mut inner) = (junk(calls.len()), junk(calls.len()));
+        assert_eq!(run(&mut first, &calls, &mut told), Ok(()));
+        run_inner(&mut second, &calls, &mut inner);
+        assert_eq!(told, inner);
+        assert!(first == second, "another record");
+        codes.extend(told.chunks(5).map(|answer| answer[0]));
+    }
+    let all = [0, 1, 2, 3, 4, 5, 6, 31, 32, 33, 34, 35, 36, 37, 39];
+    assert_eq!(codes, BTreeSet::from(all));
 }
 
 #[test]

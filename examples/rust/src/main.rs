@@ -3,14 +3,15 @@
 //!
 //!     darthog-workers SEED [SHEET]
 //!
-//! prints the history of the run. With a second argument the same calls are
-//! written to that file as a sheet, for which the program prints the same
-//! history.
+//! prints the history of the run, and on standard error which worker holds a
+//! withdrawal at its end that it has not delivered. With a second argument the
+//! same calls are written to that file as a sheet, for which the program prints
+//! the same history.
 
 mod lines;
 mod random;
 
-use darthog_host::{Queue, Refusal, Step};
+use darthog_host::{Entry, Queue, Refusal, Step};
 use lines::{History, Sheet};
 use random::Random;
 use std::process::ExitCode;
@@ -24,6 +25,8 @@ struct Run {
     queue: Queue,
     levels: u32,
     busy: Vec<bool>,
+    /// What each worker has marked last.
+    marked: Vec<Option<Entry>>,
     history: History,
     sheet: Sheet,
 }
@@ -34,6 +37,7 @@ impl Run {
             queue: Queue::new(processors, entries, levels)?,
             levels,
             busy: vec![false; processors as usize],
+            marked: vec![None; processors as usize],
             history: History(String::new()),
             sheet: Sheet::new(processors, entries, levels),
         })
@@ -103,7 +107,10 @@ impl Run {
         let time = self.queue.clock();
         match stepped {
             Ok(Step::Moved | Step::Waits) => {}
-            Ok(Step::Marked(entry)) => self.history.entry('M', time, worker, entry),
+            Ok(Step::Marked(entry)) => {
+                self.marked[worker as usize] = Some(entry);
+                self.history.entry('M', time, worker, entry);
+            }
             Ok(Step::Empty) => {
                 self.busy[worker as usize] = false;
                 self.history.line('E', time, worker, [0; 3]);
@@ -122,6 +129,19 @@ impl Run {
 
     fn refused(&mut self, worker: u32, refusal: Refusal) {
         self.history.refused(self.queue.clock(), worker, refusal);
+    }
+
+    /// Which worker holds what: a line for each node that is marked, with the
+    /// worker that has marked it and its withdrawal.
+    fn holders(&self) -> Result<Vec<String>, Refusal> {
+        let nodes = self.queue.markers()?;
+        let line = |worker: u8| {
+            let Entry { due, item, ticket } = self.marked[usize::from(worker)]?;
+            let withdrawal = format!("withdrawal {due} {item} {ticket}");
+            Some(format!("worker {worker} holds {withdrawal}"))
+        };
+        let markers = nodes.iter().filter_map(|node| node.marker);
+        Ok(markers.filter_map(line).collect())
     }
 }
 
@@ -151,6 +171,13 @@ fn main() -> ExitCode {
         }
     };
     print!("{}", run.history.0);
+    match run.holders() {
+        Ok(lines) => lines.iter().for_each(|line| eprintln!("{line}")),
+        Err(refusal) => {
+            eprintln!("asking who holds what: {refusal}");
+            return ExitCode::FAILURE;
+        }
+    }
     if let Some(path) = words.get(1) {
         if let Err(error) = std::fs::write(path, run.sheet.finish()) {
             eprintln!("{path}: {error}");

@@ -37,10 +37,12 @@ pub enum Call {
     Step(u32),
     /// Backlog.
     Backlog,
+    /// Markers, with an area of so many bytes.
+    Markers(u32),
 }
 
 /// The entries that are lent bytes, as counts name them.
-pub const ENTRIES: [&str; 5] = ["make", "insert", "delete_min", "step", "backlog"];
+pub const ENTRIES: [&str; 6] = ["make", "insert", "delete_min", "step", "backlog", "markers"];
 
 impl Call {
     /// The entry, as counts name it.
@@ -51,7 +53,13 @@ impl Call {
             Call::DeleteMin(_) => ENTRIES[2],
             Call::Step(_) => ENTRIES[3],
             Call::Backlog => ENTRIES[4],
+            Call::Markers(_) => ENTRIES[5],
         }
+    }
+
+    /// Whether the call changes no record.
+    pub fn only_reads(&self) -> bool {
+        matches!(self, Call::Backlog | Call::Markers(_))
     }
 
     /// The call of a schedule; a number that 32 bits do not hold becomes the
@@ -68,14 +76,15 @@ impl Call {
             ReferenceCall::DeleteMin { processor } => Call::DeleteMin(cut(processor)),
             ReferenceCall::Step { processor } => Call::Step(cut(processor)),
             ReferenceCall::Backlog => Call::Backlog,
+            ReferenceCall::Markers { room } => Call::Markers(cut(room as u64)),
         }
     }
 
-    /// The five numbers of the call in a list; none for making and Backlog,
-    /// which no list has.
+    /// The five numbers of the call in a list; none for making, Backlog and
+    /// markers, which no list has.
     pub fn numbers(&self) -> Option<[u32; 5]> {
         match *self {
-            Call::Make(..) | Call::Backlog => None,
+            Call::Make(..) | Call::Backlog | Call::Markers(_) => None,
             Call::Insert(processor, due, item, height) => {
                 Some([raw::CALL_INSERT, processor, due, item, height])
             }
@@ -101,6 +110,9 @@ impl Call {
                 processor: u64::from(processor),
             },
             Call::Backlog => ReferenceCall::Backlog,
+            Call::Markers(room) => ReferenceCall::Markers {
+                room: room as usize,
+            },
         })
     }
 }
@@ -111,6 +123,8 @@ pub struct Lent {
     bytes: Vec<u8>,
     start: usize,
     end: usize,
+    /// The area of the last call for markers, with what is around it.
+    pub area: Vec<u8>,
 }
 
 impl Lent {
@@ -124,6 +138,7 @@ impl Lent {
             bytes: all,
             start,
             end,
+            area: Vec::new(),
         }
     }
 
@@ -141,7 +156,8 @@ impl Lent {
     pub fn call(&mut self, call: &Call) -> Reply {
         let length = self.end - self.start;
         let image = self.bytes[self.start..].as_mut_ptr();
-        // Safe: `length` bytes are lent at `image`, which is not null.
+        // Safe: `length` bytes are lent at `image`, which is not null, and so
+        // many as `Markers` says at `area`, which is not null either.
         let reply = unsafe {
             match *call {
                 Call::Make(p, n, l) => refused(raw::darthog_make(image, length, p, n, l)),
@@ -151,6 +167,11 @@ impl Lent {
                 Call::DeleteMin(p) => raw::darthog_begin_delete_min(image, length, p),
                 Call::Step(p) => raw::darthog_step(image, length, p),
                 Call::Backlog => raw::darthog_backlog(image, length),
+                Call::Markers(room) => {
+                    self.area = untouched(room);
+                    let area = self.area[MARGIN..].as_mut_ptr();
+                    raw::darthog_markers(image, length, area, room as usize)
+                }
             }
         };
         self.guards_stand(&format!("{call:?}"));
@@ -187,8 +208,32 @@ fn guard(place: usize) -> u8 {
     (place as u8).wrapping_mul(151) ^ 0xa5
 }
 
-/// How many numbers stand before and after an area for answers.
+/// How many numbers stand before and after an area for answers, and how many
+/// bytes before and after one for markers.
 pub const MARGIN: usize = 16;
+
+/// An area of so many bytes for markers before the call, with what is around
+/// it.
+pub fn untouched(room: u32) -> Vec<u8> {
+    (0..MARGIN + room as usize + MARGIN).map(guard).collect()
+}
+
+/// That area with these bytes at its front.
+pub fn written(room: u32, front: &[u8]) -> Vec<u8> {
+    let mut area = untouched(room);
+    area[MARGIN..MARGIN + front.len()].copy_from_slice(front);
+    area
+}
+
+/// What the reference leaves of that area, for any bytes in place of an image.
+pub fn expected_area(bytes: &[u8], room: u32) -> Vec<u8> {
+    let mut area = untouched(room);
+    if let Some(queue) = image::decode(bytes) {
+        // A refusal leaves it as it was, and is told by `expected`.
+        let _ = queue.markers(&mut area[MARGIN..MARGIN + room as usize]);
+    }
+    area
+}
 
 /// An area for this many numbers of answers before a list, with what is around
 /// it.
@@ -276,15 +321,20 @@ pub fn call_on(queue: &mut Queue, call: &Call) -> Reply {
     reply_of(&queue.call(&call))
 }
 
-/// Makes a call on bytes of their own and compares reply and bytes with the
-/// reference's; then the same call as a list of one.
+/// Makes a call on bytes of their own and compares reply, bytes and area with
+/// the reference's; then the same call as a list of one.
 pub fn compare(bytes: &[u8], call: &Call, random: &mut Random, counts: &mut Counts) {
     let mut lent = Lent::new(bytes, random);
     let (reply, after) = expected(bytes, call);
     assert_eq!(lent.call(call), reply, "{call:?}");
     assert!(lent.now() == after, "{call:?} {reply:?}: other bytes");
-    if reply.code >= 11 || *call == Call::Backlog {
+    if reply.code >= 11 || call.only_reads() {
         assert!(lent.now() == bytes, "{call:?} {reply:?} changed a byte");
+    }
+    if let Call::Markers(room) = *call {
+        assert!(lent.area == expected_area(bytes, room), "{call:?}: area");
+        let left = lent.area == untouched(room);
+        assert!(reply.code == 0 || left, "{call:?} {reply:?}: it is written");
     }
     counts.note(call.entry(), reply.code);
     if let Some(numbers) = call.numbers() {
@@ -319,12 +369,13 @@ impl Counts {
 }
 
 /// Every code that an entry on lent bytes can give back.
-pub const ALL_CODES: [(&str, &[u32]); 5] = [
+pub const ALL_CODES: [(&str, &[u32]); 6] = [
     ("make", &[0, 11, 12, 13, 21]),
     ("insert", &[0, 21, 31, 32, 33, 35, 39, 36, 37]),
     ("delete_min", &[0, 21, 31, 32, 33]),
     ("step", &[1, 2, 3, 4, 5, 6, 21, 31, 32, 34]),
     ("backlog", &[0, 21]),
+    ("markers", &[0, 21, 43]),
 ];
 
 /// A number at or past an edge: of processors, sizes, dues, items, heights.
@@ -361,6 +412,22 @@ pub fn edge(random: &mut Random) -> u32 {
     random.among(&edges)
 }
 
+/// A room for the markers of this record: just enough, a byte less or more,
+/// none, enough for every queue, or any.
+pub fn any_room(random: &mut Random, queue: &Queue) -> u32 {
+    let enough = 2 * queue.in_use();
+    let any = random.below(500) as u32;
+    random.among(&[
+        enough,
+        enough.saturating_sub(1),
+        enough + 1,
+        0,
+        400,
+        401,
+        any,
+    ])
+}
+
 /// Any call on a queue of this record's sizes: most numbers in range, some at
 /// or past an edge.
 pub fn any_call(random: &mut Random, queue: &Queue) -> Call {
@@ -384,8 +451,9 @@ pub fn any_call(random: &mut Random, queue: &Queue) -> Call {
         sizes.0 = u32::from(queue.processor_count);
         sizes.1 = u32::from(queue.node_count);
     }
-    match random.below(16) {
+    match random.below(17) {
         0 => Call::Backlog,
+        16 => Call::Markers(any_room(random, queue)),
         1 | 2 => Call::DeleteMin(processor),
         3..=6 => Call::Insert(processor, due, item, height),
         7 => Call::Make(sizes.0, sizes.1, sizes.2),
