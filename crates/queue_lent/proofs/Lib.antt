@@ -4,4 +4,5 @@ pub mod Callee
 pub mod Thin
 pub mod Outcomes
 pub mod Reader
+pub mod Filler
 pub mod Remade

@@ -9,3 +9,4 @@ pub use calls::begin_insert;
 pub use calls::step;
 pub use making::make;
 pub use reads::backlog;
+pub use reads::markers;

@@ -3,7 +3,6 @@ use mathlib.Core.Path.{_≡_, refl, sym, ap, _∙_}
 use mathlib.Core.Bool.{Bool, true, false, cond}
 use mathlib.Core.List.{List}
 use Prim.Native.Nat.{ℕ, _*_, _≤_, _<_}
-use lib.Dec.{ltb}
 use lib.ListN.{length}
 use borrow.Author.Tests.{lt-ltb, le-ltb}
 use Rattle.laws.specs.Front.{atFront}
@@ -13,6 +12,12 @@ use Rattle.record_markers.specs.declared.listing.Listed.{Listed}
 use Rattle.record_markers.specs.declared.listing.Listed.the-variants as listed
 use Rattle.record_markers.specs.Markers.{pairsTo, usedCount, markersOf}
 use Rattle.record_markers.specs.Markers.{areaBy, areaAfter, reportedMarkers}
+
+first-of : (t : Bool) (x y : Listed) → t ≡ true → x ≡ cond t x y
+first-of t x y h = ap (λ (b : Bool). cond b x y) (sym h)
+
+second-of : (t : Bool) (x y : Listed) → t ≡ false → y ≡ cond t x y
+second-of t x y h = ap (λ (b : Bool). cond b x y) (sym h)
 
 module _ (q : Queue) (a : List ℕ) where
   -- the contract at the answer r, with the area b at exit
@@ -25,26 +30,17 @@ module _ (q : Queue) (a : List ℕ) where
       b ≡ areaBy (pairsTo q (q .nodeCount)) a r → Told r b
   told r b e f = (e, (ap reportedMarkers e, f ∙ ap (areaBy (pairsTo q (q .nodeCount)) a) e))
 
-  -- the answer by what check 21 and the test of the area say
-  abbrev answer : Bool → Bool → Listed
-  answer passes short = cond passes (cond short (listed.Refused 43) (listed.Nodes (usedCount q))) (listed.Refused 21)
-
-  abbrev short : Bool
-  short = ltb (length a) (2 * usedCount q)
-
   pub not-valid : valid q ≡ false → Told (listed.Refused 21) a
-  not-valid h = told (listed.Refused 21) a (ap (λ (v : Bool). answer v short) (sym h)) refl
+  not-valid h = told (listed.Refused 21) a (second-of (valid q) _ (listed.Refused 21) h) refl
 
   module _ (h : valid q ≡ true) where
-    passed : answer true short ≡ markersOf q (length a)
-    passed = ap (λ (v : Bool). answer v short) (sym h)
-
     pub too-short : length a < 2 * usedCount q → Told (listed.Refused 43) a
     too-short less =
-        told (listed.Refused 43) a (ap (answer true) (sym (lt-ltb _ _ less)) ∙ passed) refl
+        let e = first-of _ (listed.Refused 43) (listed.Nodes (usedCount q)) (lt-ltb _ _ less) in
+        told (listed.Refused 43) a (e ∙ first-of (valid q) _ _ h) refl
 
     pub filled : 2 * usedCount q ≤ length a → (k : ℕ) (b : List ℕ) → k ≡ usedCount q →
         b ≡ atFront (pairsTo q (q .nodeCount)) a → Told (listed.Nodes k) b
     filled room k b e f =
-        told (listed.Nodes k) b
-        (ap listed.Nodes e ∙ ap (answer true) (sym (le-ltb _ _ room)) ∙ passed) f
+        let g = second-of _ (listed.Refused 43) (listed.Nodes (usedCount q)) (le-ltb _ _ room) in
+        told (listed.Nodes k) b (ap listed.Nodes e ∙ g ∙ first-of (valid q) _ _ h) f

@@ -1,4 +1,5 @@
--- What one more node adds to the loops of markers: to the count, and to the area with the bytes so far at its front. Assumes nothing.
+-- What one more node adds to the loops of markers: to the count, and to the area, which has the
+-- bytes of the nodes before it at its front. Assumes nothing.
 use mathlib.Core.Path.{_≡_, refl, sym, ap, _∙_}
 use mathlib.Core.Bool.{Bool, true, false, cond}
 use mathlib.Core.List.{List, [], _∷_, _++_, append-nil, append-assoc}
@@ -21,13 +22,19 @@ use Rattle.record_markers.specs.Markers.{markerByte, inUseAt, pairAt, pa
 use Rattle.record_markers.proofs.Pairs.{length-pairs}
 
 -- one byte more at the front
-front-one : (ps a : List ℕ) (x : ℕ) → length ps < length a → set (atFront ps a) (length ps) x ≡ atFront (ps ++ (x ∷ [])) a
+front-one :
+    (ps a : List ℕ) (x : ℕ) →
+    length ps < length a →
+    set (atFront ps a) (length ps) x ≡ atFront (ps ++ (x ∷ [])) a
 front-one ps [] x h = absurd (not-suc-le-zero h)
 front-one [] (y ∷ a) x h = refl
 front-one (p ∷ ps) (y ∷ a) x h = ap (λ (l : List ℕ). p ∷ l) (front-one ps a x (le-of-suc-le-suc h))
 
 -- two bytes more
-pub front-two : (ps a : List ℕ) (at x m : ℕ) → at ≡ length ps → at + 2 ≤ length a →
+front-two :
+    (ps a : List ℕ) (at x m : ℕ) →
+    at ≡ length ps →
+    at + 2 ≤ length a →
     set (set (atFront ps a) at x) (at + 1) m ≡ atFront (ps ++ (x ∷ m ∷ [])) a
 front-two ps a at x m e h =
     let n = length-append ps (x ∷ []) in
@@ -37,7 +44,7 @@ front-two ps a at x m e h =
     ∙ ap (λ (l : List ℕ). atFront l a) (append-assoc ps (x ∷ []) (m ∷ []))
 
 -- no more pass of the numbers up to i than of those up to n
-pub many-low : (f : ℕ → Bool) (i n : ℕ) → i ≤ n → howMany f i ≤ howMany f n
+many-low : (f : ℕ → Bool) (i n : ℕ) → i ≤ n → howMany f i ≤ howMany f n
 many-low f i zero h = let e : i ≡ 0 = omega arith in rw e (omega arith)
 many-low f i (suc n) h = go (ℕ-discrete i (suc n)) (many-low f i n)
   where
@@ -45,7 +52,7 @@ many-low f i (suc n) h = go (ℕ-discrete i (suc n)) (many-low f i n)
     go (yes e) r = rw e (omega arith)
     go (no ne) r = omega (arith, r (omega arith))
 
-pub pairs-more : (q : Queue) (i : ℕ) → pairsTo q (i + 1) ≡ pairsTo q i ++ pairAt q (i + 1)
+pairs-more : (q : Queue) (i : ℕ) → pairsTo q (i + 1) ≡ pairsTo q i ++ pairAt q (i + 1)
 pairs-more q i = rw add-one
 
 -- one node more

@@ -1,7 +1,7 @@
--- Markers, the call of document 02 (W6) that tells which processor marked each node in use. It fills
--- a lent area: of the nodes 1 to N each that is in use has two bytes, in node order, its number and
--- its marker. It gives how many nodes these are; the rest of the area is as it was. Refused with
--- 21, and then with 43 where the area is shorter than these bytes; a refused call leaves the area.
+-- Markers, the call of document 02 (W6) that tells which processor marked each node in use. In a
+-- lent area each of the nodes 1 to N that is in use gets two bytes, in the order of the nodes: its
+-- number and its marker. The answer is how many nodes these are. Refused with 21, and then with 43
+-- where the area is shorter than these bytes; a refused call leaves the area as it was.
 -- rules/specs/Demand3 says what a marker is in the book.
 use Prim.Native.Nat.{ℕ, zero, suc, _-_, _*_}
 use mathlib.Core.Bool.{Bool, cond}

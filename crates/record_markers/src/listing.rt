@@ -17,7 +17,7 @@ pub enum Listed {
     Nodes(u8),
 }
 
-// The byte for a mark that no processor set.
+// The marker of a node that has no mark.
 const NO_MARKER: u8 = 255;
 
 // The byte for a node's mark: the processor that set it, or 255 where there is none.
@@ -28,7 +28,7 @@ pub fn marker_byte(mark: u8) -> u8
 }
 
 // Whether a node is in use, by its state.
-pub fn is_used(state: Use) -> bool
+fn is_used(state: Use) -> bool
     ensures { λ r. ⌜ r ≡ isInUse state ⌝ }
 {
     match state {
@@ -73,15 +73,15 @@ fn put_pairs(q: Queue, area: &mut [u8])
     ensures { λ _.
         ⌜ now (area .exit) ≡ atFront (pairsTo q (q .nodeCount)) (now (area .entry)) ⌝ }
 {
-    let end = q.nodeCount as usize;
+    let last = q.nodeCount as usize;
     let mut at: usize = 0;
-    let mut i: usize = 0;
-    while i < end {
-        i = i + 1;
-        let n = q.nodes[i];
+    let mut x: usize = 0;
+    while x < last {
+        x = x + 1;
+        let n = q.nodes[x];
         let state = n.state;
         if is_used(state) {
-            put_pair(area, at, i as u8, n.mark);
+            put_pair(area, at, x as u8, n.mark);
             at = at + 2;
         }
     }

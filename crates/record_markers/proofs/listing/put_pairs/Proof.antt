@@ -12,29 +12,30 @@ use Rattle.laws.specs.HowMany.{howMany}
 use Rattle.record.specs.declared.nodes.Node.{Node}
 use Rattle.record.specs.Limits.{maxNodes, nodeSlots}
 use Rattle.record_markers.specs.Markers.{inUseAt, pairsTo}
-use Rattle.record_markers.proofs.Filling.{read-is, used-is, room-used, place-used, area-used, count-unused, pairs-unused}
+use Rattle.record_markers.proofs.Filling.{read-is, used-is, room-used, place-used, area-used}
+use Rattle.record_markers.proofs.Filling.{count-unused, pairs-unused}
 use Rattle.record_markers.proofs.listing.put_pairs.Statement.{statement}
 use Rattle.record_markers.proofs.listing.put_pairs.Tie as tie
 
 abbrev Inv-loop : tie.InvT-loop
-Inv-loop area₀ q end at₀ i₀ area at i =
-    (i ≤ end)
+Inv-loop area₀ q last at₀ x₀ area at i =
+    (i ≤ last)
     × (at ≡ 2 * howMany (inUseAt q) i)
     × (at ≤ 2 * i)
     × (area ≡ atFront (pairsTo q i) area₀)
     × (length area ≡ length area₀)
 
 abbrev μ-loop : tie.MeasureT-loop
-μ-loop area₀ q end at₀ i₀ area at i = end - i
+μ-loop area₀ q last at₀ x₀ area at i = last - i
 
-cast-end : tie.Need-cast-end Inv-loop μ-loop
-cast-end c = search needs
+cast-last : tie.Need-cast-last Inv-loop μ-loop
+cast-last c = search needs
 
 loop-holds : tie.Need-loop-holds Inv-loop μ-loop
 loop-holds c = (omega arith, refl, omega arith, refl, refl)
 
-add-i : tie.Need-add-i Inv-loop μ-loop
-add-i c = search needs
+add-x : tie.Need-add-x Inv-loop μ-loop
+add-x c = search needs
 
 mul-n : tie.Need-mul-n Inv-loop μ-loop
 mul-n c = search needs
@@ -53,8 +54,9 @@ put-pair-requires c κs =
     let t = c .before in
     let x = t .before .before .before .before .before .before .args in
     let q = x .t1 in
-    let i = t .before .before .before .before .loop .i in
-    let v = t .before .before .before .before .loop .inv in
+    let w = t .before .before .before .before .loop in
+    let i = w .x in
+    let v = w .inv in
     let l : length (q .nodes) ≡ nodeSlots = search (needs, unmapped) in
     let k : i + 1 < nodeSlots = omega arith in
     let h : i + 1 ≤ q .nodeCount = omega arith in
@@ -73,8 +75,9 @@ loop-again c =
     let t = c .before .before .before .before in
     let x = t .before .before .before .before .before .before .args in
     let q = x .t1 in
-    let i = t .before .before .before .before .loop .i in
-    let v = t .before .before .before .before .loop .inv in
+    let w = t .before .before .before .before .loop in
+    let i = w .x in
+    let v = w .inv in
     let l : length (q .nodes) ≡ nodeSlots = search (needs, unmapped) in
     let k : i + 1 < nodeSlots = omega arith in
     let h : i + 1 ≤ q .nodeCount = omega arith in
@@ -85,7 +88,8 @@ loop-again c =
       h,
       place-used q i e _ (v .1),
       omega arith,
-      p ∙ area-used q i e (x .area .now) _ _ _ (v .1) room (v .3) (ap (λ (n : Node). n .mark) (sym (read-is q (i + 1) l k))),
+      p ∙ area-used q i e (x .area .now) _ _ _ (v .1) room (v .3)
+          (ap (λ (n : Node). n .mark) (sym (read-is q (i + 1) l k))),
       ap length p ∙ simp length-set (v .4),
     )
 
@@ -96,7 +100,7 @@ loop-again-2 : tie.Need-loop-again-2 Inv-loop μ-loop
 loop-again-2 c =
     let x = c .before .before .before .before .before .before .args in
     let q = x .t1 in
-    let i = c .before .before .before .before .loop .i in
+    let i = c .before .before .before .before .loop .x in
     let v = c .before .before .before .before .loop .inv in
     let l : length (q .nodes) ≡ nodeSlots = search (needs, unmapped) in
     let k : i + 1 < nodeSlots = omega arith in
@@ -114,7 +118,7 @@ same-length c = c .before .loop .inv .4
 returns : tie.Need-returns Inv-loop μ-loop
 returns c =
     let x = c .before .before .before .args in
-    let e : c .before .loop .i ≡ x .t1 .nodeCount = omega arith in
+    let e : c .before .loop .x ≡ x .t1 .nodeCount = omega arith in
     c .before .loop .inv .3 ∙ ap (λ (n : ℕ). atFront (pairsTo (x .t1) n) (x .area .now)) e
 
 pub put-pairs-spec : {M : Type 1} → statement M
@@ -123,9 +127,9 @@ put-pairs-spec =
     (tie.spec
     Inv-loop
     μ-loop
-    cast-end
+    cast-last
     loop-holds
-    add-i
+    add-x
     mul-n
     element-copy-out-n
     is-used-requires
