@@ -3,7 +3,7 @@ ghost use mathlib.Core.Path.{_≡_};
 ghost use Prim.Native.Nat.{_≤_};
 ghost use lib.ListN.{length};
 ghost use Rattle.sheet_format.specs.Program.{refusalText, textOf, programPrints};
-ghost use Rattle.sheet_format.specs.Sheets.{atFront};
+ghost use Rattle.laws.specs.Front.{atFront};
 use crate::decimals::decimal_into;
 use sheet_format::SheetOutcome;
 use sheet_format::letters::LINE_FEED;
