@@ -1,10 +1,9 @@
--- Marks, stamps, uses and stages as numbers, there and back. Assumes nothing.
+-- Stamps, uses and stages as numbers, there and back. Assumes nothing.
 use mathlib.Core.Path.{_≡_, refl, _∙_, ap}
-use mathlib.Core.Bool.{Bool, true, false, _&&_}
-use Prim.Native.Nat.{ℕ, zero, suc, _≤_}
-use native.Mathlib.Omega.{arith}
-use lib.Dec.{eqb, leb}
-use borrow.Author.Tests.{eqb-true, eq-eqb, leb-true}
+use mathlib.Core.Bool.{true, false, _&&_}
+use Prim.Native.Nat.{ℕ}
+use lib.Dec.{eqb}
+use borrow.Author.Tests.{eqb-true, eq-eqb}
 use Rattle.laws.proofs.Counting.{and-left, and-right, and-both}
 use Rattle.record.specs.declared.nodes.Stamp.{Stamp}
 use Rattle.record.specs.declared.nodes.Stamp.the-variants as stamp

@@ -1,9 +1,8 @@
 -- One node and one processor as bytes, there and back. Assumes nothing.
 use mathlib.Core.Path.{_≡_, refl, _∙_, ap}
-use mathlib.Core.Bool.{true, _&&_}
+use mathlib.Core.Bool.{true}
 use mathlib.Core.List.{List, [], _∷_, _++_}
 use Prim.Native.Nat.{ℕ, _+_}
-use lib.Dec.{leb}
 use lib.ListN.{length, getD}
 use Rattle.laws.proofs.Counting.{and-left, and-right}
 use Rattle.record.specs.declared.nodes.Node.{Node}

@@ -32,7 +32,7 @@ use denote.Memory.{partAt}
 use denote.Builtin.{RefOf, SliceRefMutOf, u8}
 use denote.Ref.{RefT, ShrRef, now, ptr-vals, shr-tells}
 use denote.Slice.{sliceTy, sliceVal, slice-vals, MutSlice, Room, finally, mut-slice-tells}
-use denote.Signature.{Signature, Slot, plain}
+use denote.Signature.{Signature, plain}
 use denote.Steps.{looks, shuts, owned, peeks, heard, nothing}
 use denote.Struct.Steps.{spelt}
 use denote.Struct.Laws as LL

@@ -1,7 +1,7 @@
 -- Reads of the record's arrays as the checker has them, with a default of empty lists, and as the definitions have them; and what one
 -- more node or processor adds to the loops of check 21 and of Backlog. Assumes nothing.
 use mathlib.Core.Path.{_≡_, refl, sym, _∙_, ap}
-use mathlib.Core.Bool.{Bool, false, cond, _&&_}
+use mathlib.Core.Bool.{Bool, cond, _&&_}
 use mathlib.Core.List.{[]}
 use Prim.Native.Nat.{ℕ, _+_, _<_}
 use lib.ListN.{length, getD}

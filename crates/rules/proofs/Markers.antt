@@ -3,19 +3,17 @@
 -- use is marked by the processor that removes it. Assumes nothing.
 use mathlib.Core.Path.{_≡_, refl, sym, ap, _∙_}
 use mathlib.Core.Bool.{Bool, true, false, cond, _&&_, not, true≢false}
-use mathlib.Core.List.{List, [], _∷_, _++_, append-assoc}
+use mathlib.Core.List.{List, _++_, append-assoc}
 use Prim.Native.Nat.{ℕ, zero, suc, _+_, _-_, _*_, _≤_, _<_}
-use native.Mathlib.Numerals.{add-one}
 use native.Mathlib.Omega.{arith}
 use lib.Dec.{ltb, eqb}
-use lib.ListN.{length, getD, drop, List·getD-append}
+use lib.ListN.{length, getD, drop}
 use lib.Seq.{getD-append-add}
 use borrow.Author.Tests.{eq-eqb, eqb-true, ltb-true, lt-ltb, not-true}
-use Rattle.laws.specs.Every.{everyBelow}
 use Rattle.laws.specs.HowMany.{howMany}
 use Rattle.laws.proofs.Booleans.{cond-cases}
 use Rattle.laws.proofs.Counting.{and-left, and-right, every-of}
-use Rattle.laws.proofs.HowMany.{Passed, Paired, many-more, many-same, many-paired}
+use Rattle.laws.proofs.HowMany.{Passed, Paired, many-more, many-paired}
 use Rattle.record.specs.declared.queues.Queue.{Queue}
 use Rattle.record.specs.declared.stages.Job.the-variants as jobs
 use Rattle.record.specs.declared.stages.Stage.{Stage}
@@ -25,19 +23,17 @@ use Rattle.record.specs.Nodes.{isMarked}
 use Rattle.record.specs.Queues.{nodeAt}
 use Rattle.record_check.specs.Check.{valid}
 use Rattle.record_markers.specs.declared.listing.Listed.{Listed}
-use Rattle.record_markers.specs.declared.listing.Listed.the-variants as listing
 use Rattle.record_markers.specs.Markers.{markerByte, inUseAt, pairAt, pairsTo, usedCount, markersOf}
 use Rattle.record_markers.specs.Markers.{areaBy, areaAfter}
 use Rattle.record_markers.proofs.Pairs.{length-pairs}
-use Rattle.rules.specs.Book.{BookEntry, Open, nothing, inserting, walking, unlinking, Book}
-use Rattle.rules.specs.Book.{agrees, heldIn, isUnlinking, timesListed, deliverersListed}
+use Rattle.rules.specs.Book.{BookEntry, unlinking, Book}
+use Rattle.rules.specs.Book.{agrees, heldIn, isUnlinking, timesListed}
 use Rattle.rules.specs.Book.{feedMarkers}
-use Rattle.rules.specs.Demand3.{Delivering, MarkerIs}
+use Rattle.rules.specs.Demand3.{MarkerIs}
 use Rattle.rules.proofs.Backlog.{use-number, number-use}
 use Rattle.rules.proofs.Booked.{ticket-apart}
 use Rattle.rules.proofs.Choose.{used-number}
 use Rattle.rules.proofs.Concrete.{viewOf}
-use Rattle.rules.proofs.Inv.{Removes}
 use Rattle.rules.proofs.Rel.{opens}
 use Rattle.rules.proofs.Sound.{Sound}
 use Rattle.rules.proofs.StageKinds.{insert-kind, walk-kind, removal-kind}
@@ -86,10 +82,6 @@ module _ (q : Queue) (p : ℕ) where
   pair-times front rest k x l u =
       let e : 2 * (k + 1) - 1 ≡ length front + 1 = omega arith in
       rw (e, getD-append-add front (pairAt q x ++ rest) 1 0, u)
-
-  same-front : (front rest : List ℕ) (k : ℕ) → length front ≡ 2 * k → (i : ℕ) → 1 ≤ i → i ≤ k →
-      getD (front ++ rest) (2 * i - 1) 0 ≡ getD front (2 * i - 1) 0
-  same-front front rest k l i i≥ i≤ = List·getD-append front rest 0 (2 * i - 1) (omega arith)
 
   times : (n : ℕ) (rest : List ℕ) →
       timesListed (pairsTo q n ++ rest) (howMany (inUseAt q) n) p ≡ howMany tells n

@@ -10,7 +10,7 @@ use Rattle.laws.proofs.Arrays.{unmapped}
 use Rattle.laws.specs.Front.{atFront}
 use Rattle.laws.specs.HowMany.{howMany}
 use Rattle.record.specs.declared.nodes.Node.{Node}
-use Rattle.record.specs.Limits.{maxNodes, nodeSlots}
+use Rattle.record.specs.Limits.{nodeSlots}
 use Rattle.record_markers.specs.Markers.{inUseAt, pairsTo}
 use Rattle.record_markers.proofs.Filling.{read-is, used-is, room-used, place-used, area-used}
 use Rattle.record_markers.proofs.Filling.{count-unused, pairs-unused}

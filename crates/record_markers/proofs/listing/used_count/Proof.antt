@@ -1,13 +1,13 @@
 -- The loop has counted the nodes 1 to i.
-use mathlib.Core.Path.{_≡_, refl, sym, ap, _∙_}
+use mathlib.Core.Path.{_≡_, sym, ap, _∙_}
 use mathlib.Core.Bool.{true, false}
-use Prim.Native.Nat.{ℕ, _+_, _≤_, _<_, _-_}
+use Prim.Native.Nat.{_+_, _≤_, _<_, _-_}
 use native.Mathlib.Omega.{arith}
 use lib.ListN.{length}
 use borrow.Author.Needs.{needs}
 use Rattle.laws.proofs.Arrays.{unmapped}
 use Rattle.laws.specs.HowMany.{howMany}
-use Rattle.record.specs.Limits.{maxNodes, nodeSlots}
+use Rattle.record.specs.Limits.{nodeSlots}
 use Rattle.record_markers.specs.Markers.{inUseAt}
 use Rattle.record_markers.proofs.Filling.{used-is, count-used, count-unused}
 use Rattle.record_markers.proofs.listing.used_count.Statement.{statement}
