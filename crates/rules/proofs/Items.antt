@@ -55,6 +55,7 @@ use Rattle.rules.specs.Decide.{decide, searchStep, seekStep}
 use Rattle.rules.specs.Decide.{insertSearched, insertSought, insertStep}
 use Rattle.rules.specs.Decide.{removalSearched, removalSought, removalStep, deleteStep}
 use Rattle.rules.specs.Effects.{changed, nodeOf, applied, accepted}
+use Rattle.rules.proofs.Slots.{map-set}
 use Rattle.rules.specs.Items.{Renaming, renamedNode, renamed, renamedEntry, renamedAnswer}
 use Rattle.rules.specs.Items.{renamedCall, itemOf}
 use Rattle.rules.specs.Items.{zeroFor, CheckSeesNoItem, NoRuleSeesAnItem, ItemZeroGoesOn}
@@ -71,13 +72,6 @@ cond-pair {A} {B} g false false x y u v e h k = k
 
 cond-image : {A B : Type 0} (g : A → B) (t : Bool) (x y : A) → cond t (g x) (g y) ≡ g (cond t x y)
 cond-image {A} {B} g t x y = cond-pair g t t x y (g x) (g y) refl refl refl
-
-map-set :
-    {A : Type 0} (g : A → A) (l : List A) (k : ℕ) (v : A) →
-    set (map g l) k (g v) ≡ map g (set l k v)
-map-set {A} g [] k v = refl
-map-set {A} g (x ∷ xs) zero v = refl
-map-set {A} g (x ∷ xs) (suc k) v = ap (λ (r : List A). g x ∷ r) (map-set g xs k v)
 
 every-same : (f g : ℕ → Bool) (n : ℕ) → ((k : ℕ) → f k ≡ g k) → everyBelow f n ≡ everyBelow g n
 every-same f g n h = ap (λ (t : ℕ → Bool). everyBelow t n) (fun-ext h)
@@ -281,7 +275,7 @@ module _ (f : ℕ → ℕ) where
         ∙ changes l tail (p + 1) t e (nodeAt q x) in
         let nodes :
         applied (renamed f q) p (renamedDecision d) .nodes ≡ map g (applied q p d .nodes) =
-        rw (same-node e, new) (map-set g (q .nodes) x after) in
+        rw (same-node e, new) (sym (map-set g (q .nodes) x after)) in
         rw nodes refl
 
     valid-same : (q : Queue) → valid (renamed f q) ≡ valid q

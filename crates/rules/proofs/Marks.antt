@@ -4,8 +4,8 @@
 -- are all those of processor 0. Assumes nothing.
 use mathlib.Core.Path.{_≡_, refl, sym, ap, ap₂, _∙_, subst, fun-ext}
 use mathlib.Core.Bool.{Bool, true, false, cond, true≢false}
-use mathlib.Core.List.{List, [], _∷_, map, map-map}
-use Prim.Native.Nat.{ℕ, zero, suc, _+_, _*_}
+use mathlib.Core.List.{List, [], map, map-map}
+use Prim.Native.Nat.{ℕ, suc, _+_, _*_}
 use native.Mathlib.Omega.{arith}
 use lib.Dec.{ltb, leb, eqb}
 use lib.ListN.{length, set, List·getD-map}
@@ -62,7 +62,7 @@ use Rattle.rules.specs.Marks.{anonymousNode, anonymous}
 use Rattle.rules.specs.Runs.{Turn, calls, backlog, markers, stepBy, after}
 use Rattle.rules.specs.Runs.{answered, counted, listed}
 use Rattle.rules.proofs.Allowed.{of-call}
-use Rattle.rules.proofs.Slots.{set-either}
+use Rattle.rules.proofs.Slots.{set-either, map-set}
 
 -- what the mark of node x may be after the turn c
 data MarkAfter (q : Queue) (c : Turn) (x : ℕ) : ℕ → Type 0 where
@@ -268,14 +268,6 @@ cond-alike {A} {B} g true true x y u v e h k = h
 cond-alike {A} {B} g true false x y u v e h k = absurd (true≢false e)
 cond-alike {A} {B} g false true x y u v e h k = absurd (true≢false (sym e))
 cond-alike {A} {B} g false false x y u v e h k = k
-
--- the images of a list after a write
-map-set :
-    {A B : Type 0} (g : A → B) (l : List A) (k : ℕ) (v : A) →
-    map g (set l k v) ≡ set (map g l) k (g v)
-map-set {A} {B} g [] k v = refl
-map-set {A} {B} g (x ∷ xs) zero v = refl
-map-set {A} {B} g (x ∷ xs) (suc k) v = ap (λ (r : List B). g x ∷ r) (map-set g xs k v)
 
 -- an effect on a node leaves it as on the anonymous one, but for who set the mark
 module _ (l tail h t : ℕ) (n : Node) where
