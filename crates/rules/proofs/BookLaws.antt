@@ -131,7 +131,7 @@ module _ (flag : BookEntry → Bool) (t : ℕ) (answer-keeps : (l : BookEntry) (
     fed-begin begun (ans.Refused n) h = S
     fed-begin begun (ans.Began x) h = h x
     fed-begin begun ans.Moved h = tt
-    fed-begin begun ans.Waits h = tt
+    fed-begin begun (ans.Waits l) h = tt
     fed-begin begun ans.Empty h = tt
     fed-begin begun (ans.Did d e) h = tt
 
@@ -150,7 +150,7 @@ module _ (flag : BookEntry → Bool) (t : ℕ) (answer-keeps : (l : BookEntry) (
     fed-step p (ans.Refused n) = S
     fed-step p (ans.Began x) = tt
     fed-step p ans.Moved = step-moves (b .opened p)
-    fed-step p ans.Waits = step-moves (b .opened p)
+    fed-step p (ans.Waits h) = step-moves (b .opened p)
     fed-step p ans.Empty = delete-empties p (b .opened p)
     fed-step p (ans.Did d e) = fed-deed p e d
 

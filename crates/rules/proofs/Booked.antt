@@ -28,6 +28,7 @@ use Rattle.rules.specs.declared.decisions.Sought.{Sought}
 use Rattle.rules.specs.declared.decisions.Sought.the-variants as sght
 use Rattle.record.specs.Stages.{place}
 use Rattle.rules.specs.Decide.{insertSearched, insertSought, removalSearched, removalSought, seekStep, searchStep}
+use Rattle.rules.specs.Decide.{placeTried, nodeTried, ownTried}
 use Rattle.record.specs.Stages.{seekPart}
 use Rattle.laws.proofs.Booleans.{cond-elim}
 use Rattle.laws.specs.Update.{changedAt}
@@ -49,12 +50,12 @@ use Rattle.rules.proofs.Rel.{still-past}
 -- a decision of a seek is quiet where its effect is
 abbrev sought-quiet : Sought → Type 0
 sought-quiet (sght.Goes e k) = quiet e
-sought-quiet (sght.Waits k) = Unit {0}
+sought-quiet (sght.Waits k h) = Unit {0}
 sought-quiet (sght.Done a) = Unit {0}
 
 seek-quiet : (s : StepView) (k : Seek) → sought-quiet (seekStep s k)
 seek-quiet s (seek.Approach a) = cond-elim sought-quiet (s .nextBeforeKey) _ _ tt tt
-seek-quiet s (seek.Take a) = cond-elim sought-quiet (eqb (s .placeLock) 0) _ _ tt tt
+seek-quiet s (seek.Take a) = cond-elim (λ t. sought-quiet (placeTried a t)) (eqb (s .placeLock) 0) _ _ tt tt
 seek-quiet s (seek.Confirm a) = cond-elim sought-quiet (s .nextBeforeKey) _ _ tt tt
 seek-quiet s (seek.Release a b) = tt
 
@@ -74,13 +75,13 @@ kind-seek-delete job h (seek.Release a b) = refl
 quiet-insert-sought : (s : StepView) (j : Seek) (r : Sought) → sought-quiet r →
     Quiet (s .own) (stage.Insert (ins.Seek j)) (insertSought s r)
 quiet-insert-sought s j (sght.Goes e k) q = record { answer = tt; effect = q; own-same = refl; begin-same = λ t b. refl; kind-same = λ h. kind-seek-insert h k ∙ sym (kind-seek-insert h j); opens-same = λ t b. refl }
-quiet-insert-sought s j (sght.Waits k) q = record { answer = tt; effect = tt; own-same = refl; begin-same = λ t b. refl; kind-same = λ h. kind-seek-insert h k ∙ sym (kind-seek-insert h j); opens-same = λ t b. refl }
+quiet-insert-sought s j (sght.Waits k l) q = record { answer = tt; effect = tt; own-same = refl; begin-same = λ t b. refl; kind-same = λ h. kind-seek-insert h k ∙ sym (kind-seek-insert h j); opens-same = λ t b. refl }
 quiet-insert-sought s j (sght.Done a) q = record { answer = tt; effect = tt; own-same = refl; begin-same = λ t b. refl; kind-same = λ h. sym (kind-seek-insert h j); opens-same = λ t b. refl }
 
 quiet-delete-sought : (job : Job) (s : StepView) (j : Seek) (r : Sought) → sought-quiet r →
     Quiet (s .own) (stage.Removal job (rem.Seek j)) (removalSought job s r)
 quiet-delete-sought job s j (sght.Goes e k) q = record { answer = tt; effect = q; own-same = refl; begin-same = λ t b. refl; kind-same = λ h. kind-seek-delete job h k ∙ sym (kind-seek-delete job h j); opens-same = λ t b. refl }
-quiet-delete-sought job s j (sght.Waits k) q = record { answer = tt; effect = tt; own-same = refl; begin-same = λ t b. refl; kind-same = λ h. kind-seek-delete job h k ∙ sym (kind-seek-delete job h j); opens-same = λ t b. refl }
+quiet-delete-sought job s j (sght.Waits k l) q = record { answer = tt; effect = tt; own-same = refl; begin-same = λ t b. refl; kind-same = λ h. kind-seek-delete job h k ∙ sym (kind-seek-delete job h j); opens-same = λ t b. refl }
 quiet-delete-sought job s j (sght.Done a) q = record { answer = tt; effect = tt; own-same = refl; begin-same = λ t b. refl; kind-same = λ h. sym (kind-seek-delete job h j); opens-same = λ t b. refl }
 
 quiet-insert-searched : (s : StepView) (a : Place) (r : Searched) →
@@ -421,13 +422,55 @@ module _ (v : View) (u : ℕ → ℕ → ℕ) (I : Inv v u) (H : NodeHeld v) (ro
       quiet-step (stage.Removal job (rem.Search a)) e k _
       (quiet-delete-searched job (view v (v .pr p) (key v (v .pr p .own)) a) a
       (searchStep (view v (v .pr p) (key v (v .pr p .own)) a) a))
-  booked (stage.Removal job rem.HoldNode) e k = quiet-step (stage.Removal job rem.HoldNode) e k _ (cond-elim (Quiet (v .pr p .own) (stage.Removal job rem.HoldNode)) (eqb (v .nl (v .pr p .own)) 0) _ _ (record { answer = tt; effect = tt; own-same = refl; begin-same = λ t b. refl; kind-same = λ h. refl; opens-same = λ t b. refl }) (record { answer = tt; effect = tt; own-same = refl; begin-same = λ t b. refl; kind-same = λ h. refl; opens-same = λ t b. refl }))
+  booked (stage.Removal job rem.HoldNode) e k =
+      let s = view v (v .pr p) (key v (v .pr p .own)) (place 0 1) in
+      quiet-step (stage.Removal job rem.HoldNode) e k _
+      (cond-elim
+      (λ t. Quiet (v .pr p .own) (stage.Removal job rem.HoldNode) (nodeTried job s t))
+      (eqb (v .nl (v .pr p .own)) 0) _ _
+      (record {
+        answer = tt;
+        effect = tt;
+        own-same = refl;
+        begin-same = λ t b. refl;
+        kind-same = λ h. refl;
+        opens-same = λ t b. refl;
+      })
+      (record {
+        answer = tt;
+        effect = tt;
+        own-same = refl;
+        begin-same = λ t b. refl;
+        kind-same = λ h. refl;
+        opens-same = λ t b. refl;
+      }))
   booked (stage.Removal job (rem.Seek j)) e k =
       quiet-step (stage.Removal job (rem.Seek j)) e k _
       (quiet-delete-sought job (view v (v .pr p) (key v (v .pr p .own)) (seekPart j .place)) j
       (seekStep (view v (v .pr p) (key v (v .pr p .own)) (seekPart j .place)) j)
       (seek-quiet (view v (v .pr p) (key v (v .pr p .own)) (seekPart j .place)) j))
-  booked (stage.Removal job (rem.HoldOwn a)) e k = quiet-step (stage.Removal job (rem.HoldOwn a)) e k _ (cond-elim (Quiet (v .pr p .own) (stage.Removal job (rem.HoldOwn a))) (eqb (v .lk (v .pr p .own) (a .level)) 0) _ _ (record { answer = tt; effect = tt; own-same = refl; begin-same = λ t b. refl; kind-same = λ h. refl; opens-same = λ t b. refl }) (record { answer = tt; effect = tt; own-same = refl; begin-same = λ t b. refl; kind-same = λ h. refl; opens-same = λ t b. refl }))
+  booked (stage.Removal job (rem.HoldOwn a)) e k =
+      let s = view v (v .pr p) (key v (v .pr p .own)) a in
+      quiet-step (stage.Removal job (rem.HoldOwn a)) e k _
+      (cond-elim
+      (λ t. Quiet (v .pr p .own) (stage.Removal job (rem.HoldOwn a)) (ownTried job s a t))
+      (eqb (v .lk (v .pr p .own) (a .level)) 0) _ _
+      (record {
+        answer = tt;
+        effect = tt;
+        own-same = refl;
+        begin-same = λ t b. refl;
+        kind-same = λ h. refl;
+        opens-same = λ t b. refl;
+      })
+      (record {
+        answer = tt;
+        effect = tt;
+        own-same = refl;
+        begin-same = λ t b. refl;
+        kind-same = λ h. refl;
+        opens-same = λ t b. refl;
+      }))
   booked (stage.Removal job (rem.Unlink a)) e k = quiet-step (stage.Removal job (rem.Unlink a)) e k _ (record { answer = tt; effect = tt; own-same = refl; begin-same = λ t b. refl; kind-same = λ h. refl; opens-same = λ t b. refl })
   booked (stage.Removal job (rem.LeadBack a)) e k = quiet-step (stage.Removal job (rem.LeadBack a)) e k _ (record { answer = tt; effect = tt; own-same = refl; begin-same = λ t b. refl; kind-same = λ h. refl; opens-same = λ t b. refl })
   booked (stage.Removal job (rem.FreeOwn a)) e k = quiet-step (stage.Removal job (rem.FreeOwn a)) e k _ (record { answer = tt; effect = tt; own-same = refl; begin-same = λ t b. refl; kind-same = λ h. refl; opens-same = λ t b. refl })

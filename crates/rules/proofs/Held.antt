@@ -29,6 +29,7 @@ use Rattle.rules.specs.declared.decisions.Sought.the-variants as sght
 use Rattle.record.specs.Stages.{place}
 use Rattle.rules.specs.Locks.{Lock, level, node}
 use Rattle.rules.specs.Decide.{insertSearched, insertSought, removalSearched, removalSought, seekStep, searchStep}
+use Rattle.rules.specs.Decide.{placeTried, nodeTried, ownTried}
 use Rattle.laws.proofs.Updating.{changed-same, changed-other}
 use Rattle.rules.proofs.Put.{put, put-at, Where, here, away}
 use Rattle.laws.proofs.Booleans.{cond-elim}
@@ -211,8 +212,8 @@ removal-searched job h s a (srch.Done b) = (record { keeps = λ h l H. held-by (
 insert-seek : (h : ℕ) (s : StepView) (k : Seek) → Passes (info h (stage.Insert (ins.Seek k))) (s .own) (insertSought s (seekStep s k))
 insert-seek h s (seek.Approach a) = cond-elim (λ r. Passes (info h (stage.Insert (ins.Seek (seek.Approach a)))) (s .own) (insertSought s r)) (s .nextBeforeKey)
     (sght.Goes eff.Keep (seek.Approach (place (s .next) (a .level)))) (sght.Goes eff.Keep (seek.Take a)) (record { keeps = λ h l H. held-by (λ x e. absurd (omega arith)) (λ x e. absurd (omega arith)) (λ x e. inr (by-node refl e)) H; gains = (λ h l t. absurd t) }) (record { keeps = λ h l H. held-by (λ x e. absurd (omega arith)) (λ x e. absurd (omega arith)) (λ x e. inr (by-node refl e)) H; gains = (λ h l t. absurd t) })
-insert-seek h s (seek.Take a) = cond-elim (λ r. Passes (info h (stage.Insert (ins.Seek (seek.Take a)))) (s .own) (insertSought s r)) (eqb (s .placeLock) 0)
-    (sght.Goes (eff.HoldLevel a) (seek.Confirm a)) (sght.Waits (seek.Take a)) (record { keeps = λ h l H. held-by (λ x e. absurd (omega arith)) (λ x e. absurd (omega arith)) (λ x e. inr (by-node refl e)) H; gains = (λ h l t. by-place refl t) }) (record { keeps = λ h l H. held-by (λ x e. absurd (omega arith)) (λ x e. absurd (omega arith)) (λ x e. inr (by-node refl e)) H; gains = (λ h l t. absurd t) })
+insert-seek h s (seek.Take a) = cond-elim (λ t. Passes (info h (stage.Insert (ins.Seek (seek.Take a)))) (s .own) (insertSought s (placeTried a t))) (eqb (s .placeLock) 0)
+    _ _ (record { keeps = λ h l H. held-by (λ x e. absurd (omega arith)) (λ x e. absurd (omega arith)) (λ x e. inr (by-node refl e)) H; gains = (λ h l t. by-place refl t) }) (record { keeps = λ h l H. held-by (λ x e. absurd (omega arith)) (λ x e. absurd (omega arith)) (λ x e. inr (by-node refl e)) H; gains = (λ h l t. absurd t) })
 insert-seek h s (seek.Confirm a) = cond-elim (λ r. Passes (info h (stage.Insert (ins.Seek (seek.Confirm a)))) (s .own) (insertSought s r)) (s .nextBeforeKey)
     (sght.Goes eff.Keep (seek.Release a (s .next))) (sght.Done a) (record { keeps = λ h l H. held-by (λ x e. inr (by-place refl e)) (λ x e. absurd (omega arith)) (λ x e. inr (by-node refl e)) H; gains = (λ h l t. absurd t) }) (record { keeps = λ h l H. held-by (λ x e. inr (by-place refl e)) (λ x e. absurd (omega arith)) (λ x e. inr (by-node refl e)) H; gains = (λ h l t. absurd t) })
 insert-seek h s (seek.Release a b) = (record { keeps = λ h l H. held-by (λ x e. inl e) (λ x e. absurd (omega arith)) (λ x e. inr (by-node refl e)) H; gains = (λ h l t. absurd t) })
@@ -224,9 +225,9 @@ removal-seek job h s (seek.Approach a) =
     (removalSought job s r)) (s .nextBeforeKey)
     (sght.Goes eff.Keep (seek.Approach (place (s .next) (a .level)))) (sght.Goes eff.Keep (seek.Take a)) (record { keeps = λ h l H. held-by (λ x e. absurd (omega arith)) (λ x e. absurd (omega arith)) (λ x e. inr (by-node refl e)) H; gains = (λ h l t. absurd t) }) (record { keeps = λ h l H. held-by (λ x e. absurd (omega arith)) (λ x e. absurd (omega arith)) (λ x e. inr (by-node refl e)) H; gains = (λ h l t. absurd t) })
 removal-seek job h s (seek.Take a) =
-    cond-elim (λ r. Passes (info h (stage.Removal job (rem.Seek (seek.Take a)))) (s .own)
-    (removalSought job s r)) (eqb (s .placeLock) 0)
-    (sght.Goes (eff.HoldLevel a) (seek.Confirm a)) (sght.Waits (seek.Take a)) (record { keeps = λ h l H. held-by (λ x e. absurd (omega arith)) (λ x e. absurd (omega arith)) (λ x e. inr (by-node refl e)) H; gains = (λ h l t. by-place refl t) }) (record { keeps = λ h l H. held-by (λ x e. absurd (omega arith)) (λ x e. absurd (omega arith)) (λ x e. inr (by-node refl e)) H; gains = (λ h l t. absurd t) })
+    cond-elim (λ t. Passes (info h (stage.Removal job (rem.Seek (seek.Take a)))) (s .own)
+    (removalSought job s (placeTried a t))) (eqb (s .placeLock) 0)
+    _ _ (record { keeps = λ h l H. held-by (λ x e. absurd (omega arith)) (λ x e. absurd (omega arith)) (λ x e. inr (by-node refl e)) H; gains = (λ h l t. by-place refl t) }) (record { keeps = λ h l H. held-by (λ x e. absurd (omega arith)) (λ x e. absurd (omega arith)) (λ x e. inr (by-node refl e)) H; gains = (λ h l t. absurd t) })
 removal-seek job h s (seek.Confirm a) =
     cond-elim (λ r. Passes (info h (stage.Removal job (rem.Seek (seek.Confirm a)))) (s .own)
     (removalSought job s r)) (s .nextBeforeKey)
@@ -253,14 +254,16 @@ passes v p h (stage.Removal job (rem.Search a)) =
     removal-searched job h (view v (v .pr p) (key v (v .pr p .own)) a) a
     (searchStep (view v (v .pr p) (key v (v .pr p .own)) a) a)
 passes v p h (stage.Removal job rem.HoldNode) =
-    cond-elim (Passes (info h (stage.Removal job rem.HoldNode)) (v .pr p .own))
-    (eqb (v .nl (v .pr p .own)) 0) _ _
+    let s = view v (v .pr p) (key v (v .pr p .own)) (place 0 1) in
+    cond-elim (λ t. Passes (info h (stage.Removal job rem.HoldNode)) (v .pr p .own)
+    (nodeTried job s t)) (eqb (v .nl (v .pr p .own)) 0) _ _
     (record { keeps = λ h l H. held-by (λ x e. absurd (omega arith)) (λ x e. absurd (omega arith)) (λ x e. absurd (omega arith)) H; gains = (λ h l t. by-node refl t) }) (record { keeps = λ h l H. held-by (λ x e. absurd (omega arith)) (λ x e. absurd (omega arith)) (λ x e. absurd (omega arith)) H; gains = (λ h l t. absurd t) })
 passes v p h (stage.Removal job (rem.Seek k)) =
     removal-seek job h (view v (v .pr p) (key v (v .pr p .own)) (seekPart k .place)) k
 passes v p h (stage.Removal job (rem.HoldOwn a)) =
-    cond-elim (Passes (info h (stage.Removal job (rem.HoldOwn a))) (v .pr p .own))
-    (eqb (v .lk (v .pr p .own) (a .level)) 0) _ _
+    let s = view v (v .pr p) (key v (v .pr p .own)) a in
+    cond-elim (λ t. Passes (info h (stage.Removal job (rem.HoldOwn a))) (v .pr p .own)
+    (ownTried job s a t)) (eqb (v .lk (v .pr p .own) (a .level)) 0) _ _
     (record { keeps = λ h l H. held-by (λ x e. inr (by-place refl e)) (λ x e. absurd (omega arith)) (λ x e. inr (by-node refl e)) H; gains = (λ h l t. by-own refl t) }) (record { keeps = λ h l H. held-by (λ x e. inr (by-place refl e)) (λ x e. absurd (omega arith)) (λ x e. inr (by-node refl e)) H; gains = (λ h l t. absurd t) })
 passes v p h (stage.Removal job (rem.Unlink a)) = (record { keeps = λ h l H. held-by (λ x e. inr (by-place refl e)) (λ x e. inr (by-own refl e)) (λ x e. inr (by-node refl e)) H; gains = (λ h l t. absurd t) })
 passes v p h (stage.Removal job (rem.LeadBack a)) = (record { keeps = λ h l H. held-by (λ x e. inr (by-place refl e)) (λ x e. inr (by-own refl e)) (λ x e. inr (by-node refl e)) H; gains = (λ h l t. absurd t) })

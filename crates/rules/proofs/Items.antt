@@ -43,6 +43,8 @@ use Rattle.rules.specs.declared.decisions.Decision.{Decision}
 use Rattle.rules.specs.declared.decisions.Searched.{Searched}
 use Rattle.rules.specs.declared.decisions.Searched.the-variants as srch
 use Rattle.rules.specs.declared.decisions.StepView.{StepView}
+use Rattle.rules.specs.declared.decisions.Attempt.{Attempt}
+use Rattle.rules.specs.declared.decisions.Attempt.the-variants as try
 use Rattle.rules.specs.declared.decisions.Sought.{Sought}
 use Rattle.rules.specs.declared.decisions.Sought.the-variants as sght
 use Rattle.rules.specs.Answers.{refused}
@@ -54,6 +56,7 @@ use Rattle.rules.specs.Choice.{chosen}
 use Rattle.rules.specs.Decide.{decide, searchStep, seekStep}
 use Rattle.rules.specs.Decide.{insertSearched, insertSought, insertStep}
 use Rattle.rules.specs.Decide.{removalSearched, removalSought, removalStep, deleteStep}
+use Rattle.rules.specs.Decide.{attempt, placeTried, nodeTried, ownTried}
 use Rattle.rules.specs.Effects.{changed, nodeOf, applied, accepted}
 use Rattle.rules.proofs.Slots.{map-set}
 use Rattle.rules.specs.Items.{Renaming, renamedNode, renamed, renamedEntry, renamedAnswer}
@@ -124,13 +127,17 @@ module _ (f : ℕ → ℕ) where
 
   abbrev renamedSought : Sought → Sought
   renamedSought (sght.Goes e k) = sght.Goes (renamedEffect e) k
-  renamedSought (sght.Waits k) = sght.Waits k
+  renamedSought (sght.Waits k h) = sght.Waits k h
   renamedSought (sght.Done a) = sght.Done a
 
   -- what is decided
+  place-tried : (a : Place) (t : Attempt) → placeTried a t ≡ renamedSought (placeTried a t)
+  place-tried a try.Taken = refl
+  place-tried a (try.HeldBy h) = refl
+
   seeking : (s : StepView) (k : Seek) → seekStep (renamedView s) k ≡ renamedSought (seekStep s k)
   seeking s (seek.Approach a) = cond-image renamedSought (s .nextBeforeKey) _ _
-  seeking s (seek.Take a) = cond-image renamedSought (eqb (s .placeLock) 0) _ _
+  seeking s (seek.Take a) = place-tried a (attempt (s .placeLock))
   seeking s (seek.Confirm a) = cond-image renamedSought (s .nextBeforeKey) _ _
   seeking s (seek.Release a b) = refl
 
@@ -145,7 +152,7 @@ module _ (f : ℕ → ℕ) where
       (s : StepView) (r : Sought) →
       insertSought (renamedView s) (renamedSought r) ≡ renamedDecision (insertSought s r)
   insert-sought s (sght.Goes e k) = refl
-  insert-sought s (sght.Waits k) = refl
+  insert-sought s (sght.Waits k h) = refl
   insert-sought s (sght.Done a) = refl
 
   insert-decides :
@@ -170,17 +177,29 @@ module _ (f : ℕ → ℕ) where
       (job : Job) (s : StepView) (r : Sought) →
       removalSought job (renamedView s) (renamedSought r) ≡ renamedDecision (removalSought job s r)
   removal-sought job s (sght.Goes e k) = refl
-  removal-sought job s (sght.Waits k) = refl
+  removal-sought job s (sght.Waits k h) = refl
   removal-sought job s (sght.Done a) = refl
+
+  node-tried :
+      (job : Job) (s : StepView) (t : Attempt) →
+      nodeTried job (renamedView s) t ≡ renamedDecision (nodeTried job s t)
+  node-tried job s try.Taken = refl
+  node-tried job s (try.HeldBy h) = refl
+
+  own-tried :
+      (job : Job) (s : StepView) (a : Place) (t : Attempt) →
+      ownTried job (renamedView s) a t ≡ renamedDecision (ownTried job s a t)
+  own-tried job s a try.Taken = refl
+  own-tried job s a (try.HeldBy h) = refl
 
   removal-decides :
       (job : Job) (s : StepView) (r : Removal) →
       removalStep job (renamedView s) r ≡ renamedDecision (removalStep job s r)
   removal-decides job s (rem.Search a) = removal-searched job s a (searchStep s a)
-  removal-decides job s rem.HoldNode = cond-image renamedDecision (eqb (s .ownNodeLock) 0) _ _
+  removal-decides job s rem.HoldNode = node-tried job s (attempt (s .ownNodeLock))
   removal-decides job s (rem.Seek k) =
       ap (removalSought job (renamedView s)) (seeking s k) ∙ removal-sought job s (seekStep s k)
-  removal-decides job s (rem.HoldOwn a) = cond-image renamedDecision (eqb (s .ownLock) 0) _ _
+  removal-decides job s (rem.HoldOwn a) = own-tried job s a (attempt (s .ownLock))
   removal-decides job s (rem.Unlink a) = refl
   removal-decides job s (rem.LeadBack a) = refl
   removal-decides job s (rem.FreeOwn a) = refl

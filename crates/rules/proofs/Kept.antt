@@ -26,7 +26,7 @@ use Rattle.rules.proofs.View.{View, Info, info, walkInfo, key, tail, la
 use Rattle.rules.proofs.Inv.{Inv, NodeHeld}
 use Rattle.rules.proofs.Machine.{decision, carried, view}
 use Rattle.rules.specs.Decide.{moved, marking, insertSearched, insertSought, removalSearched}
-use Rattle.rules.specs.Decide.{removalSought}
+use Rattle.rules.specs.Decide.{removalSought, placeTried, nodeTried, ownTried}
 use Rattle.rules.proofs.Move.{busy-at, approach-ahead, approach-take, take-waits, take-confirm, confirm-release, release-take}
 use Rattle.rules.proofs.Search.{search-ahead, search-down}
 use Rattle.rules.proofs.InsertSteps
@@ -105,8 +105,8 @@ module _ (v : View) (u : ℕ → ℕ → ℕ) (I : Inv v u) (H : NodeHeld v) (ro
       (omega arith) (λ h. omega arith) (own .0) (own .1) refl a e)
   insert-seek (seek.Take a) e =
       let own = insert-own (ins.Seek (seek.Take a)) e (omega arith) refl in
-      cond-cases (λ r. Inv
-      (carried v p (insertSought (view v (v .pr p) (key v (v .pr p .own)) a) r)) u)
+      cond-cases (λ t. Inv
+      (carried v p (insertSought (view v (v .pr p) (key v (v .pr p .own)) a) (placeTried a t))) u)
       (eqb (v .lk (a .node) (a .level)) 0) _ _
       (λ x. take-confirm v u I room p (λ b. stage.Insert (ins.Seek b)) 1 1 0 (λ h b. refl)
       (omega arith) (λ h. omega arith) (own .0) (own .1) refl a e (eqb-true _ _ x))
@@ -154,8 +154,9 @@ module _ (v : View) (u : ℕ → ℕ → ℕ) (I : Inv v u) (H : NodeHeld v) (ro
       (omega arith) (λ h. omega arith) (own .0) (own .1) refl a e)
   delete-seek job (seek.Take a) e =
       let own = remove-own job (rem.Seek (seek.Take a)) e (omega arith) refl in
-      cond-cases (λ r. Inv
-      (carried v p (removalSought job (view v (v .pr p) (key v (v .pr p .own)) a) r)) u)
+      cond-cases (λ t. Inv
+      (carried v p (removalSought job (view v (v .pr p) (key v (v .pr p .own)) a)
+      (placeTried a t))) u)
       (eqb (v .lk (a .node) (a .level)) 0) _ _
       (λ x. take-confirm v u I room p (λ b. stage.Removal job (rem.Seek b)) 3 0 1 (λ h b. refl)
       (omega arith) (λ h. omega arith) (own .0) (own .1) refl a e (eqb-true _ _ x))
@@ -209,14 +210,18 @@ module _ (v : View) (u : ℕ → ℕ → ℕ) (I : Inv v u) (H : NodeHeld v) (ro
 
   hold-node : (job : Job) → v .pr p .stage ≡ stage.Removal job rem.HoldNode →
       Kept (stage.Removal job rem.HoldNode)
-  hold-node job e = cond-cases (λ d. Inv (carried v p d) u) (eqb (v .nl (v .pr p .own)) 0) _ _
+  hold-node job e =
+      let s = view v (v .pr p) (key v (v .pr p .own)) (place 0 1) in
+      cond-cases (λ t. Inv (carried v p (nodeTried job s t)) u) (eqb (v .nl (v .pr p .own)) 0) _ _
       (λ x. RemovalSteps.node-held v u I room p job e (eqb-true _ _ x))
       (λ x. RemovalSteps.node-waits v u I room p job e)
 
   hold-own : (job : Job) (a : Place) → v .pr p .stage ≡ stage.Removal job (rem.HoldOwn a) →
       Kept (stage.Removal job (rem.HoldOwn a))
   hold-own job a e =
-      cond-cases (λ d. Inv (carried v p d) u) (eqb (v .lk (v .pr p .own) (a .level)) 0) _ _
+      let s = view v (v .pr p) (key v (v .pr p .own)) a in
+      cond-cases (λ t. Inv (carried v p (ownTried job s a t)) u)
+      (eqb (v .lk (v .pr p .own) (a .level)) 0) _ _
       (λ x. RemovalSteps.own-held v u I room p job a e (eqb-true _ _ x))
       (λ x. RemovalSteps.own-waits v u I room p job a e)
 

@@ -56,6 +56,7 @@ use Rattle.rules.specs.Choice.{stateOf, chosen}
 use Rattle.rules.specs.Decide.{decide, searchStep, seekStep}
 use Rattle.rules.specs.Decide.{insertSearched, insertSought, insertStep}
 use Rattle.rules.specs.Decide.{removalSearched, removalSought, removalStep, deleteStep}
+use Rattle.rules.specs.Decide.{placeTried, nodeTried, ownTried}
 use Rattle.rules.specs.Effects.{changed, nodeOf, applied, accepted}
 use Rattle.rules.specs.Marks.{Takes, SetMarkStays, NewMarkIsTheCallers, NoAnswerSeesWho}
 use Rattle.rules.specs.Marks.{anonymousNode, anonymous}
@@ -98,12 +99,12 @@ module _ (q : Queue) where
 
   abbrev SoughtSpares : Sought → Type 0
   SoughtSpares (sght.Goes e k) = Spares q e
-  SoughtSpares (sght.Waits k) = Unit {0}
+  SoughtSpares (sght.Waits k h) = Unit {0}
   SoughtSpares (sght.Done a) = Unit {0}
 
   seek-spares : (s : StepView) (k : Seek) → SoughtSpares (seekStep s k)
   seek-spares s (seek.Approach a) = cond-elim SoughtSpares (s .nextBeforeKey) _ _ tt tt
-  seek-spares s (seek.Take a) = cond-elim SoughtSpares (eqb (s .placeLock) 0) _ _ tt tt
+  seek-spares s (seek.Take a) = cond-elim (λ t. SoughtSpares (placeTried a t)) (eqb (s .placeLock) 0) _ _ tt tt
   seek-spares s (seek.Confirm a) = cond-elim SoughtSpares (s .nextBeforeKey) _ _ tt tt
   seek-spares s (seek.Release a b) = tt
 
@@ -114,7 +115,7 @@ module _ (q : Queue) where
 
   insert-sought : (s : StepView) (r : Sought) → SoughtSpares r → Sparing (insertSought s r)
   insert-sought s (sght.Goes e k) h = h
-  insert-sought s (sght.Waits k) h = tt
+  insert-sought s (sght.Waits k l) h = tt
   insert-sought s (sght.Done a) h = tt
 
   insert-spares : (s : StepView) (i : Insert) → Sparing (insertStep s i)
@@ -135,14 +136,16 @@ module _ (q : Queue) where
   removal-sought :
       (job : Job) (s : StepView) (r : Sought) → SoughtSpares r → Sparing (removalSought job s r)
   removal-sought job s (sght.Goes e k) h = h
-  removal-sought job s (sght.Waits k) h = tt
+  removal-sought job s (sght.Waits k l) h = tt
   removal-sought job s (sght.Done a) h = tt
 
   removal-spares : (job : Job) (s : StepView) (r : Removal) → Sparing (removalStep job s r)
   removal-spares job s (rem.Search a) = removal-searched job s a (searchStep s a)
-  removal-spares job s rem.HoldNode = cond-elim Sparing (eqb (s .ownNodeLock) 0) _ _ tt tt
+  removal-spares job s rem.HoldNode = 
+      cond-elim (λ t. Sparing (nodeTried job s t)) (eqb (s .ownNodeLock) 0) _ _ tt tt
   removal-spares job s (rem.Seek k) = removal-sought job s (seekStep s k) (seek-spares s k)
-  removal-spares job s (rem.HoldOwn a) = cond-elim Sparing (eqb (s .ownLock) 0) _ _ tt tt
+  removal-spares job s (rem.HoldOwn a) = 
+      cond-elim (λ t. Sparing (ownTried job s a t)) (eqb (s .ownLock) 0) _ _ tt tt
   removal-spares job s (rem.Unlink a) = tt
   removal-spares job s (rem.LeadBack a) = tt
   removal-spares job s (rem.FreeOwn a) = tt

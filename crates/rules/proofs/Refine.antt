@@ -39,6 +39,7 @@ use Rattle.rules.specs.declared.decisions.Sought.{Sought}
 use Rattle.rules.specs.declared.decisions.Sought.the-variants as sght
 use Rattle.record.specs.Stages.{place}
 use Rattle.rules.specs.Decide.{insertSearched, insertSought, removalSearched, removalSought, seekStep, searchStep, decide}
+use Rattle.rules.specs.Decide.{placeTried, nodeTried, ownTried}
 use Rattle.rules.specs.Calls.{readingPlace}
 use Rattle.record.specs.Stages.{seekPart}
 use Rattle.rules.specs.Effects.{nodeOf, changed, beginAfter, processorAfter, savedAfter as savedList}
@@ -207,25 +208,25 @@ reach-delete-searched job N s a (srch.Done b) l h =
 
 abbrev sought-reaches : ℕ → Sought → Type 0
 sought-reaches N (sght.Goes e k) = reach N e × due-small e
-sought-reaches N (sght.Waits k) = Unit {0}
+sought-reaches N (sght.Waits k h) = Unit {0}
 sought-reaches N (sght.Done a) = Unit {0}
 
 seek-reaches : (N : ℕ) (s : StepView) (k : Seek) → seekPart k .place .node ≤ N → 1 ≤ seekPart k .place .level → seekPart k .place .level ≤ 8 → sought-reaches N (seekStep s k)
 seek-reaches N s (seek.Approach a) n l h = cond-elim (sought-reaches N) (s .nextBeforeKey) (sght.Goes eff.Keep (seek.Approach (place (s .next) (a .level)))) (sght.Goes eff.Keep (seek.Take a)) (tt, tt) (tt, tt)
-seek-reaches N s (seek.Take a) n l h = cond-elim (sought-reaches N) (eqb (s .placeLock) 0) (sght.Goes (eff.HoldLevel a) (seek.Confirm a)) (sght.Waits (seek.Take a)) ((n, l, h), tt) tt
+seek-reaches N s (seek.Take a) n l h = cond-elim (λ t. sought-reaches N (placeTried a t)) (eqb (s .placeLock) 0) _ _ ((n, l, h), tt) tt
 seek-reaches N s (seek.Confirm a) n l h = cond-elim (sought-reaches N) (s .nextBeforeKey) (sght.Goes eff.Keep (seek.Release a (s .next))) (sght.Done a) (tt, tt) tt
 seek-reaches N s (seek.Release a b) n l h = ((n, l, h), tt)
 
 reach-insert-sought : (N : ℕ) (s : StepView) (r : Sought) → sought-reaches N r → Reach N (insertSought s r)
 reach-insert-sought N s (sght.Goes e k) q = record { effect = q .0; saves = tt; due-small = q .1 }
-reach-insert-sought N s (sght.Waits k) q = record { effect = tt; saves = tt; due-small = tt }
+reach-insert-sought N s (sght.Waits k h) q = record { effect = tt; saves = tt; due-small = tt }
 reach-insert-sought N s (sght.Done a) q = record { effect = tt; saves = tt; due-small = tt }
 
 reach-delete-sought : (job : Job) (N : ℕ) (s : StepView) (r : Sought) → sought-reaches N r →
     Reach N (removalSought job s r)
 reach-delete-sought job N s (sght.Goes e k) q =
     record { effect = q .0; saves = tt; due-small = q .1 }
-reach-delete-sought job N s (sght.Waits k) q = record { effect = tt; saves = tt; due-small = tt }
+reach-delete-sought job N s (sght.Waits k h) q = record { effect = tt; saves = tt; due-small = tt }
 reach-delete-sought job N s (sght.Done a) q = record { effect = tt; saves = tt; due-small = tt }
 
 module _ (v : View) (u : ℕ → ℕ → ℕ) (I : Inv v u) (p : ℕ) where
@@ -270,7 +271,8 @@ module _ (v : View) (u : ℕ → ℕ → ℕ) (I : Inv v u) (p : ℕ) where
       reach-delete-searched job N (view v (v .pr p) (key v (v .pr p .own)) a) a
       (searchStep (view v (v .pr p) (key v (v .pr p .own)) a) a) (A .1) (A .2)
   reaches (stage.Removal job rem.HoldNode) e k =
-      cond-elim (Reach N) (eqb (v .nl (v .pr p .own)) 0) _ _
+      let s = view v (v .pr p) (key v (v .pr p .own)) (place 0 1) in
+      cond-elim (λ t. Reach N (nodeTried job s t)) (eqb (v .nl (v .pr p .own)) 0) _ _
       (record { effect = rem-own job _ e k refl; saves = tt; due-small = tt })
       (record { effect = tt; saves = tt; due-small = tt })
   reaches (stage.Removal job (rem.Seek j)) e k = let A = at-place _ e k in
@@ -278,8 +280,10 @@ module _ (v : View) (u : ℕ → ℕ → ℕ) (I : Inv v u) (p : ℕ) where
       (seekStep (view v (v .pr p) (key v (v .pr p .own)) (seekPart j .place)) j)
       (seek-reaches N (view v (v .pr p) (key v (v .pr p .own)) (seekPart j .place)) j (A .0)
       (A .1) (A .2))
-  reaches (stage.Removal job (rem.HoldOwn a)) e k = let A = at-place _ e k in
-      cond-elim (Reach N) (eqb (v .lk (v .pr p .own) (a .level)) 0) _ _
+  reaches (stage.Removal job (rem.HoldOwn a)) e k =
+      let A = at-place _ e k in
+      let s = view v (v .pr p) (key v (v .pr p .own)) a in
+      cond-elim (λ t. Reach N (ownTried job s a t)) (eqb (v .lk (v .pr p .own) (a .level)) 0) _ _
       (record { effect = (rem-own job _ e k refl .1, A .1, A .2); saves = tt; due-small = tt })
       (record { effect = tt; saves = tt; due-small = tt })
   reaches (stage.Removal job (rem.Unlink a)) e k = let A = at-place _ e k in

@@ -90,7 +90,7 @@ abbrev pub moving : Answer → Type 0
 moving (ans.Refused n) = ⊥
 moving (ans.Began t) = ⊥
 moving ans.Moved = Unit {0}
-moving ans.Waits = Unit {0}
+moving (ans.Waits h) = Unit {0}
 moving ans.Empty = ⊥
 moving (ans.Did d e) = ⊥
 
@@ -192,7 +192,7 @@ fed-moving : (b : Book) (p h : ℕ) (k : Stage) (T t : ℕ) → 1 ≤ info h k .
 fed-moving b p h k T t k≥ e (ans.Refused n) m = absurd m
 fed-moving b p h k T t k≥ e (ans.Began n) m = absurd m
 fed-moving b p h k T t k≥ e ans.Moved m = rw e (moves-busy b h k T t k≥)
-fed-moving b p h k T t k≥ e ans.Waits m = rw e (moves-busy b h k T t k≥)
+fed-moving b p h k T t k≥ e (ans.Waits l) m = rw e (moves-busy b h k T t k≥)
 fed-moving b p h k T t k≥ e ans.Empty m = absurd m
 fed-moving b p h k T t k≥ e (ans.Did d x) m = absurd m
 

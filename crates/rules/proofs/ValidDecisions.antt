@@ -168,8 +168,10 @@ module _ (s : Sizes) (levels : 1 ≤ s .levelCount) where
   moved-valid : (v : StepView) (e : Effect) (g : Stage) → ValidEffect s e → ValidCarried s (carried g) (v .own) → ValidDecision s (Decide.moved v e g)
   moved-valid v e g E G = record { effect = E; change = tt; carries = G }
 
-  waits-valid : (v : StepView) (g : Stage) → ValidCarried s (carried g) (v .own) → ValidDecision s (Decide.waits v g)
-  waits-valid v g G = record { effect = tt; change = tt; carries = G }
+  waits-valid :
+      (v : StepView) (g : Stage) (h : ℕ) → ValidCarried s (carried g) (v .own) →
+      ValidDecision s (Decide.waits v g h)
+  waits-valid v g h G = record { effect = tt; change = tt; carries = G }
 
   saving-valid : (v : StepView) (a : Place) (g : Stage) → ValidPlace s a → ValidCarried s (carried g) (v .own) → ValidDecision s (Decide.saving v a g)
   saving-valid v a g A G = record { effect = tt; change = A; carries = G }
@@ -188,7 +190,7 @@ module _ (s : Sizes) (levels : 1 ≤ s .levelCount) where
   -- what follows a step of a Lock-seek of an operation with this own node
   abbrev ValidSought : ℕ → Sought → Type 0
   ValidSought own (sght.Goes e k) = (ValidEffect s e) × (ValidCarried s (carriedOf (seekRow 0 k)) own)
-  ValidSought own (sght.Waits k) = ValidCarried s (carriedOf (seekRow 0 k)) own
+  ValidSought own (sght.Waits k h) = ValidCarried s (carriedOf (seekRow 0 k)) own
   ValidSought own (sght.Done a) = ValidPlace s a
 
   seek-valid : (v : StepView) (k : Seek) → ValidView s (carriedOf (seekRow 0 k) .place) v → ValidCarried s (carriedOf (seekRow 0 k)) (v .own) → ValidSought (v .own) (Decide.seekStep v k)
@@ -197,7 +199,7 @@ module _ (s : Sizes) (levels : 1 ≤ s .levelCount) where
       (λ x. (tt, owning (v .own) (place (v .next) (a .level)) (G .has-own refl) (record { node = W .next; level = G .place .level })))
       (λ x. (tt, owning (v .own) a (G .has-own refl) (G .place)))
   seek-valid v (seek.Take a) W G =
-      cond-cases (ValidSought (v .own)) (eqb (v .placeLock) 0) _ _
+      cond-cases (λ t. ValidSought (v .own) (Decide.placeTried a t)) (eqb (v .placeLock) 0) _ _
       (λ x. (G .place, owning (v .own) a (G .has-own refl) (G .place))) (λ x. owning (v .own) a (G .has-own refl) (G .place))
   seek-valid v (seek.Confirm a) W G =
       cond-cases (ValidSought (v .own)) (v .nextBeforeKey) _ _
@@ -208,14 +210,15 @@ module _ (s : Sizes) (levels : 1 ≤ s .levelCount) where
 
   insert-sought-valid : (v : StepView) (r : Sought) → Within (v .own) (s .nodeCount) → ValidSought (v .own) r → ValidDecision s (Decide.insertSought v r)
   insert-sought-valid v (sght.Goes e k) O R = moved-valid v e (stage.Insert (ins.Seek k)) (R .0) (R .1)
-  insert-sought-valid v (sght.Waits k) O R = waits-valid v (stage.Insert (ins.Seek k)) R
+  insert-sought-valid v (sght.Waits k h) O R = waits-valid v (stage.Insert (ins.Seek k)) h R
   insert-sought-valid v (sght.Done a) O R = moved-valid v eff.Keep (stage.Insert (ins.Copy a)) tt (owning (v .own) a O R)
 
   removal-sought-valid : (job : Job) (v : StepView) (r : Sought) → Within (v .own) (s .nodeCount) →
       ValidSought (v .own) r → ValidDecision s (Decide.removalSought job v r)
   removal-sought-valid job v (sght.Goes e k) O R =
       moved-valid v e (Decide.removing job (rem.Seek k)) (R .0) (R .1)
-  removal-sought-valid job v (sght.Waits k) O R = waits-valid v (Decide.removing job (rem.Seek k)) R
+  removal-sought-valid job v (sght.Waits k h) O R =
+      waits-valid v (Decide.removing job (rem.Seek k)) h R
   removal-sought-valid job v (sght.Done a) O R =
       moved-valid v eff.Keep (Decide.removing job (rem.HoldOwn a)) tt (owning (v .own) a O R)
 
@@ -270,21 +273,21 @@ module _ (s : Sizes) (levels : 1 ≤ s .levelCount) where
       (saving-valid v a (Decide.removing job rem.HoldNode) (G .place)
       (owning-head (v .own) (G .has-own refl)))
   removal-valid job v rem.HoldNode W G =
-      cond-cases (λ d. ValidDecision s d) (eqb (v .ownNodeLock) 0) _ _
+      cond-cases (λ t. ValidDecision s (Decide.nodeTried job v t)) (eqb (v .ownNodeLock) 0) _ _
       (λ x. moved-valid v (eff.HoldNode (v .own))
       (Decide.removing job (rem.Seek (seek.Approach (place (v .savedAtHeight) (v .height)))))
       (G .has-own refl)
       (owning (v .own) (place (v .savedAtHeight) (v .height)) (G .has-own refl) (record { node = W .savedAtHeight; level = W .height })))
-      (λ x. waits-valid v (Decide.removing job rem.HoldNode) G)
+      (λ x. waits-valid v (Decide.removing job rem.HoldNode) _ G)
   removal-valid job v (rem.Seek k) W G =
       removal-sought-valid job v (Decide.seekStep v k) (G .has-own refl)
       (seek-valid v k W G)
   removal-valid job v (rem.HoldOwn a) W G =
-      cond-cases (λ d. ValidDecision s d) (eqb (v .ownLock) 0) _ _
+      cond-cases (λ t. ValidDecision s (Decide.ownTried job v a t)) (eqb (v .ownLock) 0) _ _
       (λ x. moved-valid v (eff.HoldLevel (place (v .own) (a .level)))
       (Decide.removing job (rem.Unlink a))
       (own-place (v .own) (a .level) (G .has-own refl) (G .place .level)) G)
-      (λ x. waits-valid v (Decide.removing job (rem.HoldOwn a)) G)
+      (λ x. waits-valid v (Decide.removing job (rem.HoldOwn a)) _ G)
   removal-valid job v (rem.Unlink a) W G =
       moved-valid v (eff.SetForward a (v .ownNext)) (Decide.removing job (rem.LeadBack a))
       (record { place = G .place; to = W .ownNext }) G
@@ -324,7 +327,7 @@ module _ (s : Sizes) (levels : 1 ≤ s .levelCount) where
       (λ x. marking-valid jobs.Deliver v a (W .levelCount) (G .marks refl))
 
   pub decide-valid : (v : StepView) (g : Stage) → ValidView s (readingPlace g) v → ValidCarried s (carried g) (v .own) → ValidDecision s (Decide.decide v g)
-  decide-valid v stage.Idle W G = waits-valid v stage.Idle G
+  decide-valid v stage.Idle W G = moved-valid v eff.Keep stage.Idle tt G
   decide-valid v (stage.Insert i) W G = insert-valid v i W G
   decide-valid v (stage.Delete d) W G = delete-valid v d W G
   decide-valid v (stage.Removal job r) W G = removal-valid job v r W G

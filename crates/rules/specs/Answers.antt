@@ -1,5 +1,6 @@
 -- Answers (01, the steps): a refusal's number; the time of a begin; and what a step reports, with
--- what the entry holds where it reports of one. Whatever is told of an answer, to hosts, in lists
+-- what the entry holds where it reports of one, or with the processor that a step waits for
+-- (02, W1). Whatever is told of an answer, to hosts, in lists
 -- and in histories, goes by its report.
 use Prim.Native.Nat.{ℕ}
 use mathlib.Core.Bool.{Bool, true, false}
@@ -29,7 +30,7 @@ abbrev pub reported : Answer → Report
 reported (ans.Refused n) = report n []
 reported (ans.Began t) = report 0 (t ∷ [])
 reported ans.Moved = report 1 []
-reported ans.Waits = report 2 []
+reported (ans.Waits h) = report 2 (h ∷ [])
 reported ans.Empty = report 3 []
 reported (ans.Did d e) = report (deedCode d) (entryValues e)
 
@@ -53,7 +54,7 @@ abbrev pub isRefused : Answer → Bool
 isRefused (ans.Refused n) = true
 isRefused (ans.Began t) = false
 isRefused ans.Moved = false
-isRefused ans.Waits = false
+isRefused (ans.Waits h) = false
 isRefused ans.Empty = false
 isRefused (ans.Did d e) = false
 
@@ -61,6 +62,6 @@ abbrev pub isWaits : Answer → Bool
 isWaits (ans.Refused n) = false
 isWaits (ans.Began t) = false
 isWaits ans.Moved = false
-isWaits ans.Waits = true
+isWaits (ans.Waits h) = true
 isWaits ans.Empty = false
 isWaits (ans.Did d e) = false

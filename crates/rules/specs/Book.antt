@@ -238,7 +238,7 @@ abbrev pub feedBegin : Book → (ℕ → Verdict) → Answer → Verdict
 feedBegin b begun (ans.Refused n) = agrees b
 feedBegin b begun (ans.Began t) = begun t
 feedBegin b begun ans.Moved = differs
-feedBegin b begun ans.Waits = differs
+feedBegin b begun (ans.Waits h) = differs
 feedBegin b begun ans.Empty = differs
 feedBegin b begun (ans.Did d e) = differs
 
@@ -258,7 +258,7 @@ abbrev pub feedStep : Book → ℕ → Answer → Verdict
 feedStep b p (ans.Refused n) = agrees b
 feedStep b p (ans.Began t) = differs
 feedStep b p ans.Moved = moves b (b .opened p)
-feedStep b p ans.Waits = moves b (b .opened p)
+feedStep b p (ans.Waits h) = moves b (b .opened p)
 feedStep b p ans.Empty = empties b p (b .opened p)
 feedStep b p (ans.Did d e) = feedDeed b p e d
 

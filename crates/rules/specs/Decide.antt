@@ -1,6 +1,6 @@
 -- What a step decides, from what it reads (01, the steps). Each line of that section is one
 -- function here, with the letters a for the place and b for the node after it.
-use Prim.Native.Nat.{_+_, _-_}
+use Prim.Native.Nat.{ℕ, _+_, _-_}
 use mathlib.Core.Bool.{cond}
 use lib.Dec.{ltb, leb, eqb}
 use Rattle.record.specs.declared.stages.Place.{Place}
@@ -24,6 +24,8 @@ use Rattle.rules.specs.declared.answers.Answer.the-variants as ans
 use Rattle.rules.specs.declared.decisions.Effect.{Effect}
 use Rattle.rules.specs.declared.decisions.Effect.the-variants as eff
 use Rattle.rules.specs.declared.decisions.ProcessorChange.the-variants as change
+use Rattle.rules.specs.declared.decisions.Attempt.{Attempt}
+use Rattle.rules.specs.declared.decisions.Attempt.the-variants as try
 use Rattle.rules.specs.declared.decisions.Decision.{Decision}
 use Rattle.rules.specs.declared.decisions.StepView.{StepView}
 use Rattle.rules.specs.declared.decisions.Searched.{Searched}
@@ -36,9 +38,15 @@ abbrev pub moved : StepView → Effect → Stage → Decision
 moved s e g =
     record { effect = e; stage = g; own = s .own; change = change.Keep; answer = ans.Moved }
 
-abbrev pub waits : StepView → Stage → Decision
-waits s g =
-    record { effect = eff.Keep; stage = g; own = s .own; change = change.Keep; answer = ans.Waits }
+-- at the same stage, for a lock that processor h holds
+abbrev pub waits : StepView → Stage → ℕ → Decision
+waits s g h = record {
+  effect = eff.Keep;
+  stage = g;
+  own = s .own;
+  change = change.Keep;
+  answer = ans.Waits h;
+}
 
 -- on to another stage, a saved for its level
 abbrev pub saving : StepView → Place → Stage → Decision
@@ -61,16 +69,24 @@ searchStep s a =
     cond (s .nextBeforeKey) (srch.Ahead (place (s .next) (a .level)))
     (cond (leb (a .level) 1) (srch.Done a) (srch.Down (place (a .node) (a .level - 1))))
 
+-- An attempt to take a lock (02, W1), a level's or a node's, which has this number in the record: a
+-- free one is taken, and any other is held by the processor whose number it bears.
+abbrev pub attempt : ℕ → Attempt
+attempt lock = cond (eqb lock 0) try.Taken (try.HeldBy (lock - 1))
+
+-- G2, by what the attempt at the place's lock gives
+abbrev pub placeTried : Place → Attempt → Sought
+placeTried a try.Taken = sght.Goes (eff.HoldLevel a) (seek.Confirm a)
+placeTried a (try.HeldBy h) = sght.Waits (seek.Take a) h
+
 -- Lock-seek, on one level. G1 goes on as long as the key ahead is smaller. G2 takes the lock of the
--- place, or waits for it. G3 looks whether the key ahead is smaller by now: if so, G4 gives the
+-- place, or waits for its holder. G3 looks whether the key ahead is smaller by now: if so, G4 gives the
 -- lock back and goes on to that node, for G2; if not, the Lock-seek is done.
 abbrev pub seekStep : StepView → Seek → Sought
 seekStep s (seek.Approach a) =
     cond (s .nextBeforeKey) (sght.Goes eff.Keep (seek.Approach (place (s .next) (a .level))))
     (sght.Goes eff.Keep (seek.Take a))
-seekStep s (seek.Take a) =
-    cond (eqb (s .placeLock) 0) (sght.Goes (eff.HoldLevel a) (seek.Confirm a))
-    (sght.Waits (seek.Take a))
+seekStep s (seek.Take a) = placeTried a (attempt (s .placeLock))
 seekStep s (seek.Confirm a) =
     cond (s .nextBeforeKey) (sght.Goes eff.Keep (seek.Release a (s .next))) (sght.Done a)
 seekStep s (seek.Release a b) = sght.Goes (eff.FreeLevel a) (seek.Take (place b (a .level)))
@@ -83,7 +99,7 @@ insertSearched s a (srch.Done b) = saving s a (stage.Insert (ins.Seek (seek.Appr
 
 abbrev pub insertSought : StepView → Sought → Decision
 insertSought s (sght.Goes e k) = moved s e (stage.Insert (ins.Seek k))
-insertSought s (sght.Waits k) = waits s (stage.Insert (ins.Seek k))
+insertSought s (sght.Waits k h) = waits s (stage.Insert (ins.Seek k)) h
 insertSought s (sght.Done a) = moved s eff.Keep (stage.Insert (ins.Copy a))
 
 -- I3: the place's lock is free again; on to the next level or, from the height on, to I4
@@ -110,30 +126,35 @@ insertStep s ins.Stamp = answers (eff.Stamp (s .own)) (ans.Did deed.Inserted (s 
 abbrev pub removing : Job → Removal → Stage
 removing job r = stage.Removal job r
 
--- the Search, L1, and the Lock-seek of each level from the height down
+-- the Search, then L1, and the Lock-seek of each level from the height down
 abbrev pub removalSearched : Job → StepView → Place → Searched → Decision
 removalSearched job s a (srch.Ahead b) = moved s eff.Keep (removing job (rem.Search b))
 removalSearched job s a (srch.Down b) = saving s a (removing job (rem.Search b))
 removalSearched job s a (srch.Done b) = saving s a (removing job rem.HoldNode)
 
+-- L1: the own node's node lock, or wait for its holder
+abbrev pub nodeTried : Job → StepView → Attempt → Decision
+nodeTried job s try.Taken =
+    moved s (eff.HoldNode (s .own))
+    (removing job (rem.Seek (seek.Approach (place (s .savedAtHeight) (s .height)))))
+nodeTried job s (try.HeldBy h) = waits s (removing job rem.HoldNode) h
+
 abbrev pub holdNode : Job → StepView → Decision
-holdNode job s =
-    cond (eqb (s .ownNodeLock) 0)
-    (moved s (eff.HoldNode (s .own))
-    (removing job (rem.Seek (seek.Approach (place (s .savedAtHeight) (s .height))))))
-    (waits s (removing job rem.HoldNode))
+holdNode job s = nodeTried job s (attempt (s .ownNodeLock))
 
 abbrev pub removalSought : Job → StepView → Sought → Decision
 removalSought job s (sght.Goes e k) = moved s e (removing job (rem.Seek k))
-removalSought job s (sght.Waits k) = waits s (removing job (rem.Seek k))
+removalSought job s (sght.Waits k h) = waits s (removing job (rem.Seek k)) h
 removalSought job s (sght.Done a) = moved s eff.Keep (removing job (rem.HoldOwn a))
 
--- L2: the own node's lock at the level, or wait for it
+-- L2: the own node's lock at the level, or wait for its holder
+abbrev pub ownTried : Job → StepView → Place → Attempt → Decision
+ownTried job s a try.Taken =
+    moved s (eff.HoldLevel (place (s .own) (a .level))) (removing job (rem.Unlink a))
+ownTried job s a (try.HeldBy h) = waits s (removing job (rem.HoldOwn a)) h
+
 abbrev pub holdOwn : Job → StepView → Place → Decision
-holdOwn job s a =
-    cond (eqb (s .ownLock) 0)
-    (moved s (eff.HoldLevel (place (s .own) (a .level))) (removing job (rem.Unlink a)))
-    (waits s (removing job (rem.HoldOwn a)))
+holdOwn job s a = ownTried job s a (attempt (s .ownLock))
 
 -- L6: the place's lock is free; on to the level below or, after level 1, to L7
 abbrev pub removalFreed : Job → StepView → Place → Decision
@@ -198,7 +219,7 @@ deleteStep s (del.SetMark a) = markTest s a
 
 -- an idle processor has no step: the call is refused before this
 abbrev pub decide : StepView → Stage → Decision
-decide s stage.Idle = waits s stage.Idle
+decide s stage.Idle = moved s eff.Keep stage.Idle
 decide s (stage.Insert i) = insertStep s i
 decide s (stage.Delete d) = deleteStep s d
 decide s (stage.Removal job r) = removalStep job s r

@@ -57,7 +57,7 @@ abbrev pub renamedAnswer : (ℕ → ℕ) → Answer → Answer
 renamedAnswer f (ans.Refused n) = ans.Refused n
 renamedAnswer f (ans.Began t) = ans.Began t
 renamedAnswer f ans.Moved = ans.Moved
-renamedAnswer f ans.Waits = ans.Waits
+renamedAnswer f (ans.Waits h) = ans.Waits h
 renamedAnswer f ans.Empty = ans.Empty
 renamedAnswer f (ans.Did d e) = ans.Did d (renamedEntry f e)
 

@@ -22,7 +22,8 @@ pub enum Answer {
     Refused(u8),
     Began(u32),
     Moved,
-    Waits,
+    // for a lock, and the processor that holds it (02, W1)
+    Waits(u8),
     Empty,
     Did(Deed, Entry),
 }
@@ -81,7 +82,7 @@ pub fn plain(a: Answer) -> PlainAnswer
         Answer::Refused(n) => with_value(n as u32, 0),
         Answer::Began(t) => with_value(0, t),
         Answer::Moved => with_value(1, 0),
-        Answer::Waits => with_value(2, 0),
+        Answer::Waits(h) => with_value(2, h as u32),
         Answer::Empty => with_value(3, 0),
         Answer::Did(d, e) => with_entry(deed_code(d), e),
     }
@@ -94,7 +95,7 @@ pub fn is_refused(a: Answer) -> bool
         Answer::Refused(_) => true,
         Answer::Began(_) => false,
         Answer::Moved => false,
-        Answer::Waits => false,
+        Answer::Waits(_) => false,
         Answer::Empty => false,
         Answer::Did(_, _) => false,
     }
@@ -107,7 +108,7 @@ pub fn is_waits(a: Answer) -> bool
         Answer::Refused(_) => false,
         Answer::Began(_) => false,
         Answer::Moved => false,
-        Answer::Waits => true,
+        Answer::Waits(_) => true,
         Answer::Empty => false,
         Answer::Did(_, _) => false,
     }

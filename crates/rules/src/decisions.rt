@@ -36,6 +36,12 @@ pub struct StepView {
     pub ownEntry: Entry,
 }
 
+// What an attempt to take a lock gives: the lock is taken, or this processor holds it (02, W1).
+pub enum Attempt {
+    Taken,
+    HeldBy(u8),
+}
+
 // A step of a Search: on along the level, one level down, or out of it.
 pub enum Searched {
     Ahead(Place),
@@ -43,10 +49,10 @@ pub enum Searched {
     Done(Place),
 }
 
-// A step of a Lock-seek: on, waiting, or done with the place's lock held.
+// A step of a Lock-seek: on; waiting, with the lock's holder; or done with the place's lock held.
 pub enum Sought {
     Goes(Effect, Seek),
-    Waits(Seek),
+    Waits(Seek, u8),
     Done(Place),
 }
 

@@ -23,15 +23,16 @@ pub fn moved(s: StepView, e: Effect, g: Stage) -> Decision
     }
 }
 
-pub fn waits(s: StepView, g: Stage) -> Decision
-    ensures { λ r. ⌜ r ≡ waitsOf s g ⌝ }
+// At the stage g still, for a lock that processor h holds.
+pub fn waits(s: StepView, g: Stage, h: u8) -> Decision
+    ensures { λ r. ⌜ r ≡ waitsOf s g h ⌝ }
 {
     Decision {
         effect: Effect::Keep,
         stage: g,
         own: s.own,
         change: ProcessorChange::Keep,
-        answer: Answer::Waits,
+        answer: Answer::Waits(h),
     }
 }
 

@@ -29,20 +29,23 @@ enum-told c = search needs
 with-value-requires-3 : tie.Need-with-value-requires-3
 with-value-requires-3 c κs = search needs
 
-enum-told-2 : tie.Need-enum-told-2
-enum-told-2 c = search needs
+enum-known-a-3 : tie.Need-enum-known-a-3
+enum-known-a-3 c = search needs
+
+cast-with-value-2 : tie.Need-cast-with-value-2
+cast-with-value-2 c = search needs
 
 with-value-requires-4 : tie.Need-with-value-requires-4
 with-value-requires-4 c κs = search needs
 
-enum-told-3 : tie.Need-enum-told-3
-enum-told-3 c = search needs
+enum-told-2 : tie.Need-enum-told-2
+enum-told-2 c = search needs
 
 with-value-requires-5 : tie.Need-with-value-requires-5
 with-value-requires-5 c κs = search needs
 
-enum-known-a-3 : tie.Need-enum-known-a-3
-enum-known-a-3 c = search needs
+enum-known-a-4 : tie.Need-enum-known-a-4
+enum-known-a-4 c = search needs
 
 deed-code-requires : tie.Need-deed-code-requires
 deed-code-requires c κs = search needs
@@ -60,13 +63,13 @@ returns-3 : tie.Need-returns-3
 returns-3 c = search (tests, c .with-value3 .ensures, c .before .enum-told .given .1)
 
 returns-4 : tie.Need-returns-4
-returns-4 c = search (tests, c .with-value4 .ensures, c .before .enum-told2 .given .1)
+returns-4 c = search (tests, c .with-value4 .ensures, c .before .before .a3 .given .1)
 
 returns-5 : tie.Need-returns-5
-returns-5 c = search (tests, c .with-value5 .ensures, c .before .enum-told3 .given .1)
+returns-5 c = search (tests, c .with-value5 .ensures, c .before .enum-told2 .given .1)
 
 returns-6 : tie.Need-returns-6
-returns-6 c = search (tests, c .with-entry .ensures, c .before .deed-code .ensures, c .before .before .before .a3 .given .1)
+returns-6 c = search (tests, c .with-entry .ensures, c .before .deed-code .ensures, c .before .before .before .a4 .given .1)
 
 pub plain-spec : {M : Type 1} → statement M
 plain-spec =
@@ -79,11 +82,12 @@ plain-spec =
     with-value-requires-2
     enum-told
     with-value-requires-3
-    enum-told-2
-    with-value-requires-4
-    enum-told-3
-    with-value-requires-5
     enum-known-a-3
+    cast-with-value-2
+    with-value-requires-4
+    enum-told-2
+    with-value-requires-5
+    enum-known-a-4
     deed-code-requires
     with-entry-requires
     returns
