@@ -44,6 +44,7 @@ pub mod Demand3
 pub mod BookLaws
 pub mod Meaning
 pub mod LockFacts
+pub mod Waits
 pub mod Items
 pub mod Allowed
 pub mod Marks

@@ -15,9 +15,10 @@ use Rattle.record_markers.specs.Markers.{inUseAt}
 use Rattle.rules.specs.declared.answers.Answer.the-variants as ans
 use Rattle.rules.specs.declared.answers.Deed.the-variants as deed
 use Rattle.rules.specs.declared.answers.Entry.{Entry}
-use Rattle.rules.specs.Book.{Book, walking, unlinking, emptyBook, agrees, judged, earlier}
-use Rattle.rules.specs.Book.{answeredIn, pendingIn}
-use Rattle.rules.specs.Locks.{Lock, level, node, holderOf, Claims}
+use Rattle.rules.specs.Book.{Book, nothing, walking, unlinking, emptyBook, agrees, judged}
+use Rattle.rules.specs.Book.{earlier, answeredIn, pendingIn}
+use Rattle.rules.specs.Calls.{idleAt}
+use Rattle.rules.specs.Locks.{Lock, level, node, holderOf, Claims, Asks}
 use Rattle.rules.specs.Runs.{Turn, stepBy, backlog, Reply, answered, counted, reply, afterAll}
 
 -- a queue that was just made has sizes in their ranges
@@ -181,3 +182,22 @@ pub record LocksAgree (q : Queue) : Type 0 where
 abbrev pub ReachedLocksAgree : Type 0
 ReachedLocksAgree =
     (P N L : ℕ) → InRange P N L → (cs : List Turn) → LocksAgree (afterAll (freshQueue P N L) cs)
+
+-- Waits (02, W1). The processor h that a waiting step of p names: the lock that the step asks for is
+-- h's in the record, h's stage says that it holds this very lock, h is one of the queue's processors
+-- and busy, so that the book has an operation of it open, and it is not p.
+pub record WaitedFor (q : Queue) (b : Book) (p h : ℕ) : Type 0 where
+  pub lock : Lock
+  pub asks : Asks (processorAt q p) lock
+  pub holds : holderOf q lock ≡ suc h
+  pub says : Claims (processorAt q h) lock
+  pub there : h < q .processorCount
+  pub busy : idleAt q h ≡ false
+  pub begun : b .opened h ≡ nothing → ⊥
+  pub other : h ≡ p → ⊥
+
+abbrev pub WaitsForABusyHolder : Type 0
+WaitsForABusyHolder =
+    (P N L : ℕ) → InRange P N L → (cs : List Turn) (b : Book) → BookAfter P N L cs b → (p h : ℕ)
+    → stepReply P N L cs p ≡ answered (ans.Waits h) →
+    WaitedFor (afterAll (freshQueue P N L) cs) b p h

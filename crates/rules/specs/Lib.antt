@@ -9,3 +9,4 @@ pub mod Book
 pub mod Locks
 pub mod Demand3
 pub mod Marks
+pub mod Waits
