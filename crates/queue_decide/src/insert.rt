@@ -36,7 +36,7 @@ fn insert_sought(s: StepView, f: Sought) -> Decision
 {
     match f {
         Sought::Goes(e, k) => moved(s, e, Stage::Insert(Insert::Seek(k))),
-        Sought::Waits(k) => waits(s, Stage::Insert(Insert::Seek(k))),
+        Sought::Waits(k, h) => waits(s, Stage::Insert(Insert::Seek(k)), h),
         Sought::Done(a) => moved(s, Effect::Keep, Stage::Insert(Insert::Copy(a))),
     }
 }

@@ -2,7 +2,8 @@
 // L2 to L6, then L7 and L8. Each stage hands the removal's job on, and L8 alone asks it.
 ghost use mathlib.Core.Path.{_≡_};
 ghost use Rattle.record.specs.declared.stages.Removal.the-variants as rem;
-ghost use Rattle.rules.specs.Decide.{removing as removingOf, removalSearched, holdNode};
+ghost use Rattle.rules.specs.Decide.{removing as removingOf, removalSearched};
+ghost use Rattle.rules.specs.Decide.{nodeTried, holdNode, ownTried};
 ghost use Rattle.rules.specs.Decide.{removalSought, holdOwn, removalFreed, handing as handingOf};
 ghost use Rattle.rules.specs.Decide.{removalStep};
 use crate::search::search_step;
@@ -14,6 +15,7 @@ use record::Seek;
 use record::Stage;
 use record::stages::at;
 use rules::Answer;
+use rules::Attempt;
 use rules::Decision;
 use rules::Deed;
 use rules::Effect;
@@ -21,6 +23,7 @@ use rules::Entry;
 use rules::Searched;
 use rules::Sought;
 use rules::StepView;
+use rules::attempts::attempt;
 use rules::moves::answers;
 use rules::moves::moved;
 use rules::moves::saving;
@@ -42,20 +45,28 @@ fn removal_searched(s: StepView, job: Job, a: Place, f: Searched) -> Decision
     }
 }
 
-// L1: the node lock of the marked node, or wait for it.
+// L1: the node lock of the marked node, or wait for its holder.
+fn node_tried(s: StepView, job: Job, t: Attempt) -> Decision
+    ensures { λ r. ⌜ r ≡ nodeTried job s t ⌝ }
+{
+    match t {
+        Attempt::Taken => {
+            let b = at(s.savedAtHeight, s.height);
+            moved(
+                s,
+                Effect::HoldNode(s.own),
+                removing(job, Removal::Seek(Seek::Approach(b))),
+            )
+        }
+        Attempt::HeldBy(h) => waits(s, removing(job, Removal::HoldNode), h),
+    }
+}
+
 fn hold_node(s: StepView, job: Job) -> Decision
     ensures { λ r. ⌜ r ≡ holdNode job s ⌝ }
 {
-    if s.ownNodeLock == 0 {
-        let b = at(s.savedAtHeight, s.height);
-        moved(
-            s,
-            Effect::HoldNode(s.own),
-            removing(job, Removal::Seek(Seek::Approach(b))),
-        )
-    } else {
-        waits(s, removing(job, Removal::HoldNode))
-    }
+    let t = attempt(s.ownNodeLock);
+    node_tried(s, job, t)
 }
 
 fn removal_sought(s: StepView, job: Job, f: Sought) -> Decision
@@ -63,21 +74,29 @@ fn removal_sought(s: StepView, job: Job, f: Sought) -> Decision
 {
     match f {
         Sought::Goes(e, k) => moved(s, e, removing(job, Removal::Seek(k))),
-        Sought::Waits(k) => waits(s, removing(job, Removal::Seek(k))),
+        Sought::Waits(k, h) => waits(s, removing(job, Removal::Seek(k)), h),
         Sought::Done(a) => moved(s, Effect::Keep, removing(job, Removal::HoldOwn(a))),
     }
 }
 
-// L2: the own lock at the level, or wait for it.
+// L2: the own lock at the level, or wait for its holder.
+fn own_tried(s: StepView, job: Job, a: Place, t: Attempt) -> Decision
+    ensures { λ r. ⌜ r ≡ ownTried job s a t ⌝ }
+{
+    match t {
+        Attempt::Taken => {
+            let b = at(s.own, a.level);
+            moved(s, Effect::HoldLevel(b), removing(job, Removal::Unlink(a)))
+        }
+        Attempt::HeldBy(h) => waits(s, removing(job, Removal::HoldOwn(a)), h),
+    }
+}
+
 fn hold_own(s: StepView, job: Job, a: Place) -> Decision
     ensures { λ r. ⌜ r ≡ holdOwn job s a ⌝ }
 {
-    if s.ownLock == 0 {
-        let b = at(s.own, a.level);
-        moved(s, Effect::HoldLevel(b), removing(job, Removal::Unlink(a)))
-    } else {
-        waits(s, removing(job, Removal::HoldOwn(a)))
-    }
+    let t = attempt(s.ownLock);
+    own_tried(s, job, a, t)
 }
 
 // L6: the place's lock is free; on to the level below or, after level 1, to L7.

@@ -1,13 +1,15 @@
 // A step of a Search and of a Lock-seek, which an Insert and a removal share.
 ghost use mathlib.Core.Path.{_≡_};
-ghost use Rattle.rules.specs.Decide.{searchStep, seekStep};
+ghost use Rattle.rules.specs.Decide.{searchStep, placeTried, seekStep};
 use record::Place;
 use record::Seek;
 use record::stages::at;
+use rules::Attempt;
 use rules::Effect;
 use rules::Searched;
 use rules::Sought;
 use rules::StepView;
+use rules::attempts::attempt;
 
 // A step of a Search (01, the steps): on along the level as far as the keys are smaller, then one
 // level down, and after level 1 out of it.
@@ -23,6 +25,16 @@ pub fn search_step(s: StepView, a: Place) -> Searched
     Searched::Down(at(a.node, a.level - 1))
 }
 
+// G2: the place's lock, or wait for its holder.
+fn place_tried(a: Place, t: Attempt) -> Sought
+    ensures { λ r. ⌜ r ≡ placeTried a t ⌝ }
+{
+    match t {
+        Attempt::Taken => Sought::Goes(Effect::HoldLevel(a), Seek::Confirm(a)),
+        Attempt::HeldBy(h) => Sought::Waits(Seek::Take(a), h),
+    }
+}
+
 // Lock-seek at the place's level.
 pub fn seek_step(s: StepView, k: Seek) -> Sought
     ensures { λ r. ⌜ r ≡ seekStep s k ⌝ }
@@ -34,12 +46,11 @@ pub fn seek_step(s: StepView, k: Seek) -> Sought
         } else {
             Sought::Goes(Effect::Keep, Seek::Take(a))
         },
-        // G2: the place's lock, or wait for it
-        Seek::Take(a) => if s.placeLock == 0 {
-            Sought::Goes(Effect::HoldLevel(a), Seek::Confirm(a))
-        } else {
-            Sought::Waits(Seek::Take(a))
-        },
+        // G2
+        Seek::Take(a) => {
+            let t = attempt(s.placeLock);
+            place_tried(a, t)
+        }
         // G3: whether a node with a smaller key has come in between
         Seek::Confirm(a) => if s.nextBeforeKey {
             Sought::Goes(Effect::Keep, Seek::Release(a, s.next))

@@ -19,7 +19,6 @@ use rules::ProcessorChange;
 use rules::StepView;
 use rules::moves::answers;
 use rules::moves::moved;
-use rules::moves::waits;
 
 // W1: on to the next node of level 1, or EMPTY at the end.
 fn walk_on(s: StepView) -> Decision
@@ -86,7 +85,7 @@ pub fn decide(s: StepView, g: Stage) -> Decision
     ensures { λ r. ⌜ r ≡ decideOf s g ⌝ }
 {
     match g {
-        Stage::Idle => waits(s, Stage::Idle),
+        Stage::Idle => moved(s, Effect::Keep, Stage::Idle),
         Stage::Insert(i) => insert_step(s, i),
         Stage::Delete(d) => delete_step(s, d),
         Stage::Removal(job, r) => removal_step(s, job, r),

@@ -45,6 +45,7 @@ pub mod BookLaws
 pub mod Meaning
 pub mod LockFacts
 pub mod Waits
+pub mod WaitedFor
 pub mod Items
 pub mod Allowed
 pub mod Marks

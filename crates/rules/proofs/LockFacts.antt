@@ -132,7 +132,7 @@ module _ (q : Queue) (b : Book) (S : Sound q b) (p : ℕ) where
       subst (Claims c) (ap (level (c .own)) (at-level (λ g. omega arith)) ∙ sym e) (of-own (bit-true (holdsOwn (c .stage)) (sym (said .own) ∙ h)))
   holds-claims l (by-node h e) = subst (Claims c) (sym e) (of-node (bit-true (holdsNode (c .stage)) (sym (said .node) ∙ h)))
 
-locks-agree : (q : Queue) (b : Book) → Sound q b → LocksAgree q
+pub locks-agree : (q : Queue) (b : Book) → Sound q b → LocksAgree q
 locks-agree q b S = record {
   claimed-is-held = claimed-held q b S;
   held-is-claimed = λ p n i i≥ e. holds-claims q b S p (level n i) (S .held p (level n i) (sym (level-pos (nodeAt q n .levelLocks) i i≥) ∙ e));

@@ -122,7 +122,7 @@ module _ (q : Queue) (b : Book) (S : Sound q b) where
     handing-out e r = stepped (λ b′. Delivered b p e × Stays (λ l. l .handedOut) (e .ticket) b′) p (ans.Did deed.HandedOut e) r (hands-out-right e (b .opened p) refl)
 
 -- the book after a list of calls is the one for which all of it holds
-sound-after : (P N L : ℕ) → InRange P N L → (cs : List Turn) (b : Book) → BookAfter P N L cs b → Sound (afterAll (freshQueue P N L) cs) b
+pub sound-after : (P N L : ℕ) → InRange P N L → (cs : List Turn) (b : Book) → BookAfter P N L cs b → Sound (afterAll (freshQueue P N L) cs) b
 sound-after P N L R cs b h = let J = reached P N L R cs in let same : J .book ≡ b = cc (J .judges) in subst (Sound (afterAll (freshQueue P N L) cs)) same (J .sound)
 
 pub marked-is-earliest : MarkedIsEarliest

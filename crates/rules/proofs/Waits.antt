@@ -1,12 +1,12 @@
 -- A step that waits stays as it is and names the holder of the lock that it asks for. Assumes
 -- nothing.
 use mathlib.Core.Path.{_≡_, refl, sym, ap, _∙_, subst}
-use mathlib.Core.Bool.{Bool, true, false, cond, false≢true}
+use mathlib.Core.Bool.{Bool, true, false, cond}
 use Prim.Native.Nat.{ℕ, suc, _-_, _<_}
 use native.Mathlib.Omega.{arith}
 use lib.Dec.{ltb, leb, eqb}
 use borrow.Author.Tests.{eqb-false, lt-leb}
-use Rattle.laws.proofs.Booleans.{cond-elim}
+use Rattle.laws.proofs.Booleans.{cond-elim, no}
 use Rattle.record.specs.declared.queues.Processor.{Processor}
 use Rattle.record.specs.declared.queues.Queue.{Queue}
 use Rattle.record.specs.declared.stages.Place.{Place}
@@ -23,6 +23,7 @@ use Rattle.record.specs.declared.stages.Delete.the-variants as del
 use Rattle.record.specs.declared.stages.Stage.{Stage}
 use Rattle.record.specs.declared.stages.Stage.the-variants as stage
 use Rattle.record.specs.Queues.{processorAt}
+use Rattle.record.specs.Stages.{isIdle}
 use Rattle.rules.specs.declared.answers.Answer.{Answer}
 use Rattle.rules.specs.declared.answers.Answer.the-variants as ans
 use Rattle.rules.specs.declared.answers.Outcome.{Outcome}
@@ -44,10 +45,7 @@ use Rattle.rules.specs.Locks.{Asks, insert-place, removal-place, own-nod
 use Rattle.rules.specs.Runs.{Reply, answered, counted, listed, stepBy, reply}
 use Rattle.rules.specs.Waits.{Holder, WaitsForTheHolder, MayStep, answerBy, WhoAsksIsTold}
 use Rattle.rules.proofs.Allowed.{of-call}
-use Rattle.rules.proofs.Inner.{call-inner}
-
-no : {A : Type 0} → false ≡ true → A
-no {A} e = absurd (false≢true e)
+use Rattle.rules.proofs.Inner.{call-inner, step-accepted}
 
 -- the stage asks for a lock that the step has read, and h holds it
 pub data Told (s : StepView) (h : ℕ) : Stage → Type 0 where
@@ -209,3 +207,55 @@ waits-for-the-holder q p h e =
         let same : S .holder ≡ h =
         sym (ap (λ (d : Decision). named (d .answer)) (S .same)) ∙ ap named x in
         subst (Holder q p) same (asked-for q p (S .holder) (c .stage) refl (S .told))
+
+-- what a decision answers that follows an attempt
+link-told : (s : StepView) (a : Place) (t : Attempt) →
+    insertSought s (placeTried a t) .answer ≡ answerBy t
+link-told s a try.Taken = refl
+link-told s a (try.HeldBy h) = refl
+
+unlink-told : (job : Job) (s : StepView) (a : Place) (t : Attempt) →
+    removalSought job s (placeTried a t) .answer ≡ answerBy t
+unlink-told job s a try.Taken = refl
+unlink-told job s a (try.HeldBy h) = refl
+
+node-told : (job : Job) (s : StepView) (t : Attempt) → nodeTried job s t .answer ≡ answerBy t
+node-told job s try.Taken = refl
+node-told job s (try.HeldBy h) = refl
+
+own-told : (job : Job) (s : StepView) (a : Place) (t : Attempt) →
+    ownTried job s a t .answer ≡ answerBy t
+own-told job s a try.Taken = refl
+own-told job s a (try.HeldBy h) = refl
+
+pub who-asks-is-told : WhoAsksIsTold
+who-asks-is-told q p l M asks = ap answered (told l asks)
+  where
+    c : Processor
+    c = processorAt q p
+
+    see : Stage → StepView
+    see g = stepViewOf q c (readingPlace g)
+
+    decides : (g : Stage) → c .stage ≡ g → isIdle g ≡ false →
+        called q (call.Step p) .answer ≡ decide (see g) g .answer
+    decides g e b =
+        ap (λ (o : Outcome). o .answer)
+        (call-inner q (call.Step p) (M .passes)
+        ∙ step-accepted q p (M .ticks) (M .here) (ap isIdle e ∙ b))
+        ∙ ap (λ (g : Stage). decide (see g) g .answer) e
+
+    told : (l : Lock) → Asks c l →
+        called q (call.Step p) .answer ≡ answerBy (attempt (holderOf q l))
+    told l (insert-place a e) =
+        let g = stage.Insert (ins.Seek (seek.Take a)) in
+        decides g e refl ∙ link-told (see g) a (attempt (see g .placeLock))
+    told l (removal-place job a e) =
+        let g = removing job (rem.Seek (seek.Take a)) in
+        decides g e refl ∙ unlink-told job (see g) a (attempt (see g .placeLock))
+    told l (own-node job e) =
+        let g = removing job rem.HoldNode in
+        decides g e refl ∙ node-told job (see g) (attempt (see g .ownNodeLock))
+    told l (own-level job a e) =
+        let g = removing job (rem.HoldOwn a) in
+        decides g e refl ∙ own-told job (see g) a (attempt (see g .ownLock))

@@ -6,8 +6,8 @@ use Rattle.queue_decide.proofs.walk.decide.Tie as tie
 enum-told : tie.Need-enum-told
 enum-told c = search needs
 
-waits-requires : tie.Need-waits-requires
-waits-requires c κs = search needs
+moved-requires : tie.Need-moved-requires
+moved-requires c κs = search needs
 
 enum-known-g : tie.Need-enum-known-g
 enum-known-g c = search needs
@@ -28,7 +28,7 @@ removal-step-requires : tie.Need-removal-step-requires
 removal-step-requires c κs = search needs
 
 returns : tie.Need-returns
-returns c = search (tests, c .waits .ensures, c .before .enum-told .given .1)
+returns c = search (tests, c .moved .ensures, c .before .enum-told .given .1)
 
 returns-2 : tie.Need-returns-2
 returns-2 c = search (tests, c .insert-step .ensures, c .before .before .g .given .1)
@@ -44,7 +44,7 @@ decide-spec =
     tie.close
     (tie.spec
     enum-told
-    waits-requires
+    moved-requires
     enum-known-g
     insert-step-requires
     enum-known-g-2
