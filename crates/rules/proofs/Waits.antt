@@ -2,10 +2,10 @@
 -- nothing.
 use mathlib.Core.Path.{_≡_, refl, sym, ap, _∙_, subst}
 use mathlib.Core.Bool.{Bool, true, false, cond}
-use Prim.Native.Nat.{ℕ, suc, _-_, _<_}
+use Prim.Native.Nat.{ℕ, suc, _-_}
 use native.Mathlib.Omega.{arith}
 use lib.Dec.{ltb, leb, eqb}
-use borrow.Author.Tests.{eqb-false, lt-leb}
+use borrow.Author.Tests.{eqb-false}
 use Rattle.laws.proofs.Booleans.{cond-elim, no}
 use Rattle.record.specs.declared.queues.Processor.{Processor}
 use Rattle.record.specs.declared.queues.Queue.{Queue}
@@ -42,8 +42,8 @@ use Rattle.rules.specs.Decide.{removing, removalSearched, removalSought,
 use Rattle.rules.specs.Decide.{removalStep, deleteStep, decide}
 use Rattle.rules.specs.Locks.{Lock, level, node, holderOf}
 use Rattle.rules.specs.Locks.{Asks, insert-place, removal-place, own-node, own-level}
-use Rattle.rules.specs.Runs.{Reply, answered, counted, listed, stepBy, reply}
-use Rattle.rules.specs.Waits.{Holder, WaitsForTheHolder, MayStep, answerBy, WhoAsksIsTold}
+use Rattle.rules.specs.Runs.{Reply, answered, counted, listed}
+use Rattle.rules.specs.Waits.{Holder, WaitsForTheHolder, answerBy, WhoAsksIsTold}
 use Rattle.rules.proofs.Allowed.{of-call}
 use Rattle.rules.proofs.Inner.{call-inner, step-accepted}
 

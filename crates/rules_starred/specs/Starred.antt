@@ -1,8 +1,8 @@
 -- The starred runs of document 01 (runs at the edges) in one table: what is asked of the
 -- definitions, and what document 01 expects. Run 2 is as document 02 changes it (W8), with its
 -- examples and the last count that is taken; the backlog along the printed run is document 02's
--- (W2), and so are markers (W6), asked along that run and run 5. proofs/Starred.antt has the one
--- fact that covers the table.
+-- (W2), and so are markers (W6), asked along that run and run 5, and the holders of locks that are
+-- waited for (W1). proofs/Starred.antt has the one fact that covers the table.
 use Prim.Native.Nat.{ℕ, zero, suc, _-_}
 use mathlib.Core.Path.{_≡_}
 use mathlib.Core.List.{List, [], _∷_, _++_}
@@ -66,9 +66,15 @@ pub record StarredRun : Type 0 where
 abbrev pub run : Question → List ℕ → StarredRun
 run question expected = record { asked = question; expected = expected }
 
--- the numbers that `reported` gives a begin, EMPTY, and an Insert's answer
+-- the numbers that `reported` gives a begin, a move, a wait, EMPTY, and an Insert's answer
 abbrev began : ℕ
 began = 0
+
+abbrev moved : ℕ
+moved = 1
+
+abbrev waiting : ℕ
+waiting = 2
 
 abbrev empty : ℕ
 empty = 3
@@ -76,12 +82,16 @@ empty = 3
 abbrev insertAnswered : ℕ
 insertAnswered = 5
 
--- the queue of the printed sheet, the queue of runs 4 and 5, and one of two idle processors
+-- the queue of the printed sheet, the queue of runs 4 to 6, and one of three processors and two
+-- nodes
 abbrev single : Queue
 single = freshQueue 1 1 1
 
 abbrev pair : Queue
 pair = freshQueue 2 1 1
+
+abbrev triple : Queue
+triple = freshQueue 3 2 1
 
 -- the printed sheet's first Insert and its 9 steps; its Delete_Min and its 15; its second
 -- Delete_Min and one step
@@ -105,6 +115,21 @@ markedByFirst = filed ++ (deleteMin 0 ∷ replicate 3 (stepBy 0))
 
 abbrev pub markedBySecond : List Turn
 markedBySecond = filed ++ (deleteMin 1 ∷ replicate 3 (stepBy 1))
+
+-- processor 2 has taken the head's lock for its Insert, and 0 is at its G2 for it
+abbrev pub linkersMeet : List Turn
+linkersMeet = insert 2 5 7 1 ∷ (replicate 3 (stepBy 2) ++ (insert 0 3 8 1 ∷ replicate 2 (stepBy 0)))
+
+-- processor 1 has taken the head's lock for its Insert, and the removal of 2 is at its G2 for it
+abbrev pub removalMeets : List Turn
+removalMeets =
+    filed ++ (insert 1 3 8 1 ∷ (replicate 3 (stepBy 1) ++ (deleteMin 2 ∷ replicate 6 (stepBy 2))))
+
+-- processor 1 has taken the first entry's lock for its Insert, and the removal of that entry by 2,
+-- which holds the head's, is at its L2 for it
+abbrev pub ownMeets : List Turn
+ownMeets =
+    filed ++ (insert 1 9 8 1 ∷ (replicate 4 (stepBy 1) ++ (deleteMin 2 ∷ replicate 8 (stepBy 2))))
 
 -- so many times from one on, at each of them 0 and this count; and the times from one to another
 abbrev counts : ℕ → ℕ → ℕ → List ℕ
@@ -160,6 +185,13 @@ starred =
     ∷ run (answer single printed (markers (9 ∷ 9 ∷ []))) (28 ∷ 0 ∷ 0 ∷ 9 ∷ 9 ∷ [])
     ∷ run (answer single printed (markers [])) (28 ∷ 0 ∷ 0 ∷ [])
     ∷ run (answer single filed (markers (9 ∷ []))) (10 ∷ 43 ∷ 9 ∷ [])
+    -- 02, W1: an Insert waits for 2, and goes on when 2 has freed the lock; a removal waits for 1 at
+    -- G2, and at L2
+    ∷ run (answer triple linkersMeet (stepBy 0)) (8 ∷ waiting ∷ 2 ∷ [])
+    ∷ run (answer triple (linkersMeet ++ (stepBy 0 ∷ replicate 4 (stepBy 2))) (stepBy 0))
+    (13 ∷ moved ∷ [])
+    ∷ run (answer triple removalMeets (stepBy 2)) (22 ∷ waiting ∷ 1 ∷ [])
+    ∷ run (answer triple ownMeets (stepBy 2)) (25 ∷ waiting ∷ 1 ∷ [])
     ∷ []
 
 -- every row's question has the expected result

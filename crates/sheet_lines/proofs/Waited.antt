@@ -1,7 +1,7 @@
 -- After a step that waits, the next steps of the same line wait too: nothing but the clock changed.
 -- Assumes nothing.
 use mathlib.Core.Path.{_≡_, refl, sym, ap, _∙_, subst}
-use mathlib.Core.Bool.{Bool, true, false, cond, false≢true}
+use mathlib.Core.Bool.{Bool, true, false, cond}
 use mathlib.Core.List.{List, _++_, append-nil}
 use Prim.Native.Nat.{ℕ, zero, suc, _+_, _-_, _≤_, _<_}
 use native.Mathlib.Omega.{arith}
@@ -9,24 +9,12 @@ use lib.Dec.{ltb, leb, eqb}
 use lib.ListN.{length, set}
 use lib.Seq.{set-getD}
 use borrow.Author.Tests.{lt-leb, lt-ltb, le-ltb, ltb-true, ltb-false, eqb-true}
-use Rattle.laws.proofs.Booleans.{cond-elim, cond-cases}
+use Rattle.laws.proofs.Booleans.{cond-elim, cond-cases, no}
 use Rattle.record_check.specs.Check.{valid}
 use Rattle.record.specs.declared.nodes.Node.{Node}
 use Rattle.record.specs.declared.queues.Processor.{Processor}
 use Rattle.record.specs.declared.queues.Queue.{Queue}
 use Rattle.record.specs.declared.stages.Place.{Place}
-use Rattle.record.specs.declared.stages.Seek.{Seek}
-use Rattle.record.specs.declared.stages.Seek.the-variants as seek
-use Rattle.record.specs.declared.stages.Insert.{Insert}
-use Rattle.record.specs.declared.stages.Insert.the-variants as ins
-use Rattle.record.specs.declared.stages.Removal.{Removal}
-use Rattle.record.specs.declared.stages.Removal.the-variants as rem
-use Rattle.record.specs.declared.stages.Job.{Job}
-use Rattle.record.specs.declared.stages.Job.the-variants as jobs
-use Rattle.record.specs.declared.stages.Delete.{Delete}
-use Rattle.record.specs.declared.stages.Delete.the-variants as del
-use Rattle.record.specs.declared.stages.Stage.{Stage}
-use Rattle.record.specs.declared.stages.Stage.the-variants as stage
 use Rattle.record.specs.Limits.{maxNumber}
 use Rattle.record.specs.Queues.{processorAt}
 use Rattle.record.specs.Stages.{isIdle}
@@ -34,9 +22,6 @@ use Rattle.rules.specs.declared.answers.Answer.{Answer}
 use Rattle.rules.specs.declared.answers.Answer.the-variants as ans
 use Rattle.rules.specs.declared.answers.Outcome.{Outcome}
 use Rattle.rules.specs.declared.decisions.Decision.{Decision}
-use Rattle.rules.specs.declared.decisions.Searched.{Searched}
-use Rattle.rules.specs.declared.decisions.StepView.{StepView}
-use Rattle.rules.specs.declared.decisions.Sought.{Sought}
 use Rattle.rules.specs.Answers.{refused, isRefused, isWaits}
 use Rattle.rules.specs.declared.calls.Call.{Call}
 use Rattle.rules.specs.declared.calls.Call.the-variants as call
@@ -45,7 +30,8 @@ use Rattle.rules.specs.Calls.{calledValid, called}
 use Rattle.rules.specs.Runs.{Turn}
 use Rattle.rules.proofs.Inner.{call-inner}
 use Rattle.rules.proofs.Allowed.{Allowed, allowed, busy-steps}
-use Rattle.rules.specs.Decide.{waits, searchStep, seekStep, insertSearched, insertSought, insertStep, removing, removalSearched, removalSought, removalStep, deleteStep, decide}
+use Rattle.rules.proofs.Waits.{stands}
+use Rattle.rules.specs.Decide.{waits}
 use Rattle.rules.specs.Effects.{accepted}
 use Rattle.sheet_format.specs.declared.events.HistoryLine.{HistoryLine}
 use Rattle.sheet_format.specs.declared.lines.SheetLine.{SheetLine}
@@ -68,87 +54,30 @@ use Rattle.sheet_lines.proofs.Called.{callOn, call-kept, call-queue, cl
 use Rattle.sheet_lines.proofs.Histories.{leftOf, Going, oneMore, goes-on, prints-on}
 use Rattle.sheet_lines.proofs.States.{Written, Within, call-silent}
 
-no : {A : Type 0} → false ≡ true → A
-no {A} e = absurd (false≢true e)
+-- after a step that waits for h
+abbrev waited : Queue → ℕ → Outcome
+waited q h = record { queue = later q 1; answer = ans.Waits h }
 
--- a decision that waits keeps all
-module _ (s : StepView) where
-  abbrev Same : Stage → Decision → Type 0
-  Same g d = isWaits (d .answer) ≡ true → d ≡ waits s g
-
-  insert-search : (a : Place) → Same (stage.Insert (ins.Search a)) (insertSearched s a (searchStep s a))
-  insert-search a =
-      cond-elim (λ (o : Searched). Same (stage.Insert (ins.Search a)) (insertSearched s a o)) (s .nextBeforeKey) _ _ no
-      (cond-elim (λ (o : Searched). Same (stage.Insert (ins.Search a)) (insertSearched s a o)) (leb (a .level) 1) _ _ no no)
-
-  insert-seek : (k : Seek) → Same (stage.Insert (ins.Seek k)) (insertSought s (seekStep s k))
-  insert-seek (seek.Approach a) = cond-elim (λ (o : Sought). Same (stage.Insert (ins.Seek (seek.Approach a))) (insertSought s o)) (s .nextBeforeKey) _ _ no no
-  insert-seek (seek.Take a) = cond-elim (λ (o : Sought). Same (stage.Insert (ins.Seek (seek.Take a))) (insertSought s o)) (eqb (s .placeLock) 0) _ _ no (λ _. refl)
-  insert-seek (seek.Confirm a) = cond-elim (λ (o : Sought). Same (stage.Insert (ins.Seek (seek.Confirm a))) (insertSought s o)) (s .nextBeforeKey) _ _ no no
-  insert-seek (seek.Release a b) = no
-
-  insert-same : (i : Insert) → Same (stage.Insert i) (insertStep s i)
-  insert-same (ins.Search a) = insert-search a
-  insert-same (ins.Seek k) = insert-seek k
-  insert-same (ins.Copy a) = no
-  insert-same (ins.Link a) = no
-  insert-same (ins.FreeLevel a) = cond-elim (Same (stage.Insert (ins.FreeLevel a))) (ltb (a .level) (s .height)) _ _ no no
-  insert-same ins.FreeNode = no
-  insert-same ins.Stamp = no
-
-  removal-search :
-      (j : Job) (a : Place) →
-      Same (removing j (rem.Search a)) (removalSearched j s a (searchStep s a))
-  removal-search j a =
-      let P : Searched → Type 0 = λ o. Same (removing j (rem.Search a)) (removalSearched j s a o) in
-      cond-elim P (s .nextBeforeKey) _ _ no (cond-elim P (leb (a .level) 1) _ _ no no)
-
-  removal-seek :
-      (j : Job) (k : Seek) → Same (removing j (rem.Seek k)) (removalSought j s (seekStep s k))
-  removal-seek j (seek.Approach a) =
-      let g = removing j (rem.Seek (seek.Approach a)) in
-      cond-elim (λ (o : Sought). Same g (removalSought j s o)) (s .nextBeforeKey) _ _ no no
-  removal-seek j (seek.Take a) =
-      let g = removing j (rem.Seek (seek.Take a)) in
-      cond-elim (λ (o : Sought). Same g (removalSought j s o)) (eqb (s .placeLock) 0) _ _ no (λ _. refl)
-  removal-seek j (seek.Confirm a) =
-      let g = removing j (rem.Seek (seek.Confirm a)) in
-      cond-elim (λ (o : Sought). Same g (removalSought j s o)) (s .nextBeforeKey) _ _ no no
-  removal-seek j (seek.Release a b) = no
-
-  removal-same : (j : Job) (r : Removal) → Same (removing j r) (removalStep j s r)
-  removal-same j (rem.Search a) = removal-search j a
-  removal-same j rem.HoldNode =
-      cond-elim (Same (removing j rem.HoldNode)) (eqb (s .ownNodeLock) 0) _ _ no (λ _. refl)
-  removal-same j (rem.Seek k) = removal-seek j k
-  removal-same j (rem.HoldOwn a) =
-      cond-elim (Same (removing j (rem.HoldOwn a))) (eqb (s .ownLock) 0) _ _ no (λ _. refl)
-  removal-same j (rem.Unlink a) = no
-  removal-same j (rem.LeadBack a) = no
-  removal-same j (rem.FreeOwn a) = no
-  removal-same j (rem.FreeLevel a) =
-      cond-elim (Same (removing j (rem.FreeLevel a))) (leb (a .level) 1) _ _ no no
-  removal-same j rem.FreeNode = no
-  removal-same jobs.Deliver rem.Retire = no
-
-  delete-same : (d : Delete) → Same (stage.Delete d) (deleteStep s d)
-  delete-same (del.ReadNext a) = cond-elim (Same (stage.Delete (del.ReadNext a))) (s .nextIsTail) _ _ no no
-  delete-same (del.TestStamp a) = cond-elim (Same (stage.Delete (del.TestStamp a))) (s .stamped) _ _ no no
-  delete-same (del.SetMark a) = cond-elim (Same (stage.Delete (del.SetMark a))) (s .marked) _ _ no no
-
-  waits-same : (g : Stage) → Same g (decide s g)
-  waits-same stage.Idle = λ _. refl
-  waits-same (stage.Insert i) = insert-same i
-  waits-same (stage.Delete d) = delete-same d
-  waits-same (stage.Removal j r) = removal-same j r
-
-abbrev waited : Queue → Outcome
-waited q = record { queue = later q 1; answer = ans.Waits }
-
-nothing-changes : (q : Queue) (p : ℕ) (a : Place) → accepted q p (waits (stepViewOf q (processorAt q p) a) (processorAt q p .stage)) ≡ waited q
-nothing-changes q p a =
-    ap (λ (ns : List Node). record { queue = record { processorCount = q .processorCount; nodeCount = q .nodeCount; levelCount = q .levelCount; clock = q .clock + 1; nodes = ns; processors = set (q .processors) p (processorAt q p) }; answer = ans.Waits }) (set-getD (q .nodes) 0 _)
-    ∙ ap (λ (cs : List Processor). record { queue = record { processorCount = q .processorCount; nodeCount = q .nodeCount; levelCount = q .levelCount; clock = q .clock + 1; nodes = q .nodes; processors = cs }; answer = ans.Waits }) (set-getD (q .processors) p _)
+nothing-changes :
+    (q : Queue) (p h : ℕ) (a : Place) →
+    accepted q p (waits (stepViewOf q (processorAt q p) a) (processorAt q p .stage) h) ≡ waited q h
+nothing-changes q p h a =
+    ap (λ (ns : List Node). left ns (set (q .processors) p (processorAt q p)))
+    (set-getD (q .nodes) 0 _)
+    ∙ ap (left (q .nodes)) (set-getD (q .processors) p _)
+  where
+    left : List Node → List Processor → Outcome
+    left ns cs = record {
+      queue = record {
+        processorCount = q .processorCount;
+        nodeCount = q .nodeCount;
+        levelCount = q .levelCount;
+        clock = q .clock + 1;
+        nodes = ns;
+        processors = cs;
+      };
+      answer = ans.Waits h;
+    }
 
 -- the line's next call waits, whatever the clock is below its end
 pub record Waiting (l : SheetLine) (q : Queue) : Type 0 where
@@ -161,15 +90,25 @@ pub record Waiting (l : SheetLine) (q : Queue) : Type 0 where
 still : (l : SheetLine) (q : Queue) (m : ℕ) → Waiting l q → Waiting l (later q m)
 still l q m w = record { no-insert = w .no-insert; no-delete = w .no-delete; known = w .known; busy = w .busy; stands = w .stands }
 
-once : (l : SheetLine) (q : Queue) → Waiting l q → q .clock < maxNumber → callOn l q ≡ waited q
+-- for whom it waits
+holding : (l : SheetLine) (q : Queue) → Waiting l q → ℕ
+holding l q w =
+    let c = processorAt q (l .first) in
+    stands (stepViewOf q c (readingPlace (c .stage))) (c .stage) (w .stands) .holder
+
+once : (l : SheetLine) (q : Queue) (w : Waiting l q) → q .clock < maxNumber →
+    callOn l q ≡ waited q (holding l q w)
 once l q w h =
+    let c = processorAt q (l .first) in
+    let a = readingPlace (c .stage) in
+    let same = stands (stepViewOf q c a) (c .stage) (w .stands) .same in
     rw (w .no-insert)
     (rw (w .no-delete)
     (rw (lt-leb maxNumber (q .clock) h)
     (rw (w .known)
     (rw (w .busy)
-    (ap (λ (d : Decision). accepted q (l .first) d) (waits-same (stepViewOf q (processorAt q (l .first)) (readingPlace (processorAt q (l .first) .stage))) (processorAt q (l .first) .stage) (w .stands))
-    ∙ nothing-changes q (l .first) (readingPlace (processorAt q (l .first) .stage)))))))
+    (ap (λ (d : Decision). accepted q (l .first) d) same
+    ∙ nothing-changes q (l .first) (holding l q w) a)))))
 
 later-none : (q : Queue) → q ≡ later q 0
 later-none q =
@@ -213,7 +152,7 @@ module _ (s : List ℕ) (q₀ : Queue) (k : ℕ) (l : SheetLine) where
         prints = refl;
       }
   passes (suc m) n q made w v a b g =
-      let o : called q (callOf l) ≡ waited q =
+      let o : called q (callOf l) ≡ waited q (holding l q w) =
       call-inner q (callOf l) v ∙ once l q w (omega arith) in
       let one : valid (later q 1) ≡ true =
       ap (λ (u : Outcome). valid (u .queue)) (sym (once l q w (omega arith))) ∙ call-kept l q v in
@@ -299,7 +238,7 @@ module _ (l : SheetLine) (q : Queue) where
   waits-silent (ans.Refused n) h = no h
   waits-silent (ans.Began t) h = no h
   waits-silent ans.Moved h = no h
-  waits-silent ans.Waits h = refl
+  waits-silent (ans.Waits p) h = refl
   waits-silent ans.Empty h = no h
   waits-silent (ans.Did d e) h = no h
 
@@ -307,7 +246,7 @@ module _ (l : SheetLine) (q : Queue) where
   waits-left (ans.Refused m) n h = no h
   waits-left (ans.Began t) n h = no h
   waits-left ans.Moved n h = no h
-  waits-left ans.Waits n h = refl
+  waits-left (ans.Waits p) n h = refl
   waits-left ans.Empty n h = no h
   waits-left (ans.Did d e) n h = no h
 
