@@ -32,6 +32,7 @@ use Rattle.rules.specs.Calls.{decisionOf, processorOf, called}
 use Rattle.rules.proofs.Allowed.{of-call}
 use Rattle.rules.specs.Decide.{searchStep, seekStep, insertSearched, insertSought, insertStep}
 use Rattle.rules.specs.Decide.{removalSearched, removalSought, removalStep, deleteStep, decide}
+use Rattle.rules.specs.Decide.{nodeTried, ownTried}
 use Rattle.rules.specs.Effects.{accepted}
 use Rattle.rules.specs.Runs.{Turn, calls, backlog, markers, after}
 use Rattle.image_parts.proofs.Arrays.{applied-sized}
@@ -51,7 +52,7 @@ insert-searched s a (srch.Done b) = refl
 
 insert-sought : (s : StepView) (x : Sought) → Answers (insertSought s x)
 insert-sought s (sght.Goes e k) = refl
-insert-sought s (sght.Waits k) = refl
+insert-sought s (sght.Waits k h) = refl
 insert-sought s (sght.Done a) = refl
 
 insert-answers : (s : StepView) (i : Insert) → Answers (insertStep s i)
@@ -71,14 +72,16 @@ removal-searched j s a (srch.Done b) = refl
 
 removal-sought : (j : Job) (s : StepView) (x : Sought) → Answers (removalSought j s x)
 removal-sought j s (sght.Goes e k) = refl
-removal-sought j s (sght.Waits k) = refl
+removal-sought j s (sght.Waits k h) = refl
 removal-sought j s (sght.Done a) = refl
 
 removal-answers : (j : Job) (s : StepView) (r : Removal) → Answers (removalStep j s r)
 removal-answers j s (rem.Search a) = removal-searched j s a (searchStep s a)
-removal-answers j s rem.HoldNode = cond-elim Answers (eqb (s .ownNodeLock) 0) _ _ refl refl
+removal-answers j s rem.HoldNode =
+    cond-elim (λ t. Answers (nodeTried j s t)) (eqb (s .ownNodeLock) 0) _ _ refl refl
 removal-answers j s (rem.Seek k) = removal-sought j s (seekStep s k)
-removal-answers j s (rem.HoldOwn a) = cond-elim Answers (eqb (s .ownLock) 0) _ _ refl refl
+removal-answers j s (rem.HoldOwn a) =
+    cond-elim (λ t. Answers (ownTried j s a t)) (eqb (s .ownLock) 0) _ _ refl refl
 removal-answers j s (rem.Unlink a) = refl
 removal-answers j s (rem.LeadBack a) = refl
 removal-answers j s (rem.FreeOwn a) = refl
