@@ -1,4 +1,5 @@
 pub mod Arrays
+pub mod Attempts
 pub mod Kept
 pub mod Pieces
 pub mod Order

@@ -4,18 +4,18 @@ use mathlib.Core.Bool.{Bool, true, false}
 use mathlib.Core.List.{List, [], _∷_}
 use Prim.Native.Nat.{ℕ, _+_, _*_, _-_, _≤_, _<_}
 use native.Mathlib.Omega.{arith}
-use lib.Dec.{eqb}
 use lib.ListN.{getD}
-use borrow.Author.Tests.{le-leb, lt-leb, eq-eqb, ne-eqb}
+use borrow.Author.Tests.{le-leb, lt-leb}
 use Rattle.record.specs.declared.stages.Seek.the-variants as seek
 use Rattle.record.specs.Keys.{keyBefore}
 use Rattle.record.specs.Queues.{nodeAt, processorAt}
 use Rattle.record.specs.Stages.{place}
 use Rattle.rules.specs.declared.answers.Answer.{Answer}
 use Rattle.rules.specs.declared.answers.Answer.the-variants as ans
+use Rattle.rules.specs.declared.decisions.Attempt.the-variants as try
 use Rattle.rules.specs.declared.decisions.Effect.the-variants as eff
 use Rattle.rules.specs.Calls.{stepViewOf}
-use Rattle.rules.specs.Decide.{moved, waits, saving}
+use Rattle.rules.specs.Decide.{moved, waits, saving, attempt}
 use Rattle.image.specs.Image.{queueIn}
 use Rattle.image.specs.Numbers.{number32}
 use Rattle.image.specs.Puts.{puts, four}
@@ -209,7 +209,7 @@ module _ (w : Bool) (b : List ℕ) (base p : ℕ) (r : Placed b base p (seekTag 
 module _ (w : Bool) (b : List ℕ) (base p : ℕ) (r : Placed b base p (seekTag w + 1))
     (after : List ℕ) (answer : Answer) where
   pub takes :
-      getD b (base + 41 * mine b p 6 + (8 + (mine b p 7 - 1))) 0 ≡ 0 →
+      attempt (getD b (base + 41 * mine b p 6 + (8 + (mine b p 7 - 1))) 0) ≡ try.Taken →
       after ≡ puts
       (puts (puts b 0 (four 3 (number32 b 3 + 1))) (base + 41 * mine b p 6)
       ((8 + (mine b p 7 - 1), p + 1) ∷ [])) (7 + 17 * p) ((5, seekTag w + 2) ∷ []) →
@@ -227,7 +227,7 @@ module _ (w : Bool) (b : List ℕ) (base p : ℕ) (r : Placed b base p (seekTag 
       (take-tag w (mine b p 6) (mine b p 7) (mine b p 8)) (seek-busy w (seek.Take a))
       (moved s (eff.HoldLevel a) (seeking w (seek.Confirm a)))
       (take-goes (stepViewOf q c) a w
-      (ap (λ (n : ℕ). eqb n 0) (place-lock-is b base p (seekTag w + 1) r) ∙ eq-eqb _ _ h))
+      (ap attempt (place-lock-is b base p (seekTag w + 1) r) ∙ h))
       ((8 + (mine b p 7 - 1), p + 1) ∷ []) ((5, seekTag w + 2) ∷ []) (omega (arith, r .node-low))
       (omega arith, tt) (omega arith, tt)
       (put-lock (nodeAt q (mine b p 6)) (mine b p 7 - 1) (p + 1) [] k<
@@ -235,11 +235,12 @@ module _ (w : Bool) (b : List ℕ) (base p : ℕ) (r : Placed b base p (seekTag 
       (confirms-next c a w) after e answer f
 
   pub take-waits :
-      (getD b (base + 41 * mine b p 6 + (8 + (mine b p 7 - 1))) 0 ≡ 0 → ⊥) →
+      (x : ℕ) →
+      attempt (getD b (base + 41 * mine b p 6 + (8 + (mine b p 7 - 1))) 0) ≡ try.HeldBy x →
       after ≡ puts (puts b 0 (four 3 (number32 b 3 + 1))) (7 + 17 * p) [] →
-      answer ≡ ans.Waits →
+      answer ≡ ans.Waits x →
       Stepped b p after answer
-  take-waits h e f =
+  take-waits x h e f =
       let q = queueIn b in
       let c = processorAt q p in
       let a = place (mine b p 6) (mine b p 7) in
@@ -249,9 +250,9 @@ module _ (w : Bool) (b : List ℕ) (base p : ℕ) (r : Placed b base p (seekTag 
       (r .low) (r .few)
       (r .early) (r .tagged) (seeking w (seek.Take a))
       (take-tag w (mine b p 6) (mine b p 7) (mine b p 8)) (seek-busy w (seek.Take a))
-      (waits s (seeking w (seek.Take a)))
-      (take-stays (stepViewOf q c) a w
-      (ap (λ (n : ℕ). eqb n 0) (place-lock-is b base p (seekTag w + 1) r) ∙ ne-eqb _ _ h))
+      (waits s (seeking w (seek.Take a)) x)
+      (take-stays (stepViewOf q c) a w x
+      (ap attempt (place-lock-is b base p (seekTag w + 1) r) ∙ h))
       [] [] (omega arith) tt tt
       refl
       refl after e answer f

@@ -1,10 +1,10 @@
 -- The walks' stages by their tags, what they decide, and their bytes: for an Insert and for a
 -- removal alike. Assumes nothing.
-use mathlib.Core.Path.{_≡_, refl}
+use mathlib.Core.Path.{_≡_, refl, ap}
 use mathlib.Core.Bool.{Bool, true, false}
 use mathlib.Core.List.{List, [], _∷_}
 use Prim.Native.Nat.{ℕ, _+_, _-_}
-use lib.Dec.{eqb, leb}
+use lib.Dec.{leb}
 use lib.ListN.{length, set}
 use Rattle.record.specs.declared.queues.Processor.{Processor}
 use Rattle.record.specs.declared.stages.Place.{Place}
@@ -16,10 +16,13 @@ use Rattle.record.specs.declared.stages.Job.the-variants as jobs
 use Rattle.record.specs.declared.stages.Stage.{Stage}
 use Rattle.record.specs.declared.stages.Stage.the-variants as stage
 use Rattle.record.specs.Stages.{place, isIdle}
+use Rattle.rules.specs.declared.decisions.Attempt.{Attempt}
+use Rattle.rules.specs.declared.decisions.Attempt.the-variants as try
 use Rattle.rules.specs.declared.decisions.Effect.the-variants as eff
 use Rattle.rules.specs.declared.decisions.StepView.{StepView}
 use Rattle.rules.specs.Calls.{readingPlace}
 use Rattle.rules.specs.Decide.{moved, waits, saving, decide, removing}
+use Rattle.rules.specs.Decide.{attempt, placeTried, insertSought, removalSought}
 use Rattle.image.specs.Tags.{code, stageOf}
 use Rattle.image.specs.Pieces.{processorImage}
 use Rattle.image.specs.Puts.{putsIn}
@@ -119,18 +122,20 @@ module _ (see : Place → StepView) (a : Place) where
   approach-ends false h = rw h refl
 
   pub take-goes :
-      (w : Bool) → eqb (see a .placeLock) 0 ≡ true →
+      (w : Bool) → attempt (see a .placeLock) ≡ try.Taken →
       decide (see (readingPlace (seeking w (seek.Take a)))) (seeking w (seek.Take a))
       ≡ moved (see a) (eff.HoldLevel a) (seeking w (seek.Confirm a))
-  take-goes true h = rw h refl
-  take-goes false h = rw h refl
+  take-goes true h =
+      ap (λ (t : Attempt). removalSought jobs.Deliver (see a) (placeTried a t)) h
+  take-goes false h = ap (λ (t : Attempt). insertSought (see a) (placeTried a t)) h
 
   pub take-stays :
-      (w : Bool) → eqb (see a .placeLock) 0 ≡ false →
+      (w : Bool) (x : ℕ) → attempt (see a .placeLock) ≡ try.HeldBy x →
       decide (see (readingPlace (seeking w (seek.Take a)))) (seeking w (seek.Take a))
-      ≡ waits (see a) (seeking w (seek.Take a))
-  take-stays true h = rw h refl
-  take-stays false h = rw h refl
+      ≡ waits (see a) (seeking w (seek.Take a)) x
+  take-stays true x h =
+      ap (λ (t : Attempt). removalSought jobs.Deliver (see a) (placeTried a t)) h
+  take-stays false x h = ap (λ (t : Attempt). insertSought (see a) (placeTried a t)) h
 
   pub confirm-goes :
       (w : Bool) → see a .nextBeforeKey ≡ true →

@@ -13,7 +13,9 @@ use image::numbers::tick;
 use image::processor;
 use image::tag;
 use image_parts::keys::before;
+use image_parts::locks::try_lock;
 use rules::Answer;
+use rules::Attempt;
 
 // The tag of G1; G2, G3 and G4 have the next ones.
 fn seek_tag(removal: bool) -> u8
@@ -89,16 +91,15 @@ pub fn take(image: &mut [u8], base: usize, p: usize, removal: bool) -> Answer
     let a = image[at + processor::PLACE];
     let i = image[at + processor::LEVEL];
     let k = (i as usize) - 1;
-    let h = (p as u8) + 1;
-    let place_lock = image[base + NODE_BYTES * (a as usize) + (node::LEVEL_LOCKS + k)];
     let first = seek_tag(removal);
     tick(image);
-    if place_lock == 0 {
-        image[base + NODE_BYTES * (a as usize) + (node::LEVEL_LOCKS + k)] = h;
-        image[at + processor::TAG] = first + 2;
-        return Answer::Moved;
+    match try_lock(image, base + NODE_BYTES * (a as usize) + (node::LEVEL_LOCKS + k), p) {
+        Attempt::Taken => {
+            image[at + processor::TAG] = first + 2;
+            Answer::Moved
+        }
+        Attempt::HeldBy(h) => Answer::Waits(h),
     }
-    Answer::Waits
 }
 
 // G3.

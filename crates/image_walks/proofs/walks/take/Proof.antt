@@ -1,6 +1,9 @@
 use mathlib.Core.Path.{refl}
+use Prim.Native.Nat.{_+_, _*_, _-_, _≤_}
 use native.Mathlib.Omega.{arith}
 use lib.ListN.{length-set}
+use Rattle.image_parts.proofs.Attempts.{tried}
+use Rattle.image_parts.proofs.Readings.{mine}
 use Rattle.image_walks.proofs.Steps.{takes, take-waits}
 use borrow.Author.Needs.{needs}
 use Rattle.image_walks.proofs.walks.take.Statement.{statement}
@@ -30,41 +33,32 @@ cast-k c = search needs
 sub-k : tie.Need-sub-k
 sub-k c = search needs
 
-cast-h : tie.Need-cast-h
-cast-h c = search needs
-
-add-h : tie.Need-add-h
-add-h c = search needs
-
-cast-place-lock : tie.Need-cast-place-lock
-cast-place-lock c = search needs
-
-mul-place-lock : tie.Need-mul-place-lock
-mul-place-lock c = search needs
-
-add-place-lock : tie.Need-add-place-lock
-add-place-lock c = search needs
-
-add-place-lock-2 : tie.Need-add-place-lock-2
-add-place-lock-2 c = search needs
-
-add-place-lock-3 : tie.Need-add-place-lock-3
-add-place-lock-3 c = search needs
-
-slice-read-place-lock : tie.Need-slice-read-place-lock
-slice-read-place-lock c = search needs
-
 seek-tag-requires : tie.Need-seek-tag-requires
 seek-tag-requires c κs = search needs
 
 tick-requires : tie.Need-tick-requires
 tick-requires c κs = search needs
 
-cast-image : tie.Need-cast-image
-cast-image c = search needs
+cast-try-lock : tie.Need-cast-try-lock
+cast-try-lock c = search needs
 
-mul-image : tie.Need-mul-image
-mul-image c = search needs
+mul-try-lock : tie.Need-mul-try-lock
+mul-try-lock c = search needs
+
+add-try-lock : tie.Need-add-try-lock
+add-try-lock c = search needs
+
+add-try-lock-2 : tie.Need-add-try-lock-2
+add-try-lock-2 c = search needs
+
+add-try-lock-3 : tie.Need-add-try-lock-3
+add-try-lock-3 c = search needs
+
+try-lock-requires : tie.Need-try-lock-requires
+try-lock-requires c κs = search needs
+
+enum-told : tie.Need-enum-told
+enum-told c = search needs
 
 add-image : tie.Need-add-image
 add-image c = search needs
@@ -72,32 +66,30 @@ add-image c = search needs
 add-image-2 : tie.Need-add-image-2
 add-image-2 c = search needs
 
-add-image-3 : tie.Need-add-image-3
-add-image-3 c = search needs
-
 slice-write-image : tie.Need-slice-write-image
 slice-write-image c = search needs
 
-add-image-4 : tie.Need-add-image-4
-add-image-4 c = search needs
-
-add-image-5 : tie.Need-add-image-5
-add-image-5 c = search needs
-
-slice-write-image-2 : tie.Need-slice-write-image-2
-slice-write-image-2 c = simp length-set (omega arith)
+enum-known-h : tie.Need-enum-known-h
+enum-known-h c = search needs
 
 same-length : tie.Need-same-length
-same-length c = search needs
+same-length c = simp length-set (omega arith)
 
 returns : tie.Need-returns
 returns c =
-    let s = c .before .before .before .before .before .before .before .before .before .before in
-    takes (s .args .removal) (s .args .image .now) (s .args .base) (s .args .p) (s .pre) _ _
-    (c .if1 .taken)
+    let s = c .before .before .before .before .before .before .before .before .before .before .before .before .before .before in
+    let v = c .before .before .before .before in
+    let t = c .before .before .before .before .before .before .before .before .tick in
+    let b = s .args .image .now in
+    let low : 7 ≤ s .args .base + 41 * mine b (s .args .p) 6 + (8 + (mine b (s .args .p) 7 - 1)) =
+    omega (arith, s .pre .start) in
+    takes (s .args .removal) b (s .args .base) (s .args .p) (s .pre) _ _
+    (tried b _ _ _ _ _ low (t .ensures) (v .try-lock .ensures .0) (c .enum-told .given .1))
     (simp (
-      c .before .before .before .tick .ensures,
-      c .before .before .before .before .before .seek-tag .ensures .0,
+      v .try-lock .ensures .1,
+      c .enum-told .given .1,
+      t .ensures,
+      c .before .before .before .before .before .before .before .before .before .before .seek-tag .ensures .0,
     )) refl
 
 same-length-2 : tie.Need-same-length-2
@@ -105,9 +97,15 @@ same-length-2 c = search needs
 
 returns-2 : tie.Need-returns-2
 returns-2 c =
-    let s = c .before .before .before .before .before .before .before .before .before .before in
-    take-waits (s .args .removal) (s .args .image .now) (s .args .base) (s .args .p) (s .pre) _ _
-    (c .if1 .left) (simp (c .before .before .before .tick .ensures)) refl
+    let s = c .before .before .before .before .before .before .before .before .before .before .before .before .before .before .before in
+    let v = c .before .before .before .before .before in
+    let t = c .before .before .before .before .before .before .before .before .before .tick in
+    let b = s .args .image .now in
+    let low : 7 ≤ s .args .base + 41 * mine b (s .args .p) 6 + (8 + (mine b (s .args .p) 7 - 1)) =
+    omega (arith, s .pre .start) in
+    take-waits (s .args .removal) b (s .args .base) (s .args .p) (s .pre) _ _ _
+    (tried b _ _ _ _ _ low (t .ensures) (v .try-lock .ensures .0) (c .before .h .given .1))
+    (simp (v .try-lock .ensures .1, c .before .h .given .1, t .ensures)) refl
 
 pub take-spec : {M : Type 1} → statement M
 take-spec =
@@ -121,25 +119,19 @@ take-spec =
     slice-read-i
     cast-k
     sub-k
-    cast-h
-    add-h
-    cast-place-lock
-    mul-place-lock
-    add-place-lock
-    add-place-lock-2
-    add-place-lock-3
-    slice-read-place-lock
     seek-tag-requires
     tick-requires
-    cast-image
-    mul-image
+    cast-try-lock
+    mul-try-lock
+    add-try-lock
+    add-try-lock-2
+    add-try-lock-3
+    try-lock-requires
+    enum-told
     add-image
     add-image-2
-    add-image-3
     slice-write-image
-    add-image-4
-    add-image-5
-    slice-write-image-2
+    enum-known-h
     same-length
     returns
     same-length-2
