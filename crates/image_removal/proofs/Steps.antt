@@ -4,7 +4,7 @@ use mathlib.Core.List.{List, [], _∷_, _++_}
 use Prim.Native.Nat.{ℕ, _+_, _*_, _-_, _≤_, _<_}
 use native.Mathlib.Omega.{arith}
 use lib.ListN.{getD}
-use borrow.Author.Tests.{le-leb, lt-leb, eq-eqb, ne-eqb}
+use borrow.Author.Tests.{le-leb, lt-leb}
 use Rattle.record.specs.declared.nodes.Node.{Node}
 use Rattle.record.specs.declared.queues.Processor.{Processor}
 use Rattle.record.specs.declared.stages.Seek.the-variants as seek
@@ -20,9 +20,10 @@ use Rattle.image.specs.Pieces.{processorImage}
 use Rattle.rules.specs.declared.answers.Answer.{Answer}
 use Rattle.rules.specs.declared.answers.Answer.the-variants as ans
 use Rattle.rules.specs.declared.answers.Deed.the-variants as deed
+use Rattle.rules.specs.declared.decisions.Attempt.the-variants as try
 use Rattle.rules.specs.declared.decisions.Effect.the-variants as eff
 use Rattle.rules.specs.Calls.{stepViewOf}
-use Rattle.rules.specs.Decide.{moved, waits, answers, removing}
+use Rattle.rules.specs.Decide.{moved, waits, answers, removing, attempt, nodeTried, ownTried}
 use Rattle.image.specs.Puts.{puts, four, piece, clears, rests}
 use Rattle.image.specs.Image.{queueIn}
 use Rattle.image_parts.specs.Given.{Stepped}
@@ -95,7 +96,7 @@ module _ (b : List ℕ) (base p tag : ℕ) (r : Owned b base p tag) where
 -- L1
 module _ (b : List ℕ) (base p : ℕ) (r : Owned b base p 15) (after : List ℕ) (answer : Answer) where
   pub holds-node :
-      getD b (base + 41 * mine b p 4 + 16) 0 ≡ 0 →
+      attempt (getD b (base + 41 * mine b p 4 + 16) 0) ≡ try.Taken →
       after ≡ puts
       (puts (puts b 0 (four 3 (number32 b 3 + 1))) (base + 41 * mine b p 4) ((16, p + 1) ∷ []))
       (7 + 17 * p)
@@ -116,13 +117,8 @@ module _ (b : List ℕ) (base p : ℕ) (r : Owned b base p 15) (after : List ℕ
       (seek.Approach
       (place (mine b p (9 + (getD b (base + 41 * mine b p 4 + 35) 0 - 1)))
       (getD b (base + 41 * mine b p 4 + 35) 0))))))
-      (rw (
-        holder-is b base p 15 r,
-        eq-eqb _ _ h,
-        tall-is b base p 15 r,
-        top-is b base p 15 r,
-        mine-is b base p 15 r,
-      ) refl)
+      (ap (nodeTried jobs.Deliver s) (ap attempt (holder-is b base p 15 r) ∙ h)
+      ∙ rw (tall-is b base p 15 r, top-is b base p 15 r, mine-is b base p 15 r) refl)
       ((16, p + 1) ∷ [])
       ((5, 16) ∷ (6, mine b p (9 + (getD b (base + 41 * mine b p 4 + 35) 0 - 1))) ∷
       (7, getD b (base + 41 * mine b p 4 + 35) 0) ∷ []) (own-low b base p 15 r)
@@ -130,25 +126,26 @@ module _ (b : List ℕ) (base p : ℕ) (r : Owned b base p 15) (after : List ℕ
       (put-holder (nodeAt q (mine b p 4)) (p + 1)) (refl) after e answer f
 
   pub node-waits :
-      (getD b (base + 41 * mine b p 4 + 16) 0 ≡ 0 → ⊥) →
+      (x : ℕ) → attempt (getD b (base + 41 * mine b p 4 + 16) 0) ≡ try.HeldBy x →
       after ≡ puts (puts b 0 (four 3 (number32 b 3 + 1))) (7 + 17 * p) ([]) →
-      answer ≡ ans.Waits →
+      answer ≡ ans.Waits x →
       Stepped b p after answer
   unfolding processorImage
-  node-waits h e f =
+  node-waits x h e f =
       let q = queueIn b in
       let c = processorAt q p in
       let s = stepViewOf q c (place 0 1) in
       arm b base p 15 (r .sound) (r .start) (r .nodes-high) (r .processors-high) (r .low)
       (r .few) (r .early) (r .tagged) (deliver (rem.HoldNode)) refl refl
-      (waits s (deliver (rem.HoldNode))) (rw (holder-is b base p 15 r, ne-eqb _ _ h) refl)
+      (waits s (deliver (rem.HoldNode)) x)
+      (ap (nodeTried jobs.Deliver s) (ap attempt (holder-is b base p 15 r) ∙ h))
       ([]) ([]) (omega arith) tt tt
       (refl) (refl) after e answer f
 
 -- L2
 module _ (b : List ℕ) (base p : ℕ) (r : Placed b base p 20) (after : List ℕ) (answer : Answer) where
   pub holds-own :
-      getD b (base + 41 * mine b p 4 + (8 + (mine b p 7 - 1))) 0 ≡ 0 →
+      attempt (getD b (base + 41 * mine b p 4 + (8 + (mine b p 7 - 1))) 0) ≡ try.Taken →
       after ≡ puts
       (puts (puts b 0 (four 3 (number32 b 3 + 1))) (base + 41 * mine b p 4)
       ((8 + (mine b p 7 - 1), p + 1) ∷ [])) (7 + 17 * p) ((5, 21) ∷ []) →
@@ -165,7 +162,8 @@ module _ (b : List ℕ) (base p : ℕ) (r : Placed b base p 20) (after : List �
       arm b base p 20 (r .sound) (r .start) (r .nodes-high) (r .processors-high) (r .low)
       (r .few) (r .early) (r .tagged) (deliver (rem.HoldOwn a)) refl refl
       (moved s (eff.HoldLevel (place (mine b p 4) (mine b p 7))) (deliver (rem.Unlink a)))
-      (rw (own-lock-is b base p 20 r, eq-eqb _ 0 h, own-is b base p 20 r) refl)
+      (ap (ownTried jobs.Deliver s a) (ap attempt (own-lock-is b base p 20 r) ∙ h)
+      ∙ rw (own-is b base p 20 r) refl)
       ((8 + k, p + 1) ∷ []) ((5, 21) ∷ []) (omega (arith, r .own-high, r .nodes-high))
       (omega arith, tt) (omega arith, tt)
       (put-lock (nodeAt q (mine b p 4)) (mine b p 7 - 1) (p + 1) [] k<
@@ -173,12 +171,13 @@ module _ (b : List ℕ) (base p : ℕ) (r : Placed b base p 20) (after : List �
       (refl) after e answer f
 
   pub own-waits :
-      (getD b (base + 41 * mine b p 4 + (8 + (mine b p 7 - 1))) 0 ≡ 0 → ⊥) →
+      (x : ℕ) →
+      attempt (getD b (base + 41 * mine b p 4 + (8 + (mine b p 7 - 1))) 0) ≡ try.HeldBy x →
       after ≡ puts (puts b 0 (four 3 (number32 b 3 + 1))) (7 + 17 * p) ([]) →
-      answer ≡ ans.Waits →
+      answer ≡ ans.Waits x →
       Stepped b p after answer
   unfolding processorImage
-  own-waits h e f =
+  own-waits x h e f =
       let q = queueIn b in
       let c = processorAt q p in
       let a = place (mine b p 6) (mine b p 7) in
@@ -187,7 +186,8 @@ module _ (b : List ℕ) (base p : ℕ) (r : Placed b base p 20) (after : List �
       let k< : k < 8 = omega (arith, r .level-high, r .level-low) in
       arm b base p 20 (r .sound) (r .start) (r .nodes-high) (r .processors-high) (r .low)
       (r .few) (r .early) (r .tagged) (deliver (rem.HoldOwn a)) refl refl
-      (waits s (deliver (rem.HoldOwn a))) (rw (own-lock-is b base p 20 r, ne-eqb _ 0 h) refl)
+      (waits s (deliver (rem.HoldOwn a)) x)
+      (ap (ownTried jobs.Deliver s a) (ap attempt (own-lock-is b base p 20 r) ∙ h))
       ([]) ([]) (omega arith) tt tt
       (refl) (refl) after e answer f
 

@@ -14,7 +14,9 @@ use image::numbers::put_number;
 use image::numbers::tick;
 use image::processor;
 use image::tag;
+use image_parts::locks::try_lock;
 use rules::Answer;
+use rules::Attempt;
 use rules::Deed;
 use rules::Entry;
 
@@ -26,19 +28,18 @@ pub fn hold_node(image: &mut [u8], base: usize, p: usize) -> Answer
     let at = HEADER + PROCESSOR_BYTES * p;
     let own = image[at + processor::OWN];
     let here = base + NODE_BYTES * (own as usize);
-    let h = (p as u8) + 1;
     let height = image[here + node::HEIGHT];
     let top = image[at + (processor::SAVED + ((height as usize) - 1))];
-    let holder = image[here + node::NODE_LOCK];
     tick(image);
-    if holder == 0 {
-        image[here + node::NODE_LOCK] = h;
-        image[at + processor::TAG] = tag::REMOVAL_SEEK;
-        image[at + processor::PLACE] = top;
-        image[at + processor::LEVEL] = height;
-        return Answer::Moved;
+    match try_lock(image, here + node::NODE_LOCK, p) {
+        Attempt::Taken => {
+            image[at + processor::TAG] = tag::REMOVAL_SEEK;
+            image[at + processor::PLACE] = top;
+            image[at + processor::LEVEL] = height;
+            Answer::Moved
+        }
+        Attempt::HeldBy(h) => Answer::Waits(h),
     }
-    Answer::Waits
 }
 
 // L2.
@@ -50,15 +51,15 @@ pub fn hold_own(image: &mut [u8], base: usize, p: usize) -> Answer
     let own = image[at + processor::OWN];
     let i = image[at + processor::LEVEL];
     let k = (i as usize) - 1;
-    let h = (p as u8) + 1;
-    let own_lock = image[base + NODE_BYTES * (own as usize) + (node::LEVEL_LOCKS + k)];
+    let lock = base + NODE_BYTES * (own as usize) + (node::LEVEL_LOCKS + k);
     tick(image);
-    if own_lock == 0 {
-        image[base + NODE_BYTES * (own as usize) + (node::LEVEL_LOCKS + k)] = h;
-        image[at + processor::TAG] = tag::UNLINK;
-        return Answer::Moved;
+    match try_lock(image, lock, p) {
+        Attempt::Taken => {
+            image[at + processor::TAG] = tag::UNLINK;
+            Answer::Moved
+        }
+        Attempt::HeldBy(h) => Answer::Waits(h),
     }
-    Answer::Waits
 }
 
 // L3.

@@ -91,9 +91,10 @@ pub fn take(image: &mut [u8], base: usize, p: usize, removal: bool) -> Answer
     let a = image[at + processor::PLACE];
     let i = image[at + processor::LEVEL];
     let k = (i as usize) - 1;
+    let lock = base + NODE_BYTES * (a as usize) + (node::LEVEL_LOCKS + k);
     let first = seek_tag(removal);
     tick(image);
-    match try_lock(image, base + NODE_BYTES * (a as usize) + (node::LEVEL_LOCKS + k), p) {
+    match try_lock(image, lock, p) {
         Attempt::Taken => {
             image[at + processor::TAG] = first + 2;
             Answer::Moved

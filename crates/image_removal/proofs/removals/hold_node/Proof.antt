@@ -1,6 +1,9 @@
 use mathlib.Core.Path.{refl}
+use Prim.Native.Nat.{_+_, _*_, _≤_}
 use native.Mathlib.Omega.{arith}
 use lib.ListN.{length-set}
+use Rattle.image_parts.proofs.Attempts.{tried}
+use Rattle.image_parts.proofs.Readings.{mine}
 use Rattle.image_removal.proofs.Steps.{holds-node, node-waits}
 use borrow.Author.Needs.{needs}
 use Rattle.image_removal.proofs.removals.hold_node.Statement.{statement}
@@ -27,12 +30,6 @@ mul-here c = search needs
 add-here : tie.Need-add-here
 add-here c = search needs
 
-cast-h : tie.Need-cast-h
-cast-h c = search needs
-
-add-h : tie.Need-add-h
-add-h c = search needs
-
 add-height : tie.Need-add-height
 add-height c = search needs
 
@@ -54,14 +51,17 @@ add-top-2 c = search needs
 slice-read-top : tie.Need-slice-read-top
 slice-read-top c = search needs
 
-add-holder : tie.Need-add-holder
-add-holder c = search needs
-
-slice-read-holder : tie.Need-slice-read-holder
-slice-read-holder c = search needs
-
 tick-requires : tie.Need-tick-requires
 tick-requires c κs = search needs
+
+add-try-lock : tie.Need-add-try-lock
+add-try-lock c = search needs
+
+try-lock-requires : tie.Need-try-lock-requires
+try-lock-requires c κs = search needs
+
+enum-told : tie.Need-enum-told
+enum-told c = search needs
 
 add-image : tie.Need-add-image
 add-image c = search needs
@@ -81,29 +81,38 @@ add-image-3 c = search needs
 slice-write-image-3 : tie.Need-slice-write-image-3
 slice-write-image-3 c = simp length-set (omega arith)
 
-add-image-4 : tie.Need-add-image-4
-add-image-4 c = search needs
-
-slice-write-image-4 : tie.Need-slice-write-image-4
-slice-write-image-4 c = simp length-set (omega arith)
+enum-known-h : tie.Need-enum-known-h
+enum-known-h c = search needs
 
 same-length : tie.Need-same-length
-same-length c = search needs
+same-length c = simp length-set (omega arith)
 
 returns : tie.Need-returns
 returns c =
-    let s = c .before .before .before .before .before .before .before .before .before .before in
-    holds-node (s .args .image .now) (s .args .base) (s .args .p) (s .pre) _ _ (c .if1 .taken)
-    (simp (c .before .before .before .tick .ensures)) refl
+    let s = c .before .before .before .before .before .before .before .before .before .before .before .before .before .before in
+    let v = c .before .before .before .before in
+    let t = c .before .before .before .before .before .before .before .before .tick in
+    let b = s .args .image .now in
+    let low : 7 ≤ s .args .base + 41 * mine b (s .args .p) 4 + 16 =
+    omega (arith, s .pre .start) in
+    holds-node b (s .args .base) (s .args .p) (s .pre) _ _
+    (tried b _ _ _ _ _ low (t .ensures) (v .try-lock .ensures .0) (c .enum-told .given .1))
+    (simp (v .try-lock .ensures .1, c .enum-told .given .1, t .ensures)) refl
 
 same-length-2 : tie.Need-same-length-2
 same-length-2 c = search needs
 
 returns-2 : tie.Need-returns-2
 returns-2 c =
-    let s = c .before .before .before .before .before .before .before .before .before .before in
-    node-waits (s .args .image .now) (s .args .base) (s .args .p) (s .pre) _ _ (c .if1 .left)
-    (simp (c .before .before .before .tick .ensures)) refl
+    let s = c .before .before .before .before .before .before .before .before .before .before .before .before .before .before .before in
+    let v = c .before .before .before .before .before in
+    let t = c .before .before .before .before .before .before .before .before .before .tick in
+    let b = s .args .image .now in
+    let low : 7 ≤ s .args .base + 41 * mine b (s .args .p) 4 + 16 =
+    omega (arith, s .pre .start) in
+    node-waits b (s .args .base) (s .args .p) (s .pre) _ _ _
+    (tried b _ _ _ _ _ low (t .ensures) (v .try-lock .ensures .0) (c .before .h .given .1))
+    (simp (v .try-lock .ensures .1, c .before .h .given .1, t .ensures)) refl
 
 pub hold-node-spec : {M : Type 1} → statement M
 hold-node-spec =
@@ -116,8 +125,6 @@ hold-node-spec =
     cast-here
     mul-here
     add-here
-    cast-h
-    add-h
     add-height
     slice-read-height
     cast-top
@@ -125,17 +132,17 @@ hold-node-spec =
     add-top
     add-top-2
     slice-read-top
-    add-holder
-    slice-read-holder
     tick-requires
+    add-try-lock
+    try-lock-requires
+    enum-told
     add-image
     slice-write-image
     add-image-2
     slice-write-image-2
     add-image-3
     slice-write-image-3
-    add-image-4
-    slice-write-image-4
+    enum-known-h
     same-length
     returns
     same-length-2

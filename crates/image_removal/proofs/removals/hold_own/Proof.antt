@@ -1,6 +1,9 @@
 use mathlib.Core.Path.{refl}
+use Prim.Native.Nat.{_+_, _*_, _-_, _≤_}
 use native.Mathlib.Omega.{arith}
 use lib.ListN.{length-set}
+use Rattle.image_parts.proofs.Attempts.{tried}
+use Rattle.image_parts.proofs.Readings.{mine}
 use Rattle.image_removal.proofs.Steps.{holds-own, own-waits}
 use borrow.Author.Needs.{needs}
 use Rattle.image_removal.proofs.removals.hold_own.Statement.{statement}
@@ -30,74 +33,68 @@ cast-k c = search needs
 sub-k : tie.Need-sub-k
 sub-k c = search needs
 
-cast-h : tie.Need-cast-h
-cast-h c = search needs
+cast-lock : tie.Need-cast-lock
+cast-lock c = search needs
 
-add-h : tie.Need-add-h
-add-h c = search needs
+mul-lock : tie.Need-mul-lock
+mul-lock c = search needs
 
-cast-own-lock : tie.Need-cast-own-lock
-cast-own-lock c = search needs
+add-lock : tie.Need-add-lock
+add-lock c = search needs
 
-mul-own-lock : tie.Need-mul-own-lock
-mul-own-lock c = search needs
+add-lock-2 : tie.Need-add-lock-2
+add-lock-2 c = search needs
 
-add-own-lock : tie.Need-add-own-lock
-add-own-lock c = search needs
-
-add-own-lock-2 : tie.Need-add-own-lock-2
-add-own-lock-2 c = search needs
-
-add-own-lock-3 : tie.Need-add-own-lock-3
-add-own-lock-3 c = search needs
-
-slice-read-own-lock : tie.Need-slice-read-own-lock
-slice-read-own-lock c = search needs
+add-lock-3 : tie.Need-add-lock-3
+add-lock-3 c = search needs
 
 tick-requires : tie.Need-tick-requires
 tick-requires c κs = search needs
 
-cast-image : tie.Need-cast-image
-cast-image c = search needs
+try-lock-requires : tie.Need-try-lock-requires
+try-lock-requires c κs = search needs
 
-mul-image : tie.Need-mul-image
-mul-image c = search needs
+enum-told : tie.Need-enum-told
+enum-told c = search needs
 
 add-image : tie.Need-add-image
 add-image c = search needs
 
-add-image-2 : tie.Need-add-image-2
-add-image-2 c = search needs
-
-add-image-3 : tie.Need-add-image-3
-add-image-3 c = search needs
-
 slice-write-image : tie.Need-slice-write-image
 slice-write-image c = search needs
 
-add-image-4 : tie.Need-add-image-4
-add-image-4 c = search needs
-
-slice-write-image-2 : tie.Need-slice-write-image-2
-slice-write-image-2 c = simp length-set (omega arith)
+enum-known-h : tie.Need-enum-known-h
+enum-known-h c = search needs
 
 same-length : tie.Need-same-length
-same-length c = search needs
+same-length c = simp length-set (omega arith)
 
 returns : tie.Need-returns
 returns c =
-    let s = c .before .before .before .before .before .before .before .before .before in
-    holds-own (s .args .image .now) (s .args .base) (s .args .p) (s .pre) _ _ (c .if1 .taken)
-    (simp (c .before .before .before .tick .ensures)) refl
+    let s = c .before .before .before .before .before .before .before .before .before .before .before .before .before in
+    let v = c .before .before .before .before in
+    let t = c .before .before .before .before .before .before .before .before .tick in
+    let b = s .args .image .now in
+    let low : 7 ≤ s .args .base + 41 * mine b (s .args .p) 4 + (8 + (mine b (s .args .p) 7 - 1)) =
+    omega (arith, s .pre .start) in
+    holds-own b (s .args .base) (s .args .p) (s .pre) _ _
+    (tried b _ _ _ _ _ low (t .ensures) (v .try-lock .ensures .0) (c .enum-told .given .1))
+    (simp (v .try-lock .ensures .1, c .enum-told .given .1, t .ensures)) refl
 
 same-length-2 : tie.Need-same-length-2
 same-length-2 c = search needs
 
 returns-2 : tie.Need-returns-2
 returns-2 c =
-    let s = c .before .before .before .before .before .before .before .before .before in
-    own-waits (s .args .image .now) (s .args .base) (s .args .p) (s .pre) _ _ (c .if1 .left)
-    (simp (c .before .before .before .tick .ensures)) refl
+    let s = c .before .before .before .before .before .before .before .before .before .before .before .before .before .before in
+    let v = c .before .before .before .before .before in
+    let t = c .before .before .before .before .before .before .before .before .before .tick in
+    let b = s .args .image .now in
+    let low : 7 ≤ s .args .base + 41 * mine b (s .args .p) 4 + (8 + (mine b (s .args .p) 7 - 1)) =
+    omega (arith, s .pre .start) in
+    own-waits b (s .args .base) (s .args .p) (s .pre) _ _ _
+    (tried b _ _ _ _ _ low (t .ensures) (v .try-lock .ensures .0) (c .before .h .given .1))
+    (simp (v .try-lock .ensures .1, c .before .h .given .1, t .ensures)) refl
 
 pub hold-own-spec : {M : Type 1} → statement M
 hold-own-spec =
@@ -111,23 +108,17 @@ hold-own-spec =
     slice-read-i
     cast-k
     sub-k
-    cast-h
-    add-h
-    cast-own-lock
-    mul-own-lock
-    add-own-lock
-    add-own-lock-2
-    add-own-lock-3
-    slice-read-own-lock
+    cast-lock
+    mul-lock
+    add-lock
+    add-lock-2
+    add-lock-3
     tick-requires
-    cast-image
-    mul-image
+    try-lock-requires
+    enum-told
     add-image
-    add-image-2
-    add-image-3
     slice-write-image
-    add-image-4
-    slice-write-image-2
+    enum-known-h
     same-length
     returns
     same-length-2

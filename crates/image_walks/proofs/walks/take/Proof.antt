@@ -33,26 +33,26 @@ cast-k c = search needs
 sub-k : tie.Need-sub-k
 sub-k c = search needs
 
+cast-lock : tie.Need-cast-lock
+cast-lock c = search needs
+
+mul-lock : tie.Need-mul-lock
+mul-lock c = search needs
+
+add-lock : tie.Need-add-lock
+add-lock c = search needs
+
+add-lock-2 : tie.Need-add-lock-2
+add-lock-2 c = search needs
+
+add-lock-3 : tie.Need-add-lock-3
+add-lock-3 c = search needs
+
 seek-tag-requires : tie.Need-seek-tag-requires
 seek-tag-requires c κs = search needs
 
 tick-requires : tie.Need-tick-requires
 tick-requires c κs = search needs
-
-cast-try-lock : tie.Need-cast-try-lock
-cast-try-lock c = search needs
-
-mul-try-lock : tie.Need-mul-try-lock
-mul-try-lock c = search needs
-
-add-try-lock : tie.Need-add-try-lock
-add-try-lock c = search needs
-
-add-try-lock-2 : tie.Need-add-try-lock-2
-add-try-lock-2 c = search needs
-
-add-try-lock-3 : tie.Need-add-try-lock-3
-add-try-lock-3 c = search needs
 
 try-lock-requires : tie.Need-try-lock-requires
 try-lock-requires c κs = search needs
@@ -119,13 +119,13 @@ take-spec =
     slice-read-i
     cast-k
     sub-k
+    cast-lock
+    mul-lock
+    add-lock
+    add-lock-2
+    add-lock-3
     seek-tag-requires
     tick-requires
-    cast-try-lock
-    mul-try-lock
-    add-try-lock
-    add-try-lock-2
-    add-try-lock-3
     try-lock-requires
     enum-told
     add-image
