@@ -71,7 +71,7 @@ fn stage_step(image: &mut [u8], base: usize, p: usize) -> Answer
         24 => return free_level(image, base, p),
         25 => return free_node(image, base, p),
         26 => return retire(image, base, p),
-        _ => return Answer::Waits,
+        _ => return Answer::Moved,
     }
 }
 
