@@ -1,4 +1,5 @@
--- Each call keeps the arrays' lengths, and a refused one gives the record as it came. Assumes nothing.
+-- Each call keeps the arrays' lengths, and a refused one gives the record as it came. Assumes
+-- nothing.
 use mathlib.Core.Path.{_≡_, refl, sym, _∙_}
 use mathlib.Core.Bool.{true, false, true≢false}
 use Prim.Native.Nat.{ℕ}

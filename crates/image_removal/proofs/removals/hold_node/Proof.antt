@@ -89,30 +89,30 @@ same-length c = simp length-set (omega arith)
 
 returns : tie.Need-returns
 returns c =
-    let s = c .before .before .before .before .before .before .before .before .before .before .before .before .before .before in
     let v = c .before .before .before .before in
-    let t = c .before .before .before .before .before .before .before .before .tick in
+    let u = v .before .before .before .before in
+    let s = u .before .before .before .before .before .before in
     let b = s .args .image .now in
     let low : 7 ≤ s .args .base + 41 * mine b (s .args .p) 4 + 16 =
     omega (arith, s .pre .start) in
     holds-node b (s .args .base) (s .args .p) (s .pre) _ _
-    (tried b _ _ _ _ _ low (t .ensures) (v .try-lock .ensures .0) (c .enum-told .given .1))
-    (simp (v .try-lock .ensures .1, c .enum-told .given .1, t .ensures)) refl
+    (tried b _ _ _ _ _ low (u .tick .ensures) (v .try-lock .ensures .0) (c .enum-told .given .1))
+    (simp (v .try-lock .ensures .1, c .enum-told .given .1, u .tick .ensures)) refl
 
 same-length-2 : tie.Need-same-length-2
 same-length-2 c = search needs
 
 returns-2 : tie.Need-returns-2
 returns-2 c =
-    let s = c .before .before .before .before .before .before .before .before .before .before .before .before .before .before .before in
     let v = c .before .before .before .before .before in
-    let t = c .before .before .before .before .before .before .before .before .before .tick in
+    let u = v .before .before .before .before in
+    let s = u .before .before .before .before .before .before in
     let b = s .args .image .now in
     let low : 7 ≤ s .args .base + 41 * mine b (s .args .p) 4 + 16 =
     omega (arith, s .pre .start) in
     node-waits b (s .args .base) (s .args .p) (s .pre) _ _ _
-    (tried b _ _ _ _ _ low (t .ensures) (v .try-lock .ensures .0) (c .before .h .given .1))
-    (simp (v .try-lock .ensures .1, c .before .h .given .1, t .ensures)) refl
+    (tried b _ _ _ _ _ low (u .tick .ensures) (v .try-lock .ensures .0) (c .before .h .given .1))
+    (simp (v .try-lock .ensures .1, c .before .h .given .1, u .tick .ensures)) refl
 
 pub hold-node-spec : {M : Type 1} → statement M
 hold-node-spec =
