@@ -91,7 +91,7 @@ still : (l : SheetLine) (q : Queue) (m : ℕ) → Waiting l q → Waiting l (lat
 still l q m w = record { no-insert = w .no-insert; no-delete = w .no-delete; known = w .known; busy = w .busy; stands = w .stands }
 
 -- for whom it waits
-holding : (l : SheetLine) (q : Queue) → Waiting l q → ℕ
+abbrev holding : (l : SheetLine) (q : Queue) → Waiting l q → ℕ
 holding l q w =
     let c = processorAt q (l .first) in
     stands (stepViewOf q c (readingPlace (c .stage))) (c .stage) (w .stands) .holder
