@@ -141,10 +141,10 @@ module _ (q : Queue) where
 
   removal-spares : (job : Job) (s : StepView) (r : Removal) → Sparing (removalStep job s r)
   removal-spares job s (rem.Search a) = removal-searched job s a (searchStep s a)
-  removal-spares job s rem.HoldNode = 
+  removal-spares job s rem.HoldNode =
       cond-elim (λ t. Sparing (nodeTried job s t)) (eqb (s .ownNodeLock) 0) _ _ tt tt
   removal-spares job s (rem.Seek k) = removal-sought job s (seekStep s k) (seek-spares s k)
-  removal-spares job s (rem.HoldOwn a) = 
+  removal-spares job s (rem.HoldOwn a) =
       cond-elim (λ t. Sparing (ownTried job s a t)) (eqb (s .ownLock) 0) _ _ tt tt
   removal-spares job s (rem.Unlink a) = tt
   removal-spares job s (rem.LeadBack a) = tt

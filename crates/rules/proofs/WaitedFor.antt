@@ -1,5 +1,5 @@
--- On every reached record the processor that a waiting step names is busy, is not the caller, and its
--- stage says that it holds the lock. Assumes nothing.
+-- On every reached record the processor that a waiting step names is busy, is not the caller, and
+-- its stage says that it holds the lock. Assumes nothing.
 use mathlib.Core.Path.{_≡_, refl, sym, ap, _∙_, subst}
 use mathlib.Core.Bool.{Bool, true, false}
 use Prim.Native.Nat.{ℕ, suc, _<_}

@@ -89,7 +89,8 @@ module _ (s : StepView) where
   insert-search :
       (a : Place) → Waiting (stage.Insert (ins.Search a)) (insertSearched s a (searchStep s a))
   insert-search a =
-      let P : Searched → Type 0 = λ o. Waiting (stage.Insert (ins.Search a)) (insertSearched s a o) in
+      let g = stage.Insert (ins.Search a) in
+      let P : Searched → Type 0 = λ o. Waiting g (insertSearched s a o) in
       cond-elim P (s .nextBeforeKey) _ _ no (cond-elim P (leb (a .level) 1) _ _ no no)
 
   insert-seek : (k : Seek) → Waiting (stage.Insert (ins.Seek k)) (insertSought s (seekStep s k))
@@ -118,7 +119,8 @@ module _ (s : StepView) where
       (j : Job) (a : Place) →
       Waiting (removing j (rem.Search a)) (removalSearched j s a (searchStep s a))
   removal-search j a =
-      let P : Searched → Type 0 = λ o. Waiting (removing j (rem.Search a)) (removalSearched j s a o) in
+      let g = removing j (rem.Search a) in
+      let P : Searched → Type 0 = λ o. Waiting g (removalSearched j s a o) in
       cond-elim P (s .nextBeforeKey) _ _ no (cond-elim P (leb (a .level) 1) _ _ no no)
 
   removal-seek :

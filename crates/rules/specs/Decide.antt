@@ -80,8 +80,8 @@ placeTried a try.Taken = sght.Goes (eff.HoldLevel a) (seek.Confirm a)
 placeTried a (try.HeldBy h) = sght.Waits (seek.Take a) h
 
 -- Lock-seek, on one level. G1 goes on as long as the key ahead is smaller. G2 takes the lock of the
--- place, or waits for its holder. G3 looks whether the key ahead is smaller by now: if so, G4 gives the
--- lock back and goes on to that node, for G2; if not, the Lock-seek is done.
+-- place, or waits for its holder. G3 looks whether the key ahead is smaller by now: if so, G4 gives
+-- the lock back and goes on to that node, for G2; if not, the Lock-seek is done.
 abbrev pub seekStep : StepView → Seek → Sought
 seekStep s (seek.Approach a) =
     cond (s .nextBeforeKey) (sght.Goes eff.Keep (seek.Approach (place (s .next) (a .level))))

@@ -183,9 +183,9 @@ abbrev pub ReachedLocksAgree : Type 0
 ReachedLocksAgree =
     (P N L : ℕ) → InRange P N L → (cs : List Turn) → LocksAgree (afterAll (freshQueue P N L) cs)
 
--- Waits (02, W1). The processor h that a waiting step of p names: the lock that the step asks for is
--- h's in the record, h's stage says that it holds this very lock, h is one of the queue's processors
--- and busy, so that the book has an operation of it open, and it is not p.
+-- Waits (02, W1). The processor h that a waiting step of p names: the lock that the step asks for
+-- is h's in the record, h's stage says that it holds this very lock, h is one of the queue's
+-- processors and busy, so that the book has an operation of it open, and it is not p.
 pub record WaitedFor (q : Queue) (b : Book) (p h : ℕ) : Type 0 where
   pub lock : Lock
   pub asks : Asks (processorAt q p) lock

@@ -1,5 +1,5 @@
--- Which locks a stage says that its processor holds, and which one its step asks for. Document 02's
--- W1 and W11 rest on this.
+-- Which locks a stage says that its processor holds, and which one its step asks for. W1 and W11 of
+-- document 02 rest on this.
 use Prim.Native.Nat.{ℕ}
 use mathlib.Core.Path.{_≡_}
 use mathlib.Core.Bool.{Bool, true}
@@ -43,8 +43,8 @@ pub data Claims (c : Processor) : Lock → Type 0 where
   of-own : holdsOwn (c .stage) ≡ true → Claims c (level (c .own) (carried (c .stage) .place .level))
   of-node : holdsNode (c .stage) ≡ true → Claims c (node (c .own))
 
--- the lock that the processor's next step asks for: at G2 that of its place, at L1 own's node lock, at
--- L2 own's lock at the place's level
+-- the lock that the processor's next step asks for: at G2 that of its place, at L1 own's node lock,
+-- at L2 own's lock at the place's level
 pub data Asks (c : Processor) : Lock → Type 0 where
   insert-place : (a : Place) → c .stage ≡ stage.Insert (ins.Seek (seek.Take a)) →
       Asks c (level (a .node) (a .level))

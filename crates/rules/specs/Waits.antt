@@ -37,8 +37,8 @@ abbrev pub answerBy : Attempt → Answer
 answerBy try.Taken = ans.Moved
 answerBy (try.HeldBy h) = ans.Waits h
 
--- and whoever asks for a lock is told what the attempt gives: it waits while the lock is held, for the
--- holder, and moves on if the lock is free
+-- and whoever asks for a lock is told what the attempt gives: it waits while the lock is held, for
+-- the holder, and moves on if the lock is free
 abbrev pub WhoAsksIsTold : Type 0
 WhoAsksIsTold =
     (q : Queue) (p : ℕ) (l : Lock) → MayStep q p → Asks (processorAt q p) l →

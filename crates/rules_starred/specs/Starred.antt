@@ -185,8 +185,8 @@ starred =
     ∷ run (answer single printed (markers (9 ∷ 9 ∷ []))) (28 ∷ 0 ∷ 0 ∷ 9 ∷ 9 ∷ [])
     ∷ run (answer single printed (markers [])) (28 ∷ 0 ∷ 0 ∷ [])
     ∷ run (answer single filed (markers (9 ∷ []))) (10 ∷ 43 ∷ 9 ∷ [])
-    -- 02, W1: an Insert waits for 2, and goes on when 2 has freed the lock; a removal waits for 1 at
-    -- G2, and at L2
+    -- 02, W1: an Insert waits for 2, and goes on when 2 has freed the lock; a removal waits for 1
+    -- at G2, and at L2
     ∷ run (answer triple linkersMeet (stepBy 0)) (8 ∷ waiting ∷ 2 ∷ [])
     ∷ run (answer triple (linkersMeet ++ (stepBy 0 ∷ replicate 4 (stepBy 2))) (stepBy 0))
     (13 ∷ moved ∷ [])
