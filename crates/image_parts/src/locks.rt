@@ -15,9 +15,11 @@ pub fn try_lock(b: &mut [u8], at: usize, p: usize) -> Attempt
     ensures { λ r. ⌜ (r ≡ attemptOf (getD (now (b .entry)) at 0))
         × (now (b .exit) ≡ afterAttempt (now (b .entry)) at p r) ⌝ }
 {
-    match attempt(b[at]) {
+    let caller = p as u8;
+    let lock = b[at];
+    match attempt(lock) {
         Attempt::Taken => {
-            b[at] = (p as u8) + 1;
+            b[at] = caller + 1;
             Attempt::Taken
         }
         Attempt::HeldBy(h) => Attempt::HeldBy(h),

@@ -38,7 +38,7 @@ pub fn hold_node(image: &mut [u8], base: usize, p: usize) -> Answer
             image[at + processor::LEVEL] = height;
             Answer::Moved
         }
-        Attempt::HeldBy(h) => Answer::Waits(h),
+        Attempt::HeldBy(node_holder) => Answer::Waits(node_holder),
     }
 }
 
@@ -58,7 +58,7 @@ pub fn hold_own(image: &mut [u8], base: usize, p: usize) -> Answer
             image[at + processor::TAG] = tag::UNLINK;
             Answer::Moved
         }
-        Attempt::HeldBy(h) => Answer::Waits(h),
+        Attempt::HeldBy(level_holder) => Answer::Waits(level_holder),
     }
 }
 

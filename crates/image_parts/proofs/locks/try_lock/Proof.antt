@@ -3,17 +3,17 @@ use borrow.Author.Needs.{needs}
 use Rattle.image_parts.proofs.locks.try_lock.Statement.{statement}
 use Rattle.image_parts.proofs.locks.try_lock.Tie as tie
 
-slice-read-attempt : tie.Need-slice-read-attempt
-slice-read-attempt c = search needs
+cast-caller : tie.Need-cast-caller
+cast-caller c = search needs
+
+slice-read-lock : tie.Need-slice-read-lock
+slice-read-lock c = search needs
 
 attempt-requires : tie.Need-attempt-requires
 attempt-requires c κs = search needs
 
 enum-told : tie.Need-enum-told
 enum-told c = search needs
-
-cast-b : tie.Need-cast-b
-cast-b c = search needs
 
 add-b : tie.Need-add-b
 add-b c = search needs
@@ -37,10 +37,10 @@ pub try-lock-spec : {M : Type 1} → statement M
 try-lock-spec =
     tie.close
     (tie.spec
-    slice-read-attempt
+    cast-caller
+    slice-read-lock
     attempt-requires
     enum-told
-    cast-b
     add-b
     slice-write-b
     enum-known-h

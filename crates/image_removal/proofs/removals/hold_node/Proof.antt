@@ -81,8 +81,8 @@ add-image-3 c = search needs
 slice-write-image-3 : tie.Need-slice-write-image-3
 slice-write-image-3 c = simp length-set (omega arith)
 
-enum-known-h : tie.Need-enum-known-h
-enum-known-h c = search needs
+enum-known-node-holder : tie.Need-enum-known-node-holder
+enum-known-node-holder c = search needs
 
 same-length : tie.Need-same-length
 same-length c = simp length-set (omega arith)
@@ -111,8 +111,8 @@ returns-2 c =
     let low : 7 ≤ s .args .base + 41 * mine b (s .args .p) 4 + 16 =
     omega (arith, s .pre .start) in
     node-waits b (s .args .base) (s .args .p) (s .pre) _ _ _
-    (tried b _ _ _ _ _ low (u .tick .ensures) (v .try-lock .ensures .0) (c .before .h .given .1))
-    (simp (v .try-lock .ensures .1, c .before .h .given .1, u .tick .ensures)) refl
+    (tried b _ _ _ _ _ low (u .tick .ensures) (v .try-lock .ensures .0) (c .before .node-holder .given .1))
+    (simp (v .try-lock .ensures .1, c .before .node-holder .given .1, u .tick .ensures)) refl
 
 pub hold-node-spec : {M : Type 1} → statement M
 hold-node-spec =
@@ -142,7 +142,7 @@ hold-node-spec =
     slice-write-image-2
     add-image-3
     slice-write-image-3
-    enum-known-h
+    enum-known-node-holder
     same-length
     returns
     same-length-2

@@ -63,8 +63,8 @@ add-image c = search needs
 slice-write-image : tie.Need-slice-write-image
 slice-write-image c = search needs
 
-enum-known-h : tie.Need-enum-known-h
-enum-known-h c = search needs
+enum-known-level-holder : tie.Need-enum-known-level-holder
+enum-known-level-holder c = search needs
 
 same-length : tie.Need-same-length
 same-length c = simp length-set (omega arith)
@@ -93,8 +93,8 @@ returns-2 c =
     let low : 7 ≤ s .args .base + 41 * mine b (s .args .p) 4 + (8 + (mine b (s .args .p) 7 - 1)) =
     omega (arith, s .pre .start) in
     own-waits b (s .args .base) (s .args .p) (s .pre) _ _ _
-    (tried b _ _ _ _ _ low (u .tick .ensures) (v .try-lock .ensures .0) (c .before .h .given .1))
-    (simp (v .try-lock .ensures .1, c .before .h .given .1, u .tick .ensures)) refl
+    (tried b _ _ _ _ _ low (u .tick .ensures) (v .try-lock .ensures .0) (c .before .level-holder .given .1))
+    (simp (v .try-lock .ensures .1, c .before .level-holder .given .1, u .tick .ensures)) refl
 
 pub hold-own-spec : {M : Type 1} → statement M
 hold-own-spec =
@@ -118,7 +118,7 @@ hold-own-spec =
     enum-told
     add-image
     slice-write-image
-    enum-known-h
+    enum-known-level-holder
     same-length
     returns
     same-length-2
