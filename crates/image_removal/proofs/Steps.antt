@@ -361,7 +361,8 @@ module _ (b : List ℕ) (base p : ℕ) (r : Owned b base p 26) (after : List ℕ
       let s = stepViewOf q c (place 0 1) in
       arm b base p 26 (r .sound) (r .start) (r .nodes-high) (r .processors-high) (r .low)
       (r .few) (r .early) (r .tagged) (deliver (rem.Retire)) refl refl
-      (answers (eff.Retire (mine b p 4)) (ans.Did deed.HandedOut (entryIn b (base + 41 * mine b p 4))))
+      (answers (eff.Retire (mine b p 4))
+      (ans.Did deed.HandedOut (entryIn b (base + 41 * mine b p 4))))
       (rw (
         mine-is b base p 26 r,
         entry-is b base (r .start) (r .nodes-high) (mine b p 4)

@@ -103,7 +103,8 @@ module _ (w : Bool) (b : List ℕ) (base p : ℕ) (r : Placed b base p (searchTa
       (r .early) (r .tagged) (searching w a) (search-tag w (mine b p 6) (mine b p 7) (mine b p 8))
       (search-busy w a)
       (saving s a (searching w (place (mine b p 6) (mine b p 7 - 1))))
-      (search-falls (stepViewOf q c) a w (before-is b base p (searchTag w) r ∙ sym h) (lt-leb _ _ i))
+      (search-falls (stepViewOf q c) a w (before-is b base p (searchTag w) r ∙ sym h)
+      (lt-leb _ _ i))
       [] ((9 + (mine b p 7 - 1), mine b p 6) ∷ (7, mine b p 7 - 1) ∷ []) (omega arith) tt
       (omega arith, (omega arith, tt))
       refl

@@ -93,7 +93,8 @@ returns-2 c =
     let low : 7 ≤ s .args .base + 41 * mine b (s .args .p) 4 + (8 + (mine b (s .args .p) 7 - 1)) =
     omega (arith, s .pre .start) in
     own-waits b (s .args .base) (s .args .p) (s .pre) _ _ _
-    (tried b _ _ _ _ _ low (u .tick .ensures) (v .try-lock .ensures .0) (c .before .level-holder .given .1))
+    (tried b _ _ _ _ _ low (u .tick .ensures) (v .try-lock .ensures .0)
+    (c .before .level-holder .given .1))
     (simp (v .try-lock .ensures .1, c .before .level-holder .given .1, u .tick .ensures)) refl
 
 pub hold-own-spec : {M : Type 1} → statement M
