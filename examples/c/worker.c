@@ -5,7 +5,8 @@
  * Which entry a Delete_Min takes is decided when it marks it; unlinking it takes one worker more
  * steps than another. So each withdrawal gets its turn when it is marked, and is printed once it
  * and all before it were handed out. When every worker has marked one, the queue is asked which
- * worker holds which: these are not delivered yet. */
+ * worker holds which: these are not delivered yet. A worker that comes to a held lock says for whom
+ * it waits. */
 #include <inttypes.h>
 #include <stdio.h>
 #include <stdlib.h>
@@ -39,6 +40,9 @@ static uint8_t *queue;
 static size_t length;
 static struct taken taken[ENTRIES];
 
+/* Of each worker, one more than the worker that it waits for; 0 while it waits for none. */
+static uint32_t waits_for[WORKERS];
+
 static void stop(const char *call, uint32_t code) {
     fprintf(stderr, "%s gave back %" PRIu32 "\n", call, code);
     exit(1);
@@ -48,6 +52,17 @@ static void stop(const char *call, uint32_t code) {
 static uint32_t value(const char *call, struct darthog_reply reply) {
     if (reply.code != DARTHOG_ACCEPTED) stop(call, reply.code);
     return reply.first;
+}
+
+/* Notes the code and the first value of a worker's call, and prints for whom it waits when it
+ * begins to: as long as the same worker holds the lock, further waits print nothing. */
+static void note_wait(uint32_t w, uint32_t code, uint32_t first) {
+    uint32_t holder = code == DARTHOG_WAITS ? first + 1 : 0;
+    if (holder != 0 && holder != waits_for[w]) {
+        if (first >= WORKERS || first == w) stop("no other worker's lock: a wait", first);
+        printf("worker %" PRIu32 " waits for worker %" PRIu32 "\n", w, first);
+    }
+    waits_for[w] = holder;
 }
 
 static uint32_t backlog(void) {
@@ -108,6 +123,7 @@ static void file_all(void) {
         for (size_t at = 0; at < numbers; at += NUMBERS) {
             int inserted = answers[at] == DARTHOG_INSERTED;
             if (!inserted && answers[at] > DARTHOG_WAITS) stop("a call of a list", answers[at]);
+            note_wait(calls[at + 1], answers[at], answers[at + 1]);
             busy[calls[at + 1]] = !inserted;
             filed += inserted;
         }
@@ -122,6 +138,7 @@ static void work(struct worker *worker, uint32_t w, int *marked) {
         return;
     }
     struct darthog_reply r = darthog_step(queue, length, w);
+    note_wait(w, r.code, r.first);
     switch (r.code) {
     case DARTHOG_MOVED:
     case DARTHOG_WAITS:

@@ -111,9 +111,13 @@ pub struct Entry {
 pub enum Step {
     /// The operation went on.
     Moved,
-    /// Another processor holds a lock, which only its own steps free: only the
-    /// clock changed. Let the others step before this one steps again.
-    Waits,
+    /// A lock is held, and only steps of its holder free it: only the clock
+    /// changed. Let the holder step before this one steps again.
+    Waits {
+        /// The processor that holds the lock. In a queue that calls alone have
+        /// brought to where it is, it is another one than the caller, and busy.
+        holder: u8,
+    },
     /// The Delete_Min ended: every entry filed before it began is taken.
     Empty,
     /// The Delete_Min took this entry, and goes on to unlink it.
@@ -150,6 +154,14 @@ pub(crate) fn value(reply: Reply) -> Result<u32, Refusal> {
     }
 }
 
+/// The processor of a number. The contracts of the library have none above 15.
+fn processor(number: u32) -> u8 {
+    match u8::try_from(number) {
+        Ok(processor) => processor,
+        Err(_) => panic!("the library gave back the processor {number}, which no queue has"),
+    }
+}
+
 /// The report of a step.
 pub(crate) fn step(reply: Reply) -> Result<Step, Refusal> {
     let entry = Entry {
@@ -159,7 +171,9 @@ pub(crate) fn step(reply: Reply) -> Result<Step, Refusal> {
     };
     match reply.code {
         raw::MOVED => Ok(Step::Moved),
-        raw::WAITS => Ok(Step::Waits),
+        raw::WAITS => Ok(Step::Waits {
+            holder: processor(reply.first),
+        }),
         raw::EMPTY => Ok(Step::Empty),
         raw::MARKED => Ok(Step::Marked(entry)),
         raw::INSERTED => Ok(Step::Inserted(entry)),

@@ -27,7 +27,7 @@
 //!     match queue.step(0)? {
 //!         Step::HandedOut(entry) => break Some(entry),
 //!         Step::Empty => break None,
-//!         Step::Moved | Step::Waits | Step::Marked(_) | Step::Inserted(_) => {}
+//!         Step::Moved | Step::Waits { .. } | Step::Marked(_) | Step::Inserted(_) => {}
 //!     }
 //! };
 //! assert_eq!((taken, queue.backlog()), (Some(filed), Ok(0)));

@@ -81,7 +81,29 @@ impl Queue {
         })
     }
 
-    /// The next step of a processor's operation.
+    /// The next step of a processor's operation. One that waits tells for whom
+    /// ([`Step::Waits`]).
+    ///
+    /// ```
+    /// use darthog_host::{Queue, Refusal, Step};
+    ///
+    /// # fn main() -> Result<(), Refusal> {
+    /// // both file a withdrawal; after three steps processor 1 has a lock
+    /// let mut queue = Queue::new(2, 2, 1)?;
+    /// queue.begin_insert(1, 7, 42, 1)?;
+    /// queue.begin_insert(0, 8, 43, 1)?;
+    /// for _ in 0..3 {
+    ///     assert_eq!(queue.step(1), Ok(Step::Moved));
+    /// }
+    /// while queue.step(0)? == Step::Moved {}
+    /// assert_eq!(queue.step(0), Ok(Step::Waits { holder: 1 }));
+    ///
+    /// // steps of the holder free it
+    /// while !matches!(queue.step(1)?, Step::Inserted(_)) {}
+    /// assert_eq!(queue.step(0), Ok(Step::Moved));
+    /// # Ok(())
+    /// # }
+    /// ```
     pub fn step(&mut self, processor: u32) -> Result<Step, Refusal> {
         // Safe: the bytes are lent for the call, with their length.
         step(unsafe { raw::darthog_step(self.image.as_mut_ptr(), self.image.len(), processor) })

@@ -14,7 +14,7 @@ pub struct Reply {
     /// 0 to 6 for an accepted call, else the refusal's number.
     pub code: u32,
     /// A begin's time, a backlog, how many nodes have markers told, a due
-    /// minute, or an entry's due minute.
+    /// minute, an entry's due minute, or the processor that a step waits for.
     pub first: u32,
     /// An entry's item.
     pub second: u32,
@@ -26,7 +26,7 @@ pub struct Reply {
 pub const ACCEPTED: u32 = 0;
 /// The operation went on.
 pub const MOVED: u32 = 1;
-/// A lock is held.
+/// A lock is held, by the processor that the reply tells first.
 pub const WAITS: u32 = 2;
 /// The Delete_Min ended without an entry.
 pub const EMPTY: u32 = 3;
@@ -82,7 +82,8 @@ extern "C" {
     /// Begins a Delete_Min by a processor.
     pub fn darthog_begin_delete_min(image: *mut u8, length: usize, processor: u32) -> Reply;
 
-    /// The next step of a processor's operation.
+    /// The next step of a processor's operation. One that waits tells who holds
+    /// the lock.
     pub fn darthog_step(image: *mut u8, length: usize, processor: u32) -> Reply;
 
     /// Makes the calls of a list: kind, processor, due, item and height of

@@ -35,4 +35,5 @@ fn every_call_on_any_record_does_what_the_reference_does() {
         }
     }
     counts.must_have(&ALL_CODES);
+    counts.must_wait_for(8);
 }

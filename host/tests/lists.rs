@@ -5,28 +5,16 @@
 
 mod common;
 
-use common::{any_call, compare_list, edge, expected_list, junk, seed, Call, Counts, Lent, MARGIN};
+use common::{any_call, area_with, compare_list, edge, expected_list, junk, reply, seed};
+use common::{Call, Counts, Lent, MARGIN};
 use darthog_reference::any_record::any_record;
 use darthog_reference::image::encode;
 use darthog_reference::queue::{fresh, Queue, MAX_NUMBER};
 use darthog_reference::random::Random;
 use darthog_reference::schedule::{Schedule, Sizes};
 use darthog_reference::stated::images;
-use darthog_reference::stated::lists::{printed, Turn};
+use darthog_reference::stated::lists::{printed, split, Turn};
 use darthog_reference::trial::fresh_of;
-
-/// The numbers of a list's calls, and of its answers.
-fn split(turns: &[Turn]) -> (Vec<u32>, Vec<u32>) {
-    let calls = turns.iter().flat_map(|turn| turn.0).collect();
-    (calls, turns.iter().flat_map(|turn| turn.1).collect())
-}
-
-/// An area with these answers in front, and what is around it.
-fn area_with(answers: &[u32], room: usize) -> Vec<u32> {
-    let mut area = junk(room);
-    area[MARGIN..MARGIN + answers.len()].copy_from_slice(answers);
-    area
-}
 
 #[test]
 fn the_printed_run_is_answered_as_stated() {
@@ -109,7 +97,7 @@ fn note(counts: &mut Counts, calls: &[u32], area: &[u32], room: usize) {
             2 => "delete_min",
             _ => "step",
         };
-        counts.note(entry, answer[0]);
+        counts.note_reply(entry, &reply([answer[0], answer[1], answer[2], answer[3]]));
     }
 }
 
@@ -134,6 +122,7 @@ fn lists_on_any_record_do_what_the_reference_does_call_by_call() {
         ("delete_min", &[0, 31, 32, 33]),
         ("step", &[1, 2, 3, 4, 5, 6, 31, 32, 34]),
     ]);
+    counts.must_wait_for(8);
 }
 
 /// A schedule in lists of any length, on one queue.
@@ -181,6 +170,7 @@ fn a_schedule_in_lists_does_what_the_reference_does_call_by_call() {
         ("delete_min", &[0, 31, 32, 33]),
         ("step", &[1, 2, 3, 4, 5, 6, 31, 32, 34]),
     ]);
+    counts.must_wait_for(16);
 }
 
 /// Each byte of an image damaged: 21 before the first call and nothing touched,

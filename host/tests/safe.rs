@@ -28,7 +28,7 @@ fn same_entry(entry: answer::Entry) -> Entry {
 fn same_step(answer: Answer) -> Step {
     match answer {
         Answer::Moved => Step::Moved,
-        Answer::Waits => Step::Waits,
+        Answer::Waits { holder } => Step::Waits { holder },
         Answer::Empty => Step::Empty,
         Answer::Marked(entry) => Step::Marked(same_entry(entry)),
         Answer::Inserted(entry) => Step::Inserted(same_entry(entry)),
@@ -69,7 +69,11 @@ fn word(outcome: &Outcome) -> String {
         Outcome::Refused(number) => number.to_string(),
         Outcome::Stepped(answer) => {
             let words = format!("{answer:?}");
-            words.split('(').next().unwrap_or_default().to_string()
+            words
+                .split(['(', ' '])
+                .next()
+                .unwrap_or_default()
+                .to_string()
         }
     }
 }

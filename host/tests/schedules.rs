@@ -32,7 +32,9 @@ fn outcome_of(call: &Call, reply: &darthog_host::raw::Reply) -> Outcome {
         }),
         (_, 0) => Outcome::Count(reply.first),
         (_, 1) => Outcome::Stepped(Answer::Moved),
-        (_, 2) => Outcome::Stepped(Answer::Waits),
+        (_, 2) => Outcome::Stepped(Answer::Waits {
+            holder: reply.first as u8,
+        }),
         (_, 3) => Outcome::Stepped(Answer::Empty),
         (_, 4) => Outcome::Stepped(Answer::Marked(entry)),
         (_, 5) => Outcome::Stepped(Answer::Inserted(entry)),
@@ -93,7 +95,7 @@ fn run(number: u64, random: &mut Random, counts: &mut Counts) {
             let area = expected_area(&after, room);
             assert!(lent.area == area, "schedule {number}, call {at}: {call:?}");
         }
-        counts.note(call.entry(), reply.code);
+        counts.note_reply(call.entry(), &reply);
         schedule.note(&asked, &outcome_of(&call, &reply));
     }
 }
@@ -113,4 +115,5 @@ fn every_call_of_a_schedule_leaves_the_image_of_the_references_record() {
         ("backlog", &[0]),
         ("markers", &[0, 43]),
     ]);
+    counts.must_wait_for(16);
 }

@@ -16,8 +16,11 @@ pub struct Entry {
 pub enum Answer {
     /// The operation went on.
     Moved,
-    /// A lock is held; nothing but the clock changed.
-    Waits,
+    /// A lock is held; nothing but the clock changed (document 02, W1).
+    Waits {
+        /// The processor that holds it.
+        holder: u8,
+    },
     /// The Delete_Min ended without an entry.
     Empty,
     /// The Delete_Min took this entry.

@@ -192,7 +192,7 @@ impl Book {
         }
         self.count += 1;
         match answer {
-            Answer::Moved | Answer::Waits => Ok(()),
+            Answer::Moved | Answer::Waits { .. } => Ok(()),
             Answer::Inserted(entry) => self.inserted(p, entry),
             Answer::Marked(entry) => self.marked(p, entry),
             Answer::Empty => self.empty(p),

@@ -1,6 +1,7 @@
 //! What each stage claims: one function from a processor to a small record,
 //! so that the invariant is stated for that record and not for each stage.
 
+use crate::locks::Lock;
 use crate::queue::{Operation, Place, Processor, Stage};
 
 /// Which part a processor plays.
@@ -52,6 +53,21 @@ pub struct Claim {
     pub linked: Linked,
     /// The lowest level whose saved node belongs to this operation.
     pub saved_from: u8,
+}
+
+impl Claim {
+    /// Whether the stage says that its processor holds this lock.
+    pub fn holds(&self, lock: Lock) -> bool {
+        match lock {
+            Lock::Node(node) => self.holds_node && self.own == node,
+            Lock::Level(Place { node, level }) => {
+                let at_level = self.place.is_some_and(|a| a.level == level);
+                let as_place = self.holds_place && self.place.is_some_and(|a| a.node == node);
+                let as_own = self.holds_own && self.own == node;
+                at_level && (as_place || as_own)
+            }
+        }
+    }
 }
 
 /// No saved node belongs to the operation.

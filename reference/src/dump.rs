@@ -44,7 +44,7 @@ fn listing_words(listing: &Listing) -> String {
 fn answer_words(answer: &Answer) -> String {
     match answer {
         Answer::Moved => "moved".to_string(),
-        Answer::Waits => "waits".to_string(),
+        Answer::Waits { holder } => format!("waits {holder}"),
         Answer::Empty => "empty".to_string(),
         Answer::Marked(entry) => format!("marked {}", entry_words(entry)),
         Answer::Inserted(entry) => format!("inserted {}", entry_words(entry)),

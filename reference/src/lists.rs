@@ -48,7 +48,7 @@ fn stepped(answer: Result<Answer, Refusal>) -> [u32; 4] {
     match answer {
         Err(number) => refused(number),
         Ok(Answer::Moved) => [1, 0, 0, 0],
-        Ok(Answer::Waits) => [2, 0, 0, 0],
+        Ok(Answer::Waits { holder }) => [2, u32::from(holder), 0, 0],
         Ok(Answer::Empty) => [3, 0, 0, 0],
         Ok(Answer::Marked(entry)) => of(4, entry),
         Ok(Answer::Inserted(entry)) => of(5, entry),

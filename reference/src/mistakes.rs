@@ -1,12 +1,14 @@
 //! Wrong queues: one for each mistake of document 01's "Where an implementer
-//! goes astray", and two of document 02's marks. Each takes the right queue and
-//! does one stage its own way; the right code knows nothing of them.
+//! goes astray", two of document 02's marks, and some that name the wrong
+//! holder. Each takes the right queue and does one stage its own way; the right
+//! code knows nothing of them.
 
 use crate::answer::Answer;
 use crate::calls::{Call, Outcome};
-use crate::queue::{Key, Place, Processor, Queue, Stage};
+use crate::locks::Lock;
+use crate::queue::{named, Key, Place, Processor, Queue, Stage};
 use crate::queue::{HEAD, MAX_NUMBER, MAX_PROCESSORS, UNMARKED};
-use crate::stages::holder;
+use crate::stages::{at, holder};
 use crate::trial::Machine;
 
 /// A mistake.
@@ -29,7 +31,43 @@ pub enum Mistake {
     MarkTakenOver,
     /// L8 takes the mark off (document 02, W6).
     MarkTakenOff,
+    /// A wait names another than the holder (document 02, W1).
+    Misnamed(Misnamed),
 }
+
+/// Whom a wait names by mistake.
+#[derive(Clone, Copy, PartialEq, Eq, Debug)]
+pub enum Misnamed {
+    /// The caller.
+    Caller,
+    /// Processor 0.
+    Zero,
+    /// The number that the lock holds, which is one more.
+    Stored,
+    /// At G2 the holder of the place's node lock.
+    NodeLockAtG2,
+    /// At L2 the holder of the own node's node lock.
+    NodeLockAtL2,
+    /// At L1 the holder of the own node's lock at level 1.
+    LevelLockAtL1,
+    /// At L2 the holder of the place's lock.
+    PlaceAtL2,
+    /// At G2 and L2 the holder of the lock at the level above, or at level 1
+    /// where there is none.
+    OtherLevel,
+}
+
+/// Every such mistake.
+pub const MISNAMED: [Misnamed; 8] = [
+    Misnamed::Caller,
+    Misnamed::Zero,
+    Misnamed::Stored,
+    Misnamed::NodeLockAtG2,
+    Misnamed::NodeLockAtL2,
+    Misnamed::LevelLockAtL1,
+    Misnamed::PlaceAtL2,
+    Misnamed::OtherLevel,
+];
 
 /// A queue with one mistake.
 #[derive(Clone, Debug)]
@@ -118,6 +156,27 @@ impl Wrong {
         }
     }
 
+    /// Whom the wait of processor p names by this mistake, where it is told from
+    /// another lock; else the right one. A lock that is free is then named as
+    /// that of processor 0.
+    fn misnamed(&self, mistake: Misnamed, p: usize, right: u8) -> u8 {
+        let Processor { stage, own, .. } = self.queue.processors[p];
+        let other = |level: u8| level % self.queue.level_count + 1;
+        let lock = match (mistake, stage) {
+            (Misnamed::Caller, _) => return p as u8,
+            (Misnamed::Zero, _) => return 0,
+            (Misnamed::Stored, _) => return right + 1,
+            (Misnamed::NodeLockAtG2, Stage::G2Lock(_, a)) => Lock::Node(a.node),
+            (Misnamed::NodeLockAtL2, Stage::L2LockOwn(_)) => Lock::Node(own),
+            (Misnamed::LevelLockAtL1, Stage::L1LockNode) => Lock::Level(at(own, 1)),
+            (Misnamed::PlaceAtL2, Stage::L2LockOwn(a)) => Lock::Level(a),
+            (Misnamed::OtherLevel, Stage::G2Lock(_, a)) => Lock::Level(at(a.node, other(a.level))),
+            (Misnamed::OtherLevel, Stage::L2LockOwn(a)) => Lock::Level(at(own, other(a.level))),
+            _ => return right,
+        };
+        named(self.queue.lock(lock)).unwrap_or(0)
+    }
+
     fn leads_to_greater(&self, p: usize, a: Place) -> bool {
         let key = self.queue.key(self.queue.after(a));
         key != Key::Tail && key > self.queue.key(self.queue.processors[p].own)
@@ -161,10 +220,21 @@ impl Machine for Wrong {
             }
         }
         let outcome = self.queue.call_inner(call);
-        if self.mistake == Mistake::ReuseAtOnce && outcome == Outcome::Refused(37) {
-            return self.insert_at_once(call).unwrap_or(outcome);
+        match (self.mistake, call, &outcome) {
+            (Mistake::ReuseAtOnce, _, Outcome::Refused(37)) => {
+                self.insert_at_once(call).unwrap_or(outcome)
+            }
+            (
+                Mistake::Misnamed(mistake),
+                &Call::Step { processor },
+                &Outcome::Stepped(Answer::Waits { holder }),
+            ) => {
+                // a wait leaves the locks as they were
+                let holder = self.misnamed(mistake, processor as usize, holder);
+                Outcome::Stepped(Answer::Waits { holder })
+            }
+            _ => outcome,
         }
-        outcome
     }
 
     fn queue(&self) -> &Queue {

@@ -220,7 +220,7 @@ impl Node {
 
     /// The processor that has set the mark.
     pub fn marker(&self) -> Option<u8> {
-        self.mark.checked_sub(1)
+        named(self.mark)
     }
 }
 
@@ -249,6 +249,11 @@ pub fn due_from_seconds(seconds: u64) -> Result<u32, Refusal> {
         Ordering::Equal if below % 2 == 0 => below,
         Ordering::Equal => below + 1,
     })
+}
+
+/// The processor that a lock or a mark names by this number; none for 0.
+pub fn named(number: u8) -> Option<u8> {
+    number.checked_sub(1)
 }
 
 /// The array slot of a level.

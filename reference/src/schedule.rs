@@ -176,7 +176,7 @@ impl Schedule {
     fn note_vain(&mut self, outcome: &Outcome) {
         let vain = matches!(
             outcome,
-            Outcome::Stepped(Answer::Waits | Answer::Empty) | Outcome::Refused(37)
+            Outcome::Stepped(Answer::Waits { .. } | Answer::Empty) | Outcome::Refused(37)
         );
         if vain {
             self.burst.1 = 0;

@@ -156,7 +156,7 @@ fn run_line(queue: &mut Queue, line: &Line, history: &mut Vec<u8>) {
 fn write_answer(history: &mut Vec<u8>, queue: &Queue, processor: u64, answer: &Answer) {
     let time = queue.clock;
     match answer {
-        Answer::Moved | Answer::Waits => {}
+        Answer::Moved | Answer::Waits { .. } => {}
         Answer::Empty => write_line(history, b'E', time, processor, [0, 0, 0]),
         Answer::Marked(entry) => write_line(history, b'M', time, processor, numbers(entry)),
         Answer::Inserted(entry) => write_line(history, b'A', time, processor, numbers(entry)),

@@ -4,6 +4,7 @@
 //! the processor's next stage and gives the answer of the step.
 
 use crate::answer::{Answer, Entry};
+use crate::locks::{Attempt, Lock};
 use crate::queue::{slot, Node, Operation, Place, Processor, Queue, Stage, Use, FREE, HEAD};
 
 impl Queue {
@@ -51,13 +52,7 @@ impl Queue {
             Stage::W2Compare(a) => self.walk_compare(p, a),
             Stage::W3Mark(a) => self.walk_mark(p, a),
             Stage::L1LockNode => self.lock_own_node(p),
-            Stage::L2LockOwn(a) => {
-                if self.take_lock(p, self.own(p), a.level) {
-                    self.go(p, Stage::L3Unlink(a))
-                } else {
-                    Answer::Waits
-                }
-            }
+            Stage::L2LockOwn(a) => self.lock_own_level(p, a),
             Stage::L3Unlink(a) => {
                 let next = self.after(at(self.own(p), a.level));
                 self.set_forward(a.node, a.level, next);
@@ -113,10 +108,9 @@ impl Queue {
 
     /// G2: take the place's lock, or wait.
     fn seek_lock(&mut self, p: usize, op: Operation, a: Place) -> Answer {
-        if self.take_lock(p, a.node, a.level) {
-            self.go(p, Stage::G3Reread(op, a))
-        } else {
-            Answer::Waits
+        match self.attempt(p, Lock::Level(a)) {
+            Attempt::Taken => self.go(p, Stage::G3Reread(op, a)),
+            Attempt::HeldBy(holder) => Answer::Waits { holder },
         }
     }
 
@@ -175,13 +169,22 @@ impl Queue {
 
     /// L1: take the own node lock, or wait.
     fn lock_own_node(&mut self, p: usize) -> Answer {
-        let node = self.own_node(p);
-        if node.node_lock != FREE {
-            return Answer::Waits;
+        match self.attempt(p, Lock::Node(self.own(p))) {
+            Attempt::Taken => {
+                let height = self.own_node(p).height;
+                self.seek_from_saved(p, Operation::DeleteMin, height)
+            }
+            Attempt::HeldBy(holder) => Answer::Waits { holder },
         }
-        node.node_lock = holder(p);
-        let height = node.height;
-        self.seek_from_saved(p, Operation::DeleteMin, height)
+    }
+
+    /// L2: take own lock of the level, or wait.
+    fn lock_own_level(&mut self, p: usize, a: Place) -> Answer {
+        let own = at(self.own(p), a.level);
+        match self.attempt(p, Lock::Level(own)) {
+            Attempt::Taken => self.go(p, Stage::L3Unlink(a)),
+            Attempt::HeldBy(holder) => Answer::Waits { holder },
+        }
     }
 
     /// L6: free the place's lock, then the next level down or L7.
@@ -211,16 +214,6 @@ impl Queue {
 
     fn set_forward(&mut self, node: u8, level: u8, to: u8) {
         self.nodes[node as usize].forward[slot(level)] = to;
-    }
-
-    /// Takes a free lock; a held one is left alone and the answer is false.
-    fn take_lock(&mut self, p: usize, node: u8, level: u8) -> bool {
-        let lock = &mut self.nodes[node as usize].level_locks[slot(level)];
-        if *lock != FREE {
-            return false;
-        }
-        *lock = holder(p);
-        true
     }
 
     fn free_lock(&mut self, node: u8, level: u8) {

@@ -3,7 +3,8 @@
 use crate::answer::Answer;
 use crate::calls::Outcome;
 use crate::markers::NOBODY;
-use crate::queue::{Queue, Stage};
+use crate::queue::{Processor, Queue, Stage, MAX_PROCESSORS};
+use crate::waits::{asked, ASKERS};
 
 /// How often each thing happened.
 #[derive(Clone, Copy, Default, Debug)]
@@ -40,8 +41,11 @@ pub struct Tally {
     pub marks_lost: u64,
     /// Walks that were led back to an earlier node (W1).
     pub led_back: u64,
-    /// Waits for the own lock of a level (L2).
-    pub own_waits: u64,
+    /// Waits by the step that asked for the lock: G2 of an Insert, G2 of a
+    /// Delete_Min, L1, L2.
+    pub waits_at: [u64; ASKERS],
+    /// Waits by the processor that was waited for.
+    pub waits_for: [u64; MAX_PROCESSORS],
     /// Refusals 31 to 37, 39 and 43, by what they are above 30.
     pub refused: [u64; 14],
 }
@@ -65,10 +69,9 @@ impl Tally {
         self.moved_on += other.moved_on;
         self.marks_lost += other.marks_lost;
         self.led_back += other.led_back;
-        self.own_waits += other.own_waits;
-        for (mine, others) in self.refused.iter_mut().zip(other.refused) {
-            *mine += others;
-        }
+        add_each(&mut self.waits_at, &other.waits_at);
+        add_each(&mut self.waits_for, &other.waits_for);
+        add_each(&mut self.refused, &other.refused);
     }
 
     /// Counts one call.
@@ -85,7 +88,7 @@ impl Tally {
             Outcome::Refused(number) => self.refused[number as usize - 30] += 1,
             Outcome::Stepped(answer) => match answer {
                 Answer::Moved => self.moved += 1,
-                Answer::Waits => self.waits += 1,
+                Answer::Waits { .. } => self.waits += 1,
                 Answer::Empty => self.empty += 1,
                 Answer::Marked(_) => self.marked += 1,
                 Answer::Inserted(_) => self.inserted += 1,
@@ -94,13 +97,20 @@ impl Tally {
         }
     }
 
-    /// Counts what seldom happens: `was` is the stage before the step, `queue`
-    /// the record after it.
-    pub(crate) fn count_rare(&mut self, was: &Stage, p: u64, answer: &Answer, queue: &Queue) {
-        match (*was, *answer) {
+    /// Counts what seldom happens: `was` is the processor before the step,
+    /// `queue` the record after it.
+    pub(crate) fn count_rare(&mut self, was: &Processor, p: u64, answer: &Answer, queue: &Queue) {
+        match (was.stage, *answer) {
             (Stage::G4Unlock(..), _) => self.moved_on += 1,
             (Stage::W3Mark(_), Answer::Moved) => self.marks_lost += 1,
-            (Stage::L2LockOwn(_), Answer::Waits) => self.own_waits += 1,
+            (_, Answer::Waits { holder }) => {
+                if let Some((asker, _)) = asked(was) {
+                    self.waits_at[asker as usize] += 1;
+                }
+                if let Some(count) = self.waits_for.get_mut(usize::from(holder)) {
+                    *count += 1;
+                }
+            }
             (Stage::W1Read(a), Answer::Moved) => {
                 if let Stage::W2Compare(b) = queue.processors[p as usize].stage {
                     if queue.key(b.node) < queue.key(a.node) {
@@ -110,5 +120,11 @@ impl Tally {
             }
             _ => {}
         }
+    }
+}
+
+fn add_each(mine: &mut [u64], others: &[u64]) {
+    for (count, other) in mine.iter_mut().zip(others) {
+        *count += other;
     }
 }

@@ -5,10 +5,11 @@ use crate::calls::{Call, Outcome};
 use crate::ghost::Ghost;
 use crate::invariant;
 use crate::markers::{lent, Listing, NOBODY, PAIR};
-use crate::queue::{fresh, Queue, MAX_PROCESSORS};
+use crate::queue::{fresh, Queue, Stage, MAX_PROCESSORS};
 use crate::refusals::Refusals;
 use crate::schedule::{Schedule, Sizes};
 use crate::tally::Tally;
+use crate::waits::Watch;
 
 /// Something that takes calls: the queue, or a wrong one.
 pub trait Machine {
@@ -91,12 +92,15 @@ impl<M: Machine> Trial<M> {
 
     /// Makes so many calls of the schedule; each answer goes through the book
     /// and the table of refusals, and so do the backlog and the markers after
-    /// each call; after every `every`-th one the invariant is looked at.
+    /// each call; a step at a lock is watched; after every `every`-th call the
+    /// invariant is looked at.
     pub fn play(&mut self, calls: u64, every: u64) -> Result<(), Failure> {
         for _ in 0..calls {
             let call = self.schedule.next_call();
+            let watch = self.watch(&call);
             let outcome = self.make(&call);
             self.check_refusals(&call, &outcome)?;
+            self.check_lock(watch, &call, &outcome)?;
             self.enter(&call, &outcome)?;
             self.check_backlog()?;
             self.check_markers()?;
@@ -154,9 +158,37 @@ impl<M: Machine> Trial<M> {
             .follow(&was, call, &outcome, self.machine.queue());
         if let (Call::Step { processor }, Outcome::Stepped(answer)) = (*call, &outcome) {
             self.tally
-                .count_rare(&was.stage, processor, answer, self.machine.queue());
+                .count_rare(&was, processor, answer, self.machine.queue());
         }
         outcome
+    }
+
+    /// What the record asks of a step, if the call is one of a busy processor.
+    fn watch(&self, call: &Call) -> Option<Watch> {
+        let queue = self.machine.queue();
+        match *call {
+            Call::Step { processor } if processor < self.sizes.processors => {
+                let busy = queue.processors[processor as usize].stage != Stage::Idle;
+                busy.then(|| Watch::new(queue, processor as usize))
+            }
+            _ => None,
+        }
+    }
+
+    /// A lock is taken, or waited for and its holder named.
+    fn check_lock(
+        &self,
+        watch: Option<Watch>,
+        call: &Call,
+        outcome: &Outcome,
+    ) -> Result<(), Failure> {
+        let (Some(watch), Outcome::Stepped(answer)) = (watch, outcome) else {
+            return Ok(());
+        };
+        watch
+            .judge(*answer, self.machine.queue())
+            .and_then(|()| watch.judge_holder())
+            .map_err(|fault| self.failure(format!("{call:?} gave {outcome:?}: {fault}")))
     }
 
     fn enter(&mut self, call: &Call, outcome: &Outcome) -> Result<(), Failure> {

@@ -7,6 +7,7 @@ use darthog_reference::calls::{Call, Outcome};
 use darthog_reference::markers::{Listing, NOBODY, PAIR};
 use darthog_reference::queue::{Queue, Stage, Use, MAX_NUMBER, UNMARKED};
 use darthog_reference::random::Random;
+use darthog_reference::waits::{asked, Watch, ASKERS};
 use std::collections::HashMap;
 use std::mem::{discriminant, Discriminant};
 
@@ -46,6 +47,13 @@ fn differing(before: &Queue, after: &Queue) -> (Vec<usize>, Vec<usize>) {
         .filter(|&p| before.processors[p] != after.processors[p])
         .collect();
     (nodes, processors)
+}
+
+/// The form without check 21 does the same.
+fn check_inner(before: &Queue, call: &Call, outcome: &Outcome, after: &Queue) {
+    let mut inner = before.clone();
+    assert_eq!(inner.call_inner(call), *outcome);
+    assert!(inner == *after, "the inner form does something else");
 }
 
 fn check_call(before: &Queue, call: &Call, outcome: &Outcome, after: &Queue) {
@@ -108,7 +116,7 @@ fn check_marks(before: &Queue, call: &Call, outcome: &Outcome, after: &Queue) {
 fn every_call_keeps_check_21_on_any_record() {
     let mut random = Random::new(5);
     let mut steps: HashMap<Discriminant<Stage>, u64> = HashMap::new();
-    let mut taken = [0u64; 3];
+    let (mut taken, mut waits) = ([0u64; 3], Waits::default());
     let mut refusals: HashMap<u32, u64> = HashMap::new();
     for _ in 0..RECORDS {
         let mut queue = any_record(&mut random);
@@ -117,14 +125,13 @@ fn every_call_keeps_check_21_on_any_record() {
             let call = any_call(&mut random, &queue);
             let before = queue.clone();
             let outcome = queue.call(&call);
-            let mut inner = before.clone();
-            assert_eq!(inner.call_inner(&call), outcome);
-            assert!(inner == queue, "the inner form does something else");
+            check_inner(&before, &call, &outcome, &queue);
             check_call(&before, &call, &outcome, &queue);
             match (call, outcome) {
-                (Call::Step { processor }, Outcome::Stepped(_)) => {
+                (Call::Step { processor }, Outcome::Stepped(answer)) => {
                     let stage = before.processors[processor as usize].stage;
                     *steps.entry(discriminant(&stage)).or_default() += 1;
+                    waits.check(&before, processor as usize, answer, &queue);
                 }
                 (Call::Insert { .. }, Outcome::Began(_)) => taken[0] += 1,
                 (Call::DeleteMin { .. }, Outcome::Began(_)) => taken[1] += 1,
@@ -142,6 +149,47 @@ fn every_call_keeps_check_21_on_any_record() {
     assert!(taken.iter().all(|&count| count > 1000), "{taken:?}");
     for number in [31, 32, 33, 34, 35, 36, 37, 39, 43] {
         assert!(refusals[&number] > 1000, "{refusals:?}");
+    }
+    waits.must_be_many();
+}
+
+/// How often a step took a lock or waited, by the step.
+#[derive(Default)]
+struct Waits {
+    taken: [u64; ASKERS],
+    waited: [u64; ASKERS],
+    /// By whom was waited for: the caller, an idle processor, another.
+    holders: [u64; 3],
+}
+
+impl Waits {
+    /// The step takes a free lock; at a held one it waits and names the holder,
+    /// who may be anybody here.
+    fn check(&mut self, before: &Queue, p: usize, answer: Answer, after: &Queue) {
+        let judged = Watch::new(before, p).judge(answer, after);
+        assert_eq!(judged, Ok(()), "{:?} {answer:?}", before.processors[p]);
+        let Some((asker, _)) = asked(&before.processors[p]) else {
+            return;
+        };
+        let Answer::Waits { holder } = answer else {
+            self.taken[asker as usize] += 1;
+            return;
+        };
+        self.waited[asker as usize] += 1;
+        let idle = before.processors[usize::from(holder)].stage == Stage::Idle;
+        let kind = match (usize::from(holder) == p, idle) {
+            (true, _) => 0,
+            (false, true) => 1,
+            (false, false) => 2,
+        };
+        self.holders[kind] += 1;
+    }
+
+    fn must_be_many(&self) {
+        let (taken, waited, holders) = (self.taken, self.waited, self.holders);
+        println!("{taken:?} locks taken, {waited:?} waited for, {holders:?} by holder");
+        let counts = [&taken[..], &waited, &holders].concat();
+        assert!(counts.iter().all(|&count| count > 1000), "{counts:?}");
     }
 }
 
@@ -296,4 +344,58 @@ fn no_rule_looks_at_who_set_a_mark() {
     }
     println!("{differ} calls on other marks, {told} told other markers");
     assert!(told > 1000 && differ > 100_000, "{told} {differ}");
+}
+
+/// The locks of the record's nodes, as far as check 21 looks at them.
+fn locks(queue: &mut Queue) -> impl Iterator<Item = &mut u8> {
+    let (last, levels) = (usize::from(queue.tail()), usize::from(queue.level_count));
+    queue.nodes[..=last].iter_mut().flat_map(move |node| {
+        let of_levels = node.level_locks[..levels].iter_mut();
+        of_levels.chain([&mut node.node_lock])
+    })
+}
+
+/// The same record with each lock held by the processor that stands for its
+/// holder.
+fn held_by(queue: &Queue, standing: &[u8]) -> Queue {
+    let mut other = queue.clone();
+    for lock in locks(&mut other).filter(|lock| **lock != 0) {
+        *lock = standing[usize::from(*lock) - 1] + 1;
+    }
+    other
+}
+
+/// The same record with each held lock as that of processor 0.
+fn held_by_nobody_in_particular(queue: &Queue) -> Queue {
+    held_by(queue, &[0; 16])
+}
+
+/// Whoever holds the locks: every call gives and leaves the same, but that a
+/// wait names who stands for the holder.
+#[test]
+fn no_rule_looks_at_who_holds_a_lock() {
+    let mut random = Random::new(8);
+    let (mut waits, mut differ) = (0, 0);
+    for _ in 0..RECORDS {
+        let queue = any_record(&mut random);
+        let last = u64::from(queue.processor_count) - 1;
+        let standing: Vec<u8> = (0..=last).map(|_| random.between(0, last) as u8).collect();
+        let call = any_call(&mut random, &queue);
+        let (mut one, mut two) = (queue.clone(), held_by(&queue, &standing));
+        let (outcome, got) = (one.call(&call), two.call(&call));
+        let expected = match outcome {
+            Outcome::Stepped(Answer::Waits { holder }) => {
+                let holder = standing[usize::from(holder)];
+                Outcome::Stepped(Answer::Waits { holder })
+            }
+            _ => outcome.clone(),
+        };
+        assert_eq!(got, expected, "{call:?}");
+        let [one, two] = [one, two].map(|left| held_by_nobody_in_particular(&left));
+        assert!(one == two, "{call:?} {outcome:?}");
+        waits += u64::from(matches!(outcome, Outcome::Stepped(Answer::Waits { .. })));
+        differ += u64::from(outcome != expected);
+    }
+    println!("{waits} waits, {differ} for another");
+    assert!(waits > 500 && differ > 200, "{waits} {differ}");
 }

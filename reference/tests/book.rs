@@ -72,7 +72,7 @@ fn right_answers_are_entered() {
         refused,
         (Call::Backlog, Outcome::Count(2)),
         step(0, Answer::Marked(FIRST)),
-        step(0, Answer::Waits),
+        step(0, Answer::Waits { holder: 1 }),
         step(0, Answer::HandedOut(FIRST)),
         delete(0, 10),
         step(0, Answer::Marked(SECOND)),
@@ -81,6 +81,25 @@ fn right_answers_are_entered() {
     ])
     .expect("all answers are right");
     assert_eq!((book.count, book.entries.len()), (13, 1));
+}
+
+/// Whomever it names, a wait asks for something open and changes the count
+/// alone.
+#[test]
+fn a_wait_is_entered_whomever_it_names() {
+    let before = after_two_entries(&[]).expect("all answers are right");
+    for holder in [0, 1, 15, 255] {
+        let wait = Answer::Waits { holder };
+        let book = after_two_entries(&[step(0, wait)]).expect("0 has something open");
+        let count = before.count + 1;
+        let expected = Book {
+            count,
+            ..before.clone()
+        };
+        assert_eq!(book, expected);
+        let idle = after_two_entries(&[step(1, wait)]);
+        assert!(idle.unwrap_err().contains("nothing is open"));
+    }
 }
 
 #[test]
@@ -123,7 +142,7 @@ fn wrong_backlogs_are_noticed() {
         (step(1, Answer::Inserted(other)), 2),
         (delete(0, 5), 2),
         (step(0, Answer::Marked(FIRST)), 1),
-        (step(0, Answer::Waits), 1),
+        (step(0, Answer::Waits { holder: 1 }), 1),
         (step(0, Answer::HandedOut(FIRST)), 1),
         ((Call::Step { processor: 0 }, Outcome::Refused(34)), 1),
     ];
@@ -201,7 +220,7 @@ fn markers_along_a_run() {
         (step(1, Answer::Moved), 1, &[1, 255]),
         (step(1, Answer::Marked(FIRST)), 1, &[1, 1]),
         (listed(1, &[1, 1]), 1, &[1, 1]),
-        (step(1, Answer::Waits), 1, &[1, 1]),
+        (step(1, Answer::Waits { holder: 0 }), 1, &[1, 1]),
         (step(1, Answer::HandedOut(FIRST)), 0, &[]),
         (delete(0, 9), 0, &[]),
     ];

@@ -8,7 +8,10 @@ fn steps(queue: &mut Queue, processor: u64, count: u32) -> Answer {
     let mut last = Answer::Moved;
     for i in 0..count {
         last = queue.step(processor).expect("the step is accepted");
-        let ends = !matches!(last, Answer::Moved | Answer::Waits | Answer::Marked(_));
+        let ends = !matches!(
+            last,
+            Answer::Moved | Answer::Waits { .. } | Answer::Marked(_)
+        );
         assert!(!ends || i + 1 == count, "the operation ended early");
     }
     last

@@ -6,7 +6,7 @@ use darthog_reference::lists::{run, run_inner};
 use darthog_reference::queue::fresh;
 use darthog_reference::random::Random;
 use darthog_reference::stated::images;
-use darthog_reference::stated::lists::{printed, Turn};
+use darthog_reference::stated::lists::{printed, split, Turn};
 use std::collections::BTreeSet;
 
 /// What an area for answers holds before a run.
@@ -14,12 +14,6 @@ fn junk(length: usize) -> Vec<u32> {
     (0..length as u32)
         .map(|place| place ^ 0xa5a5_a5a5)
         .collect()
-}
-
-/// The numbers of a list's calls, and of its answers.
-fn split(turns: &[Turn]) -> (Vec<u32>, Vec<u32>) {
-    let calls = turns.iter().flat_map(|turn| turn.0).collect();
-    (calls, turns.iter().flat_map(|turn| turn.1).collect())
 }
 
 #[test]

@@ -1,7 +1,7 @@
 //! Random schedules: every answer goes through the book and the table of
-//! refusals, and the backlog, the markers and the whole invariant are looked at
-//! after every single call, on the large sizes too. The two tests together make
-//! 5,000,000 calls and more.
+//! refusals, every step at a lock takes it or names its holder, and the backlog,
+//! the markers and the whole invariant are looked at after every single call, on
+//! the large sizes too. The two tests together make 5,000,000 calls and more.
 
 use darthog_reference::queue::MAX_NUMBER;
 use darthog_reference::random::Random;
@@ -33,12 +33,28 @@ fn play_many(seed: u64) -> Tally {
     total
 }
 
+/// Steps waited at G2 of both operations and at L2, and for every processor. No
+/// step waits at L1: an Insert gives its node lock back before it stamps, a
+/// Delete_Min marks none but stamped nodes, and no node twice.
+fn assert_waits(total: &Tally) {
+    let [insert, removal, node, own] = total.waits_at;
+    assert!(
+        insert > 10_000 && removal > 10_000 && own > 300,
+        "{total:?}"
+    );
+    assert_eq!(node, 0, "{total:?}");
+    assert_eq!(insert + removal + node + own, total.waits, "{total:?}");
+    assert!(total.waits_for.iter().all(|&count| count > 30), "{total:?}");
+    assert_eq!(total.waits_for.iter().sum::<u64>(), total.waits);
+}
+
 /// Every kind of answer and refusal but 31 came up, and often, and so did the
 /// rarer turns of an operation.
 fn assert_rich(total: &Tally) {
     eprintln!("{total:?}");
     assert_eq!(total.invariant, total.calls);
     assert!(total.calls >= CALLS);
+    assert_waits(total);
     for count in [
         total.moved,
         total.waits,
@@ -54,12 +70,7 @@ fn assert_rich(total: &Tally) {
     ] {
         assert!(count > 10_000, "{total:?}");
     }
-    for count in [
-        total.moved_on,
-        total.marks_lost,
-        total.led_back,
-        total.own_waits,
-    ] {
+    for count in [total.moved_on, total.marks_lost, total.led_back] {
         assert!(count > 300, "{total:?}");
     }
     for number in [2, 3, 4, 5, 6, 7, 9, 13] {

@@ -165,7 +165,7 @@ impl Steps {
                 Err(_) => return,
                 Ok(answer) => {
                     self.accepted += 1;
-                    self.waits += u64::from(answer == Answer::Waits);
+                    self.waits += u64::from(matches!(answer, Answer::Waits { .. }));
                 }
             }
         }

@@ -3,10 +3,10 @@
 //!
 //!     darthog-workers SEED [SHEET]
 //!
-//! prints the history of the run, and on standard error which worker holds a
-//! withdrawal at its end that it has not delivered. With a second argument the
-//! same calls are written to that file as a sheet, for which the program prints
-//! the same history.
+//! prints the history of the run, and on standard error which worker waits for
+//! which, with the time, and which worker holds a withdrawal at the end that it
+//! has not delivered. With a second argument the same calls are written to that
+//! file as a sheet, for which the program prints the same history.
 
 mod lines;
 mod random;
@@ -28,6 +28,8 @@ struct Run {
     /// What each worker has marked last.
     marked: Vec<Option<Entry>>,
     history: History,
+    /// A line for each step that waits; the history has none.
+    waits: Vec<String>,
     sheet: Sheet,
 }
 
@@ -39,6 +41,7 @@ impl Run {
             busy: vec![false; processors as usize],
             marked: vec![None; processors as usize],
             history: History(String::new()),
+            waits: Vec::new(),
             sheet: Sheet::new(processors, entries, levels),
         })
     }
@@ -106,7 +109,11 @@ impl Run {
         self.sheet.step(worker, stepped.is_err());
         let time = self.queue.clock();
         match stepped {
-            Ok(Step::Moved | Step::Waits) => {}
+            Ok(Step::Moved) => {}
+            Ok(Step::Waits { holder }) => {
+                let line = format!("worker {worker} waits for worker {holder}");
+                self.waits.push(format!("at {time} {line}"));
+            }
             Ok(Step::Marked(entry)) => {
                 self.marked[worker as usize] = Some(entry);
                 self.history.entry('M', time, worker, entry);
@@ -171,6 +178,7 @@ fn main() -> ExitCode {
         }
     };
     print!("{}", run.history.0);
+    run.waits.iter().for_each(|line| eprintln!("{line}"));
     match run.holders() {
         Ok(lines) => lines.iter().for_each(|line| eprintln!("{line}")),
         Err(refusal) => {

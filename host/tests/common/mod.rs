@@ -242,6 +242,13 @@ pub fn junk(room: usize) -> Vec<u32> {
     (0..MARGIN + room + MARGIN).map(number).collect()
 }
 
+/// An area with these answers in front, and what is around it.
+pub fn area_with(answers: &[u32], room: usize) -> Vec<u32> {
+    let mut area = junk(room);
+    area[MARGIN..MARGIN + answers.len()].copy_from_slice(answers);
+    area
+}
+
 /// What the reference says about a list of calls on any bytes, one call at a
 /// time: the code, the area with what is around it, and the bytes afterwards.
 pub fn expected_list(bytes: &[u8], calls: &[u32], room: usize) -> (u32, Vec<u32>, Vec<u8>) {
@@ -278,7 +285,8 @@ pub fn refused(number: u32) -> Reply {
     reply([number, 0, 0, 0])
 }
 
-fn reply([code, first, second, third]: [u32; 4]) -> Reply {
+/// These numbers as a reply.
+pub fn reply([code, first, second, third]: [u32; 4]) -> Reply {
     Reply {
         code,
         first,
@@ -336,35 +344,56 @@ pub fn compare(bytes: &[u8], call: &Call, random: &mut Random, counts: &mut Coun
         let left = lent.area == untouched(room);
         assert!(reply.code == 0 || left, "{call:?} {reply:?}: it is written");
     }
-    counts.note(call.entry(), reply.code);
+    counts.note_reply(call.entry(), &reply);
     if let Some(numbers) = call.numbers() {
         compare_list(bytes, &numbers, 5, random);
     }
 }
 
-/// How often each entry gave back each code.
+/// How often each entry gave back each code, and how often each processor was
+/// waited for.
 #[derive(Default)]
-pub struct Counts(BTreeMap<(&'static str, u32), u64>);
+pub struct Counts {
+    codes: BTreeMap<(&'static str, u32), u64>,
+    holders: BTreeMap<u32, u64>,
+}
 
 impl Counts {
     /// One more.
     pub fn note(&mut self, entry: &'static str, code: u32) {
-        *self.0.entry((entry, code)).or_default() += 1;
+        *self.codes.entry((entry, code)).or_default() += 1;
+    }
+
+    /// One more, with whom it waits for.
+    pub fn note_reply(&mut self, entry: &'static str, reply: &Reply) {
+        self.note(entry, reply.code);
+        if reply.code == raw::WAITS {
+            *self.holders.entry(reply.first).or_default() += 1;
+        }
     }
 
     /// Prints the counts, and fails if one of these codes did not occur.
     pub fn must_have(&self, wanted: &[(&'static str, &[u32])]) {
-        for ((entry, code), count) in &self.0 {
+        for ((entry, code), count) in &self.codes {
             println!("{entry:>12} {code:>3} {count:>8}");
         }
         for (entry, codes) in wanted {
             for code in *codes {
                 assert!(
-                    self.0.contains_key(&(*entry, *code)),
+                    self.codes.contains_key(&(*entry, *code)),
                     "{entry} never gave back {code}"
                 );
             }
         }
+    }
+
+    /// Prints how often each processor was waited for, and fails unless so many
+    /// of the sixteen were, and no other.
+    pub fn must_wait_for(&self, least: usize) {
+        let holders = &self.holders;
+        println!("waited for {holders:?}");
+        assert!(holders.len() >= least, "for {} alone", holders.len());
+        assert!(holders.keys().all(|&holder| holder < 16), "{holders:?}");
     }
 }
 

@@ -2,7 +2,8 @@
 
 use super::{Conjunct, View};
 use crate::claims::Claim;
-use crate::queue::{slot, Place, Stage, FREE, HEAD};
+use crate::locks::Lock;
+use crate::queue::{named, slot, Place, Stage, HEAD};
 use crate::stages::holder;
 
 pub(super) const CONJUNCTS: &[Conjunct] = &[
@@ -45,35 +46,22 @@ fn holds_node(view: &View) -> bool {
 
 /// A held node lock is held by a processor whose stage says so.
 fn node_lock_held(view: &View) -> bool {
-    (HEAD..=view.queue.tail()).all(|n| {
-        let lock = view.node(n).node_lock;
-        if lock == FREE {
-            return true;
-        }
-        let claim = holder_claim(view, lock);
-        claim.holds_node && claim.own == n
-    })
+    (HEAD..=view.queue.tail()).all(|n| free_or_claimed(view, Lock::Node(n)))
 }
 
 /// A held level lock is held by a processor whose stage says so.
 fn level_lock_held(view: &View) -> bool {
-    (HEAD..=view.queue.tail()).all(|n| {
-        view.levels().all(|i| {
-            let lock = view.node(n).level_locks[slot(i)];
-            if lock == FREE {
-                return true;
-            }
-            let claim = holder_claim(view, lock);
-            let at_level = claim.place.is_some_and(|a| a.level == i);
-            let as_place = claim.holds_place && claim.place.is_some_and(|a| a.node == n);
-            let as_own = claim.holds_own && claim.own == n;
-            at_level && (as_place || as_own)
-        })
+    (HEAD..=view.queue.tail()).all(|node| {
+        let at = |level| Lock::Level(Place { node, level });
+        view.levels().all(|level| free_or_claimed(view, at(level)))
     })
 }
 
-fn holder_claim<'a>(view: &'a View, lock: u8) -> &'a Claim {
-    &view.claims[lock as usize - 1]
+fn free_or_claimed(view: &View, lock: Lock) -> bool {
+    match named(view.queue.lock(lock)) {
+        None => true,
+        Some(p) => view.claims[p as usize].holds(lock),
+    }
 }
 
 /// At I1 the node after the place is after the own node.

@@ -7,9 +7,23 @@ pub type Turn = ([u32; 5], [u32; 5]);
 
 const STEP: [u32; 5] = [3, 0, 0, 0, 0];
 
-/// Steps of the printed run's processor that move it on, from a time to a time.
-fn moves(first: u32, last: u32) -> impl Iterator<Item = Turn> {
-    (first..=last).map(|time| (STEP, [1, 0, 0, 0, time]))
+/// The numbers of a list's calls, and of its answers.
+pub fn split(turns: &[Turn]) -> (Vec<u32>, Vec<u32>) {
+    let calls = turns.iter().flat_map(|turn| turn.0).collect();
+    (calls, turns.iter().flat_map(|turn| turn.1).collect())
+}
+
+/// Steps of a processor that move it on, from a time to a time.
+pub(super) fn moves(processor: u32, first: u32, last: u32) -> Vec<Turn> {
+    steps(processor, [1, 0, 0, 0], first, last)
+}
+
+/// Steps of a processor with this code and these values, from a time to a time.
+pub(super) fn steps(processor: u32, reply: [u32; 4], first: u32, last: u32) -> Vec<Turn> {
+    let [code, one, two, three] = reply;
+    (first..=last)
+        .map(|time| ([3, processor, 0, 0, 0], [code, one, two, three, time]))
+        .collect()
 }
 
 /// The printed run as one list, on a fresh queue for one processor, one entry
@@ -24,18 +38,18 @@ pub fn printed() -> Vec<Turn> {
         ([1, 0, 7, 42, 1], [33, 0, 0, 0, 1]),
         ([2, 0, 0, 0, 0], [33, 0, 0, 0, 1]),
     ];
-    turns.extend(moves(2, 9));
+    turns.extend(moves(0, 2, 9));
     turns.extend([
         ([u32::MAX, 0, 9, 9, 9], [5, 7, 42, 1, 10]),
         ([1, 0, 1, 1, 1], [37, 0, 0, 0, 10]),
         ([2, 0, 9, 9, 9], [0, 11, 0, 0, 11]),
     ]);
-    turns.extend(moves(12, 13));
+    turns.extend(moves(0, 12, 13));
     turns.extend([
         ([0, 0, 0, 0, 0], [4, 7, 42, 1, 14]),
         ([3, u32::MAX, 0, 0, 0], [32, 0, 0, 0, 14]),
     ]);
-    turns.extend(moves(15, 25));
+    turns.extend(moves(0, 15, 25));
     turns.extend([
         (STEP, [6, 7, 42, 1, 26]),
         (STEP, [34, 0, 0, 0, 26]),
