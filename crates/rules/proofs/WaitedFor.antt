@@ -123,9 +123,7 @@ module _ (q : Queue) (b : Book) (S : Sound q b) (p : ℕ) where
       let says = held-claimed h (H .lock) (H .asks) (H .holds) in
       let busy = claims-busy (processorAt q h) (H .lock) says in
       record {
-        lock = H .lock;
-        asks = H .asks;
-        holds = H .holds;
+        holder = H;
         says = says;
         there = inside (ltb h (q .processorCount)) refl busy;
         busy = busy;

@@ -1,7 +1,6 @@
 -- Answers (01, the steps): a refusal's number; the time of a begin; and what a step reports, with
--- what the entry holds where it reports of one, or with the processor that a step waits for
--- (02, W1). Whatever is told of an answer, to hosts, in lists
--- and in histories, goes by its report.
+-- what the entry holds where it reports of one, or with the processor that it waits for (02, W1).
+-- Whatever is told of an answer, to hosts, in lists and in histories, goes by its report.
 use Prim.Native.Nat.{ℕ}
 use mathlib.Core.Bool.{Bool, true, false}
 use mathlib.Core.List.{List, [], _∷_}

@@ -18,8 +18,9 @@ use Rattle.rules.specs.declared.answers.Entry.{Entry}
 use Rattle.rules.specs.Book.{Book, nothing, walking, unlinking, emptyBook, agrees, judged}
 use Rattle.rules.specs.Book.{earlier, answeredIn, pendingIn}
 use Rattle.rules.specs.Calls.{idleAt}
-use Rattle.rules.specs.Locks.{Lock, level, node, holderOf, Claims, Asks}
+use Rattle.rules.specs.Locks.{Lock, level, node, holderOf, Claims}
 use Rattle.rules.specs.Runs.{Turn, stepBy, backlog, Reply, answered, counted, reply, afterAll}
+use Rattle.rules.specs.Waits.{Holder}
 
 -- a queue that was just made has sizes in their ranges
 pub record InRange (P N L : ℕ) : Type 0 where
@@ -187,10 +188,8 @@ ReachedLocksAgree =
 -- is h's in the record, h's stage says that it holds this very lock, h is one of the queue's
 -- processors and busy, so that the book has an operation of it open, and it is not p.
 pub record WaitedFor (q : Queue) (b : Book) (p h : ℕ) : Type 0 where
-  pub lock : Lock
-  pub asks : Asks (processorAt q p) lock
-  pub holds : holderOf q lock ≡ suc h
-  pub says : Claims (processorAt q h) lock
+  pub holder : Holder q p h
+  pub says : Claims (processorAt q h) (holder .lock)
   pub there : h < q .processorCount
   pub busy : idleAt q h ≡ false
   pub begun : b .opened h ≡ nothing → ⊥

@@ -7,6 +7,6 @@ pub mod Runs
 pub mod Items
 pub mod Book
 pub mod Locks
+pub mod Waits
 pub mod Demand3
 pub mod Marks
-pub mod Waits
