@@ -8,11 +8,12 @@
  * the stack that a call takes is below 64 KiB.
  *
  * Workers take turns. A step that waits (DARTHOG_WAITS) waits for a lock that another processor
- * holds, and tells in first which one that is. Only steps of the holder free the lock: let it step
- * before this one steps again. A wait is an accepted call and uses up the clock. A queue takes
- * 999,999 begins and steps, waits included; then each is refused with 31, for good, and nothing can
- * be taken out any more: before that, take out what is left and file it in a new queue. 37 refuses
- * an Insert for now: let the workers step on or take entries out, and try again.
+ * holds, and tells in first which one that is. Only steps of the holder free the lock, and it may
+ * wait for another itself: let the others step before this one steps again. A wait is an accepted
+ * call and uses up the clock. A queue takes 999,999 begins and steps, waits included; then each is
+ * refused with 31, for good, and nothing can be taken out any more: before that, take out what is
+ * left and file it in a new queue. 37 refuses an Insert for now: let the workers step on or take
+ * entries out, and try again.
  *
  * What the host owes: image points to length readable bytes (writable ones where the pointer is not
  * const), is not null even where length is 0, and no other thread reads or writes these bytes
@@ -46,8 +47,8 @@ enum {
     DARTHOG_ACCEPTED = 0,   /* first is a begin's time, the count of Backlog or of markers, or a due
                                minute */
     DARTHOG_MOVED = 1,      /* of a step, as those below */
-    DARTHOG_WAITS = 2,      /* a lock is held; first is the processor that holds it: let that one
-                               step first */
+    DARTHOG_WAITS = 2,      /* first is the processor that holds the lock: let the others step
+                               first */
     DARTHOG_EMPTY = 3,
     DARTHOG_MARKED = 4,     /* first is due, second item, third ticket */
     DARTHOG_INSERTED = 5,   /* the same */

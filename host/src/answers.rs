@@ -111,8 +111,9 @@ pub struct Entry {
 pub enum Step {
     /// The operation went on.
     Moved,
-    /// A lock is held, and only steps of its holder free it: only the clock
-    /// changed. Let the holder step before this one steps again.
+    /// A lock is held: only the clock changed. Steps of the holder free it,
+    /// which may wait for another itself: let the others step before this one
+    /// steps again.
     Waits {
         /// The processor that holds the lock. In a queue that calls alone have
         /// brought to where it is, it is another one than the caller, and busy.
