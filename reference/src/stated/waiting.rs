@@ -97,9 +97,8 @@ fn two_inserts(p: u32, q: u32) -> Vec<Turn> {
     .concat()
 }
 
-/// p files an entry (answered at 10) and removes it (marked at 14). Before its
-/// G2 at the head q takes the head's lock, at 21, and has it to 27 (I3).
-fn insert_in_front(p: u32, q: u32) -> Vec<Turn> {
+/// p files an entry, answered at 10, and has it marked at 14.
+fn files_and_marks(p: u32) -> Vec<Turn> {
     [
         insert(p, 5, 1, 1),
         moves(p, 2, 9),
@@ -107,6 +106,15 @@ fn insert_in_front(p: u32, q: u32) -> Vec<Turn> {
         delete(p, 11),
         moves(p, 12, 13),
         told(p, 4, 5, 1, 14),
+    ]
+    .concat()
+}
+
+/// p files an entry and removes it. Before its G2 at the head q takes the head's
+/// lock, at 21, and has it to 27 (I3).
+fn insert_in_front(p: u32, q: u32) -> Vec<Turn> {
+    [
+        files_and_marks(p),
         moves(p, 15, 17),
         insert(q, 4, 1, 18),
         moves(q, 19, 21),
@@ -128,12 +136,7 @@ fn insert_in_front(p: u32, q: u32) -> Vec<Turn> {
 /// from 31 (L2) to 39 (L5), and r waits for it.
 fn inserts_behind(p: u32, q: u32, r: u32) -> Vec<Turn> {
     [
-        insert(p, 5, 1, 1),
-        moves(p, 2, 9),
-        told(p, 5, 5, 1, 10),
-        delete(p, 11),
-        moves(p, 12, 13),
-        told(p, 4, 5, 1, 14),
+        files_and_marks(p),
         moves(p, 15, 19),
         insert(q, 6, 1, 20),
         moves(q, 21, 24),
