@@ -78,11 +78,12 @@ enum {
     DARTHOG_NO_MARKER = 255
 };
 
-/* Kinds of calls in a list; every kind but the first two is a step. */
+/* Kinds of calls in a list; every kind but the begins, 1, 2 and 4, is a step. */
 enum {
     DARTHOG_CALL_INSERT = 1,
     DARTHOG_CALL_DELETE_MIN = 2,
-    DARTHOG_CALL_STEP = 3
+    DARTHOG_CALL_STEP = 3,
+    DARTHOG_CALL_RELAXED = 4
 };
 
 /* The length of an image for processors (1 to 16) and entries (1 to 200); 0 for other sizes, which
@@ -101,6 +102,15 @@ struct darthog_reply darthog_begin_insert(uint8_t *image, size_t length, uint32_
 
 /* Begins a Delete_Min by a processor. */
 struct darthog_reply darthog_begin_delete_min(uint8_t *image, size_t length, uint32_t processor);
+
+/* Begins a Relaxed Delete_Min by a processor, for a worker that may take an entry early, as one
+ * that warms a cache. Unlike an ordinary one it also takes entries whose Insert has not answered or
+ * answered after this begin. Nothing that was answered before this begin and is not taken comes
+ * before the entry that it takes (DARTHOG_MARKED), and where it takes none (DARTHOG_EMPTY) nothing
+ * such was left. Its further steps may wait for the Insert of that entry, and the Insert may answer
+ * (DARTHOG_INSERTED) after the hand-out (DARTHOG_HANDED_OUT). Both kinds may be used side by side:
+ * neither takes what the other has marked. */
+struct darthog_reply darthog_begin_relaxed(uint8_t *image, size_t length, uint32_t processor);
 
 /* The next step of a processor's operation. One that waits tells the holder of the lock in first;
  * in bytes that only these calls have written it is another processor, and a busy one. */
@@ -124,17 +134,18 @@ uint32_t darthog_calls(uint8_t *image, size_t length, const uint32_t *calls, siz
                        uint32_t *answers, size_t answers_length);
 
 /* Backlog: how many entries are filed and not yet taken. An entry counts from the answer to its
- * Insert (DARTHOG_INSERTED) until a Delete_Min marks it (DARTHOG_MARKED). It keeps its node longer,
- * from the begin of its Insert until it is handed out, so that a small count does not say that an
- * Insert finds a node: 37 says whether it does. */
+ * Insert (DARTHOG_INSERTED) until a Delete_Min, ordinary or Relaxed, marks it (DARTHOG_MARKED); one
+ * that is marked before that answer never counts. It keeps its node longer, from the begin of its
+ * Insert until it is handed out, so that a small count does not say that an Insert finds a node: 37
+ * says whether it does. */
 struct darthog_reply darthog_backlog(const uint8_t *image, size_t length);
 
 /* Markers: which worker holds which entry that is not handed out yet. Each node in use has two
  * bytes at the front of area, in the order of the nodes' numbers: its number, 1 to the queue's
- * entries, and the processor whose Delete_Min has marked its entry (DARTHOG_MARKED), or
- * DARTHOG_NO_MARKER. first is how many nodes these are; behind their bytes the area stays as it
- * was. A node is in use from the begin of its Insert until its entry is handed out; till then its
- * marker stays, whoever else comes by.
+ * entries, and the processor whose Delete_Min, ordinary or Relaxed, has marked its entry
+ * (DARTHOG_MARKED), or DARTHOG_NO_MARKER. first is how many nodes these are; behind their bytes the
+ * area stays as it was. A node is in use from the begin of its Insert until its entry is handed
+ * out; till then its marker stays, whoever else comes by.
  *
  * Refused with 43 where area_length is less than twice the nodes in use; then nothing is written.
  * Twice the queue's entries are always enough, and 400 for any queue.

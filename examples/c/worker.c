@@ -2,6 +2,9 @@
  * empty. Each gets one step at a time, in turn: while they file, the calls of a round are one list,
  * and while they take, each is a call of its own.
  *
+ * One more worker warms a cache: while the others file, it takes one withdrawal by a Relaxed
+ * Delete_Min, which need not wait until the filing of it is answered.
+ *
  * Which entry a Delete_Min takes is decided when it marks it; unlinking it takes one worker more
  * steps than another. So each withdrawal gets its turn when it is marked, and is printed once it
  * and all before it were handed out. When every worker has marked one, the queue is asked which
@@ -13,7 +16,7 @@
 
 #include "darthog.h"
 
-enum { WORKERS = 4, ENTRIES = 12, LEVELS = 4 };
+enum { WORKERS = 4, WARMER = WORKERS, PROCESSORS, ENTRIES = 12, LEVELS = 4 };
 
 /* What is filed: in how many seconds it is due, and its item. */
 static const struct { uint64_t seconds; uint32_t item; } withdrawals[ENTRIES] = {
@@ -40,8 +43,11 @@ static uint8_t *queue;
 static size_t length;
 static struct taken taken[ENTRIES];
 
+/* How many the cache's worker takes, and how many are left to the others. */
+enum { WARMED = 1, LEFT = ENTRIES - WARMED };
+
 /* Of each worker, one more than the worker that it waits for; 0 while it waits for none. */
-static uint32_t waits_for[WORKERS];
+static uint32_t waits_for[PROCESSORS];
 
 static void stop(const char *call, uint32_t code) {
     fprintf(stderr, "%s gave back %" PRIu32 "\n", call, code);
@@ -59,7 +65,7 @@ static uint32_t value(const char *call, struct darthog_reply reply) {
 static void note_wait(uint32_t w, uint32_t code, uint32_t first) {
     uint32_t holder = code == DARTHOG_WAITS ? first + 1 : 0;
     if (holder != 0 && holder != waits_for[w]) {
-        if (first >= WORKERS || first == w) stop("no other worker's lock: a wait", first);
+        if (first >= PROCESSORS || first == w) stop("no other worker's lock: a wait", first);
         printf("worker %" PRIu32 " waits for worker %" PRIu32 "\n", w, first);
     }
     waits_for[w] = holder;
@@ -111,11 +117,27 @@ static size_t ask(uint32_t *calls, const int *busy, int *begun) {
     return numbers;
 }
 
-/* Each worker files the next withdrawal, until all are filed. */
+/* One call of the cache's worker: a step, or the begin of a Relaxed Delete_Min. Gives 1 once it has
+ * its withdrawal; where it finds none it begins again. */
+static int warm(int *busy) {
+    if (!*busy) {
+        value("begin_relaxed", darthog_begin_relaxed(queue, length, WARMER));
+        *busy = 1;
+        return 0;
+    }
+    struct darthog_reply r = darthog_step(queue, length, WARMER);
+    note_wait(WARMER, r.code, r.first);
+    if (r.code == DARTHOG_MARKED) printf("the cache takes item %" PRIu32 "\n", r.second);
+    if (r.code == DARTHOG_EMPTY) *busy = 0;
+    if (r.code > DARTHOG_HANDED_OUT) stop("step", r.code);
+    return r.code == DARTHOG_HANDED_OUT;
+}
+
+/* Each worker files the next withdrawal, until all are filed and the cache has its own. */
 static void file_all(void) {
     int busy[WORKERS] = {0};
-    int begun = 0, filed = 0;
-    while (filed < ENTRIES) {
+    int begun = 0, filed = 0, warming = 0, warmed = 0;
+    while (filed < ENTRIES || !warmed) {
         uint32_t calls[WORKERS * NUMBERS] = {0}, answers[WORKERS * NUMBERS];
         size_t numbers = ask(calls, busy, &begun);
         uint32_t code = darthog_calls(queue, length, calls, numbers, answers, numbers);
@@ -127,6 +149,7 @@ static void file_all(void) {
             busy[calls[at + 1]] = !inserted;
             filed += inserted;
         }
+        if (!warmed) warmed = warm(&warming);
     }
 }
 
@@ -148,7 +171,7 @@ static void work(struct worker *worker, uint32_t w, int *marked) {
         worker->ended = 1;
         break;
     case DARTHOG_MARKED:
-        if (*marked == ENTRIES) stop("one mark too many: step", r.code);
+        if (*marked == LEFT) stop("one mark too many: step", r.code);
         worker->turn = (*marked)++;
         taken[worker->turn].entry = r;
         taken[worker->turn].worker = w;
@@ -164,7 +187,7 @@ static void work(struct worker *worker, uint32_t w, int *marked) {
 
 /* Prints the withdrawals whose turn has come; gives the next turn. */
 static int print_from(int turn) {
-    while (turn < ENTRIES && taken[turn].out) {
+    while (turn < LEFT && taken[turn].out) {
         const struct darthog_reply *e = &taken[turn].entry;
         printf("%7" PRIu32 "%7" PRIu32 "%7" PRIu32 "%7" PRIu32 "\n", e->first, e->second, e->third,
                taken[turn].worker);
@@ -212,17 +235,17 @@ static void take_all(void) {
         }
         turn = print_from(turn);
     }
-    if (turn != ENTRIES) {
-        fprintf(stderr, "%d of %d handed out\n", turn, ENTRIES);
+    if (turn != LEFT) {
+        fprintf(stderr, "%d of %d handed out\n", turn, LEFT);
         exit(1);
     }
 }
 
 int main(void) {
-    length = darthog_image_length(WORKERS, ENTRIES);
+    length = darthog_image_length(PROCESSORS, ENTRIES);
     queue = malloc(length);
     if (queue == NULL) stop("malloc", 0);
-    uint32_t code = darthog_make(queue, length, WORKERS, ENTRIES, LEVELS);
+    uint32_t code = darthog_make(queue, length, PROCESSORS, ENTRIES, LEVELS);
     if (code != DARTHOG_ACCEPTED) stop("make", code);
     file_all();
     printf("backlog %" PRIu32 "\n", backlog());

@@ -119,13 +119,16 @@ pub enum Step {
         /// brought to where it is, it is another one than the caller, and busy.
         holder: u8,
     },
-    /// The Delete_Min ended: every entry filed before it began is taken.
+    /// The Delete_Min, ordinary or Relaxed, ended: every entry filed before it
+    /// began is taken.
     Empty,
-    /// The Delete_Min took this entry, and goes on to unlink it.
+    /// The Delete_Min, ordinary or Relaxed, took this entry, and goes on to
+    /// unlink it.
     Marked(Entry),
-    /// The Insert ended.
+    /// The Insert ended. A Relaxed Delete_Min may have handed its entry out
+    /// before.
     Inserted(Entry),
-    /// The Delete_Min ended with this entry.
+    /// The Delete_Min, ordinary or Relaxed, ended with this entry.
     HandedOut(Entry),
 }
 
@@ -134,8 +137,8 @@ pub enum Step {
 pub struct Marker {
     /// The node's number, from 1.
     pub node: u8,
-    /// The processor whose Delete_Min has marked the node's entry and not yet
-    /// handed it out; none while the entry is not marked.
+    /// The processor whose Delete_Min, ordinary or Relaxed, has marked the node's
+    /// entry and not yet handed it out; none while the entry is not marked.
     pub marker: Option<u8>,
 }
 

@@ -4,8 +4,9 @@
 //! A [`Queue`] owns the bytes of its image, as many as its sizes take, and lends
 //! them to the calls of the proved library `libhost_calls.a`. A refused call leaves
 //! the queue as it was. [`Queue::calls`] makes the calls of a list in one go,
-//! [`Queue::markers`] tells which worker holds which entry, and [`raw`] has the
-//! library's own functions.
+//! [`Queue::markers`] tells which worker holds which entry,
+//! [`Queue::begin_relaxed`] is for workers that may take an entry early, and
+//! [`raw`] has the library's own functions.
 //!
 //! ```
 //! use darthog_host::{due_minute, image_length, Entry, Queue, Refusal, Step};

@@ -39,6 +39,11 @@ impl Call {
         Call::of(raw::CALL_DELETE_MIN, processor)
     }
 
+    /// The begin of a Relaxed Delete_Min, as [`crate::Queue::begin_relaxed`].
+    pub const fn relaxed(processor: u32) -> Call {
+        Call::of(raw::CALL_RELAXED, processor)
+    }
+
     /// The next step of a processor's operation, as [`crate::Queue::step`].
     pub const fn step(processor: u32) -> Call {
         Call::of(raw::CALL_STEP, processor)
@@ -58,7 +63,7 @@ impl Call {
 /// What an accepted call of a list did.
 #[derive(Clone, Copy, PartialEq, Eq, Hash, Debug)]
 pub enum Done {
-    /// An Insert or a Delete_Min began at this time.
+    /// An Insert or a Delete_Min, ordinary or Relaxed, began at this time.
     Began(u32),
     /// A step reported this.
     Stepped(Step),

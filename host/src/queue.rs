@@ -81,6 +81,50 @@ impl Queue {
         })
     }
 
+    /// Begins a Relaxed Delete_Min by a processor, for a worker that may take an
+    /// entry early, as one that warms a cache. Gives the time of the call.
+    ///
+    /// Unlike an ordinary one it also takes entries whose Insert has not answered
+    /// or answered after this begin. Nothing that was answered before this begin
+    /// and is not taken comes before the entry that it takes ([`Step::Marked`]),
+    /// and where it takes none ([`Step::Empty`]) nothing such was left. Its
+    /// further steps may wait for the Insert of that entry, and the Insert may
+    /// answer after the hand-out.
+    ///
+    /// ```
+    /// use darthog_host::{Entry, Queue, Refusal, Step};
+    ///
+    /// # fn main() -> Result<(), Refusal> {
+    /// // processor 0 files withdrawal 42; after six steps its node is linked
+    /// let mut queue = Queue::new(2, 1, 1)?;
+    /// let ticket = queue.begin_insert(0, 7, 42, 1)?;
+    /// for _ in 0..6 {
+    ///     assert_eq!(queue.step(0), Ok(Step::Moved));
+    /// }
+    /// // processor 1 takes it, and waits for the Insert before it unlinks it
+    /// let early = Entry { due: 7, item: 42, ticket };
+    /// queue.begin_relaxed(1)?;
+    /// while queue.step(1)? != Step::Marked(early) {}
+    /// while queue.step(1)? == Step::Moved {}
+    /// assert_eq!(queue.step(1), Ok(Step::Waits { holder: 0 }));
+    /// assert_eq!(queue.backlog(), Ok(0));
+    ///
+    /// // two steps more of the Insert are enough; it answers after the hand-out
+    /// for _ in 0..2 {
+    ///     assert_eq!(queue.step(0), Ok(Step::Moved));
+    /// }
+    /// while queue.step(1)? != Step::HandedOut(early) {}
+    /// assert_eq!(queue.step(0), Ok(Step::Inserted(early)));
+    /// # Ok(())
+    /// # }
+    /// ```
+    pub fn begin_relaxed(&mut self, processor: u32) -> Result<u32, Refusal> {
+        // Safe: the bytes are lent for the call, with their length.
+        value(unsafe {
+            raw::darthog_begin_relaxed(self.image.as_mut_ptr(), self.image.len(), processor)
+        })
+    }
+
     /// The next step of a processor's operation. One that waits tells for whom
     /// ([`Step::Waits`]).
     ///
@@ -152,8 +196,9 @@ impl Queue {
     }
 
     /// How many entries are filed and not yet taken: an entry counts from the
-    /// answer to its Insert ([`Step::Inserted`]) until a Delete_Min marks it
-    /// ([`Step::Marked`]).
+    /// answer to its Insert ([`Step::Inserted`]) until a Delete_Min, ordinary or
+    /// Relaxed, marks it ([`Step::Marked`]). One that is marked before that answer
+    /// never counts.
     ///
     /// It keeps its node longer, from the begin of its Insert until it is
     /// handed out: a small count does not say that an Insert finds a node.
@@ -167,8 +212,8 @@ impl Queue {
     /// marked its entry.
     ///
     /// A node is in use from the begin of its Insert until its entry is handed
-    /// out. Its marker is the processor whose Delete_Min took the entry
-    /// ([`Step::Marked`]), and stays that until the hand-out
+    /// out. Its marker is the processor whose Delete_Min, ordinary or Relaxed, took
+    /// the entry ([`Step::Marked`]), and stays that until the hand-out
     /// ([`Step::HandedOut`]).
     ///
     /// ```

@@ -28,21 +28,23 @@ pub const ACCEPTED: u32 = 0;
 pub const MOVED: u32 = 1;
 /// A lock is held, by the processor that the reply tells first.
 pub const WAITS: u32 = 2;
-/// The Delete_Min ended without an entry.
+/// The Delete_Min, ordinary or Relaxed, ended without an entry.
 pub const EMPTY: u32 = 3;
-/// The Delete_Min took an entry.
+/// The Delete_Min, ordinary or Relaxed, took an entry.
 pub const MARKED: u32 = 4;
 /// The Insert ended.
 pub const INSERTED: u32 = 5;
-/// The Delete_Min ended with an entry.
+/// The Delete_Min, ordinary or Relaxed, ended with an entry.
 pub const HANDED_OUT: u32 = 6;
 
 /// The kind of a call in a list that begins an Insert.
 pub const CALL_INSERT: u32 = 1;
 /// The kind of a call in a list that begins a Delete_Min.
 pub const CALL_DELETE_MIN: u32 = 2;
-/// A kind that is a step, as every kind but the two above.
+/// A kind that is a step, as every kind is that begins nothing.
 pub const CALL_STEP: u32 = 3;
+/// The kind of a call in a list that begins a Relaxed Delete_Min.
+pub const CALL_RELAXED: u32 = 4;
 
 /// What stands for the processor in the markers where nobody has marked the
 /// node.
@@ -81,6 +83,9 @@ extern "C" {
 
     /// Begins a Delete_Min by a processor.
     pub fn darthog_begin_delete_min(image: *mut u8, length: usize, processor: u32) -> Reply;
+
+    /// Begins a Relaxed Delete_Min by a processor.
+    pub fn darthog_begin_relaxed(image: *mut u8, length: usize, processor: u32) -> Reply;
 
     /// The next step of a processor's operation. One that waits tells who holds
     /// the lock.

@@ -55,6 +55,7 @@ fn judge_length(bytes: &[u8], random: &mut Random, counts: &mut Counts) {
         Call::Make(0, 0, 0),
         Call::Insert(0, 7, 42, 1),
         Call::DeleteMin(0),
+        Call::Relaxed(0),
         Call::Step(0),
         Call::Backlog,
         Call::Markers(400),
@@ -106,6 +107,7 @@ fn another_length_is_refused_and_no_byte_changes() {
         ("make", &[11, 21]),
         ("insert", &[21]),
         ("delete_min", &[21]),
+        ("relaxed", &[21]),
         ("step", &[21]),
         ("backlog", &[0, 21]),
         ("markers", &[0, 21]),
@@ -187,7 +189,9 @@ fn records() -> Vec<Queue> {
             inserting.begin_insert(0, 5, 6, l).expect("a node is free");
             let mut walking = idle.clone();
             walking.begin_delete_min(p - 1).expect("it is idle");
-            for mut record in [idle, inserting, walking] {
+            let mut relaxed = idle.clone();
+            relaxed.begin_relaxed(p - 1).expect("it is idle");
+            for mut record in [idle, inserting, walking, relaxed] {
                 record.clock = record.clock.max(clock);
                 records.push(record);
             }
@@ -219,6 +223,7 @@ fn numbers_at_and_past_every_edge() {
             for call in [
                 insert,
                 Call::DeleteMin(processor),
+                Call::Relaxed(processor),
                 Call::Step(processor),
                 Call::Backlog,
                 Call::Markers(any_room(&mut random, &record)),
@@ -238,6 +243,8 @@ fn numbers_at_and_past_every_edge() {
             Call::Insert(u32::from(record.processor_count) - 1, 7, 42, 1),
             Call::DeleteMin(u32::from(record.processor_count) - 1),
             Call::DeleteMin(u32::from(record.processor_count)),
+            Call::Relaxed(u32::from(record.processor_count) - 1),
+            Call::Relaxed(u32::from(record.processor_count)),
             Call::Step(u32::from(record.processor_count) - 1),
             Call::Step(u32::from(record.processor_count)),
             Call::Step(u32::MAX),
@@ -251,6 +258,7 @@ fn numbers_at_and_past_every_edge() {
         ("step", &[1, 3, 21, 31, 32, 34]),
         ALL_CODES[4],
         ALL_CODES[5],
+        ALL_CODES[6],
     ]);
 }
 

@@ -51,15 +51,22 @@ fn a_begin_changes_the_stated_bytes() {
         first: 1,
         ..refused(0)
     };
-    for (sizes, changed) in images::BEGUN {
-        let mut expected = made(sizes);
-        let mut lent = Lent::new(&expected, &mut random);
-        let last = u32::from(sizes[0]) - 1;
-        assert_eq!(lent.call(&Call::DeleteMin(last)), began, "{sizes:?}");
-        for (at, byte) in changed {
-            expected[at] = byte;
+    type Begin = fn(u32) -> Call;
+    let tables: [(_, Begin); 2] = [
+        (images::BEGUN, Call::DeleteMin),
+        (images::BEGUN_RELAXED, Call::Relaxed),
+    ];
+    for (table, begin) in tables {
+        for (sizes, changed) in table {
+            let mut expected = made(sizes);
+            let mut lent = Lent::new(&expected, &mut random);
+            let call = begin(u32::from(sizes[0]) - 1);
+            assert_eq!(lent.call(&call), began, "{sizes:?} {call:?}");
+            for (at, byte) in changed {
+                expected[at] = byte;
+            }
+            assert!(lent.now() == expected, "{sizes:?} {call:?}");
         }
-        assert!(lent.now() == expected, "{sizes:?}");
     }
 }
 
@@ -71,6 +78,7 @@ fn judge(bytes: &[u8], taken: bool, what: &str, random: &mut Random, counts: &mu
         Call::Markers(0),
         Call::Step(0),
         Call::DeleteMin(0),
+        Call::Relaxed(0),
         Call::Insert(0, 7, 42, 1),
         Call::Step(u32::MAX),
     ] {
@@ -96,6 +104,12 @@ fn bytes_are_taken_and_refused_as_stated() {
         let mut bytes = made(sizes);
         bytes[at] = byte;
         let what = format!("{sizes:?}: byte {at} is {byte}");
+        judge(&bytes, taken, &what, &mut random, &mut counts);
+    }
+    for (sizes, at, stage, taken) in images::STAGES {
+        let mut bytes = made(sizes);
+        bytes[at..at + 4].copy_from_slice(&stage);
+        let what = format!("{sizes:?}: stage {stage:?}");
         judge(&bytes, taken, &what, &mut random, &mut counts);
     }
     for (what, length, bytes) in images::refused() {

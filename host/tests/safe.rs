@@ -101,6 +101,9 @@ fn compare(queue: &mut Queue, call: &Call, outcome: &Outcome) {
         Call::DeleteMin { processor } => {
             assert_eq!(queue.begin_delete_min(cut(processor)), value, "{call:?}");
         }
+        Call::Relaxed { processor } => {
+            assert_eq!(queue.begin_relaxed(cut(processor)), value, "{call:?}");
+        }
         Call::Step { processor } => {
             let expected = match *outcome {
                 Outcome::Stepped(answer) => Ok(same_step(answer)),
@@ -187,6 +190,7 @@ fn asked(call: &Call) -> Option<Asked> {
             cut(height),
         )),
         Call::DeleteMin { processor } => Some(Asked::delete_min(cut(processor))),
+        Call::Relaxed { processor } => Some(Asked::relaxed(cut(processor))),
         Call::Step { processor } => Some(Asked::step(cut(processor))),
         Call::Backlog | Call::Markers { .. } => None,
     }
@@ -288,7 +292,7 @@ fn bytes_that_the_library_does_not_take_make_no_queue() {
         assert_eq!(Queue::from_bytes(other), Err(Refusal::BadRecord));
     }
     // no processor, no level, an unknown stage, the mark of a third processor, a clock past its end
-    for (at, value) in [(0, 0), (2, 0), (7 + 5, 27), (41 + 17, 3), (6, 1)] {
+    for (at, value) in [(0, 0), (2, 0), (7 + 5, 29), (41 + 17, 3), (6, 1)] {
         let mut damaged = bytes.clone();
         damaged[at] = value;
         assert_eq!(Queue::from_bytes(&damaged), Err(Refusal::BadRecord));
@@ -339,9 +343,16 @@ fn the_calls_run_on_a_small_stack() {
         queue.begin_delete_min(1).expect("it is idle");
         while !matches!(queue.step(1).expect("it is busy"), Step::Empty) {}
         while !matches!(queue.step(0).expect("it is busy"), Step::Inserted(_)) {}
-        let list = [Asked::delete_min(2), Asked::step(2), Asked::step(3)];
+        queue.begin_relaxed(4).expect("it is idle");
+        let list = [
+            Asked::delete_min(2),
+            Asked::step(2),
+            Asked::relaxed(2),
+            Asked::step(3),
+        ];
         let answers = queue.calls(&list).expect("its bytes are an image");
-        assert_eq!(answers[2].done(), Err(Refusal::Idle));
+        assert_eq!(answers[2].done(), Err(Refusal::Busy));
+        assert_eq!(answers[3].done(), Err(Refusal::Idle));
         let told = queue.markers().expect("its bytes are an image");
         assert_eq!((told.len(), told[0].marker), (1, None));
         queue.backlog()

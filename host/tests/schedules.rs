@@ -25,7 +25,9 @@ fn outcome_of(call: &Call, reply: &darthog_host::raw::Reply) -> Outcome {
         ticket: reply.third,
     };
     match (call, reply.code) {
-        (Call::Insert(..) | Call::DeleteMin(_), 0) => Outcome::Began(reply.first),
+        (Call::Insert(..) | Call::DeleteMin(_) | Call::Relaxed(_), 0) => {
+            Outcome::Began(reply.first)
+        }
         (Call::Markers(_), 0) => Outcome::Listed(Listing {
             nodes: reply.first,
             area: Vec::new(),
@@ -111,6 +113,7 @@ fn every_call_of_a_schedule_leaves_the_image_of_the_references_record() {
         ("make", &[0]),
         ("insert", &[0, 31, 32, 33, 35, 39, 36, 37]),
         ("delete_min", &[0, 31, 32, 33]),
+        ("relaxed", &[0, 31, 32, 33]),
         ("step", &[1, 2, 3, 4, 5, 6, 31, 32, 34]),
         ("backlog", &[0]),
         ("markers", &[0, 43]),

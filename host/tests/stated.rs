@@ -21,21 +21,23 @@ use darthog_reference::stated::records::record;
 use darthog_reference::stated::rows::TABLES;
 
 /// Every call on a record, by one processor.
-fn calls(processor: u32) -> [Call; 6] {
+fn calls(processor: u32) -> [Call; 7] {
     [
         Call::Backlog,
         Call::Markers(400),
         Call::Markers(0),
         Call::Step(processor),
         Call::DeleteMin(processor),
+        Call::Relaxed(processor),
         Call::Insert(processor, 7, 42, 1),
     ]
 }
 
 /// Calls that a taken record refuses for their numbers: 21 comes first.
-const STRANGE: [Call; 3] = [
+const STRANGE: [Call; 4] = [
     Call::Step(u32::MAX),
     Call::DeleteMin(16),
+    Call::Relaxed(16),
     Call::Insert(99, u32::MAX, u32::MAX, 0),
 ];
 
@@ -135,6 +137,7 @@ fn each_field_is_taken_and_refused_as_stated() {
         ("markers", &[0, 21]),
         ("step", &[1, 2, 3, 4, 5, 6, 21, 31, 34]),
         ("delete_min", &[0, 21, 31, 33]),
+        ("relaxed", &[0, 21, 31, 33]),
         ("insert", &[0, 21, 31, 33]),
     ]);
 }
@@ -146,8 +149,8 @@ fn judge_changes(judge: &mut Judge, base: &Queue, changes: &[Change], taken: boo
         let mut queue = base.clone();
         (change.make)(&mut queue);
         let bytes = encode(&queue);
-        let processor = (number / 6) as u32 % u32::from(base.processor_count);
-        let call = calls(processor)[number % 6];
+        let processor = (number / 7) as u32 % u32::from(base.processor_count);
+        let call = calls(processor)[number % 7];
         judge.call(&bytes, &call, taken, &change.name);
         if taken {
             let (_, after) = expected(&bytes, &call);
@@ -180,6 +183,7 @@ fn the_references_changes_are_taken_and_refused_as_their_lists_say() {
         ("markers", &[0, 21, 43]),
         ("step", &[1, 2, 21]),
         ("delete_min", &[0, 21, 33]),
+        ("relaxed", &[0, 21, 33]),
         ("insert", &[0, 21, 33]),
     ]);
 }
@@ -198,7 +202,7 @@ const NODE_TAGS: [(&str, usize, u8); 7] = [
 
 /// The same for an idle processor.
 const PROCESSOR_TAGS: [(&str, usize, u8); 5] = [
-    ("stage", 5, 27),
+    ("stage", 5, 29),
     ("stage", 5, 255),
     ("node without a place", 6, 1),
     ("level without a place", 7, 1),
@@ -247,12 +251,14 @@ fn the_clock_ends_at_999_999() {
         let whose = format!("{:?} {:?}", table.sizes, table.filling);
         let idle = queue.processors[0].stage == Stage::Idle;
         let number = if idle { began(999_999) } else { refused(33) };
-        for (clock, delete_min) in [(999_998, number), (999_999, refused(31))] {
+        for (clock, begin) in [(999_998, number), (999_999, refused(31))] {
             queue.clock = clock;
             let bytes = encode(&queue);
-            let what = format!("{whose}, clock {clock}, expected {delete_min:?}");
-            let got = judge.call(&bytes, &Call::DeleteMin(0), true, &what);
-            assert_eq!(got, delete_min, "{what}");
+            let what = format!("{whose}, clock {clock}, expected {begin:?}");
+            for call in [Call::DeleteMin(0), Call::Relaxed(0)] {
+                let got = judge.call(&bytes, &call, true, &what);
+                assert_eq!(got, begin, "{what}, {call:?}");
+            }
         }
         let bytes = encode(&queue);
         for call in calls(0).into_iter().chain(STRANGE) {

@@ -45,6 +45,7 @@ fn asked([kind, processor, due, item, height]: [u32; 5]) -> (Call, Asked) {
             Asked::insert(processor, due, item, height),
         ),
         2 => (Call::DeleteMin(processor), Asked::delete_min(processor)),
+        4 => (Call::Relaxed(processor), Asked::relaxed(processor)),
         _ => (Call::Step(processor), Asked::step(processor)),
     }
 }
@@ -56,6 +57,7 @@ fn single(queue: &mut Queue, call: &Call) -> Result<Done, Refusal> {
             queue.begin_insert(p, due, item, height).map(Done::Began)
         }
         Call::DeleteMin(p) => queue.begin_delete_min(p).map(Done::Began),
+        Call::Relaxed(p) => queue.begin_relaxed(p).map(Done::Began),
         Call::Step(p) => queue.step(p).map(Done::Stepped),
         _ => panic!("no list has {call:?}"),
     }

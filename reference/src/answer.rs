@@ -21,9 +21,9 @@ pub enum Answer {
         /// The processor that holds it.
         holder: u8,
     },
-    /// The Delete_Min ended without an entry.
+    /// The Delete_Min, ordinary or Relaxed, ended without an entry.
     Empty,
-    /// The Delete_Min took this entry.
+    /// The Delete_Min, ordinary or Relaxed, took this entry.
     Marked(Entry),
     /// The Insert ended.
     Inserted(Entry),

@@ -65,6 +65,8 @@ pub fn any_stage(random: &mut Random, a: Place, b: u8) -> Stage {
         Stage::W1Read(a),
         Stage::W2Compare(a),
         Stage::W3Mark(a),
+        Stage::RW1Read(a),
+        Stage::RW3Mark(a),
         Stage::L1LockNode,
         Stage::L2LockOwn(a),
         Stage::L3Unlink(a),
@@ -199,16 +201,13 @@ impl Maker<'_> {
         }
         let entry = self.random.between(1, u64::from(self.tail) - 1) as u8;
         processor.own = entry;
-        match processor.stage {
-            Stage::Idle | Stage::W1Read(_) | Stage::W2Compare(_) => {
+        match &mut processor.stage {
+            Stage::Idle | Stage::W1Read(_) | Stage::W2Compare(_) | Stage::RW1Read(_) => {
                 processor.own = self.up_to(self.tail);
             }
-            Stage::W3Mark(place) => {
+            Stage::W3Mark(place) | Stage::RW3Mark(place) => {
                 processor.own = self.up_to(self.tail);
-                processor.stage = Stage::W3Mark(Place {
-                    node: entry,
-                    level: place.level,
-                });
+                place.node = entry;
             }
             _ => {}
         }

@@ -1,20 +1,22 @@
-//! The book of document 01. It is fed calls and what they gave back, and
-//! never sees the record.
+//! The book of document 01, with the Relaxed Delete_Min of document 02 (W3). It
+//! is fed calls and what they gave back, and never sees the record.
 
 use crate::answer::{Answer, Entry};
 use crate::calls::{Call, Outcome};
 use crate::markers::Listing;
 use crate::queue::MAX_PROCESSORS;
 
-/// An entry that was not handed out yet.
+/// An entry that was not both answered and handed out yet.
 #[derive(Clone, Copy, PartialEq, Eq, Debug)]
 pub struct Written {
     /// Due, item and ticket.
     pub entry: Entry,
     /// When its Insert answered, if it has.
     pub answered: Option<u32>,
-    /// Whether a Delete_Min marked it.
+    /// Whether a Delete_Min, ordinary or Relaxed, marked it.
     pub marked: bool,
+    /// Whether it was handed out; its Insert has still to answer then.
+    pub handed_out: bool,
 }
 
 /// What a processor has open.
@@ -24,26 +26,29 @@ pub enum Open {
     Nothing,
     /// The Insert of the entry with this ticket.
     Insert(u32),
-    /// A Delete_Min begun at `begin`, and the ticket of what it marked.
+    /// A Delete_Min begun at `begin`, and the ticket of what it marked; a
+    /// Relaxed one too once it has marked.
     DeleteMin {
         /// Its begin time.
         begin: u32,
         /// The ticket of the entry that it marked.
         marked: Option<u32>,
     },
+    /// A Relaxed Delete_Min begun at this time that has marked nothing.
+    Relaxed(u32),
 }
 
 /// Which rule of the book an answer does not keep.
 pub type Fault = &'static str;
 
-/// The book. Entries stand in the order of their tickets; one that was handed
-/// out is struck, since no rule can speak of it again but "not handed out
-/// before", which then finds it missing.
+/// The book. Entries stand in the order of their tickets; one that was answered
+/// and handed out, in whichever order, is struck, since no rule can speak of it
+/// again.
 #[derive(Clone, PartialEq, Eq, Debug)]
 pub struct Book {
     /// How many begins and steps were accepted.
     pub count: u32,
-    /// The entries not handed out.
+    /// The entries, but those that were answered and handed out.
     pub entries: Vec<Written>,
     /// What each processor has open.
     pub open: [Open; MAX_PROCESSORS],
@@ -80,24 +85,7 @@ impl Book {
                     ..
                 },
                 &Outcome::Began(time),
-            ) => {
-                let p = self.begin(processor, time)?;
-                let (Ok(due), Ok(item)) = (u32::try_from(due), u32::try_from(item)) else {
-                    return Err("an entry was accepted that no answer can give");
-                };
-                let entry = Entry {
-                    due,
-                    item,
-                    ticket: time,
-                };
-                self.entries.push(Written {
-                    entry,
-                    answered: None,
-                    marked: false,
-                });
-                self.open[p] = Open::Insert(time);
-                Ok(())
-            }
+            ) => self.begin_insert(processor, due, item, time),
             (Call::DeleteMin { processor }, &Outcome::Began(time)) => {
                 let p = self.begin(processor, time)?;
                 self.open[p] = Open::DeleteMin {
@@ -106,9 +94,34 @@ impl Book {
                 };
                 Ok(())
             }
+            (Call::Relaxed { processor }, &Outcome::Began(time)) => {
+                let p = self.begin(processor, time)?;
+                self.open[p] = Open::Relaxed(time);
+                Ok(())
+            }
             (Call::Step { processor }, &Outcome::Stepped(answer)) => self.step(processor, answer),
             _ => Err("the call cannot give this back"),
         }
+    }
+
+    fn begin_insert(&mut self, p: u64, due: u64, item: u64, time: u32) -> Result<(), Fault> {
+        let p = self.begin(p, time)?;
+        let (Ok(due), Ok(item)) = (u32::try_from(due), u32::try_from(item)) else {
+            return Err("an entry was accepted that no answer can give");
+        };
+        let entry = Entry {
+            due,
+            item,
+            ticket: time,
+        };
+        self.entries.push(Written {
+            entry,
+            answered: None,
+            marked: false,
+            handed_out: false,
+        });
+        self.open[p] = Open::Insert(time);
+        Ok(())
     }
 
     /// The earliest by due, then ticket, of the entries answered before
@@ -121,8 +134,17 @@ impl Book {
             .min_by_key(|entry| (entry.due, entry.ticket))
     }
 
+    /// How many entries are not handed out.
+    pub fn held(&self) -> usize {
+        self.entries
+            .iter()
+            .filter(|written| !written.handed_out)
+            .count()
+    }
+
     /// How many entries are answered and not marked: what Backlog must give
-    /// (document 02, W2). Entries that were handed out are marked.
+    /// (document 02, W2). Entries that were handed out are marked, and one that
+    /// a Relaxed Delete_Min marked before its answer is never counted.
     pub fn pending(&self) -> u32 {
         self.entries
             .iter()
@@ -135,7 +157,7 @@ impl Book {
     pub fn delivering(&self, p: usize) -> Option<u32> {
         match self.open[p] {
             Open::DeleteMin { marked, .. } => marked,
-            Open::Nothing | Open::Insert(_) => None,
+            Open::Nothing | Open::Insert(_) | Open::Relaxed(_) => None,
         }
     }
 
@@ -143,7 +165,7 @@ impl Book {
     /// processor stands there as a marker once if it delivers one of them, and
     /// else never (document 02, W6).
     fn listed(&self, listing: &Listing) -> Result<(), Fault> {
-        if listing.nodes as usize != self.entries.len() {
+        if listing.nodes as usize != self.held() {
             return Err("markers of another number of entries");
         }
         for p in 0..MAX_PROCESSORS {
@@ -205,29 +227,40 @@ impl Book {
             return Err("inserted, but no Insert is open");
         };
         let Some(i) = self.find(ticket) else {
-            return Err("inserted, but the entry was handed out already");
+            return Err("inserted, but the entry was answered already");
         };
         if self.entries[i].entry != entry {
             return Err("inserted, but not the entry of this Insert");
         }
         self.entries[i].answered = Some(self.count);
+        self.strike(i);
         self.open[p] = Open::Nothing;
         Ok(())
     }
 
-    fn marked(&mut self, p: usize, entry: Entry) -> Result<(), Fault> {
-        let Open::DeleteMin {
-            begin,
-            marked: None,
-        } = self.open[p]
-        else {
-            return Err("marked, but no Delete_Min is open with nothing marked");
-        };
-        match self.pick(begin) {
-            None => return Err("marked, but there is no pick"),
-            Some(pick) if pick != entry => return Err("marked, but not the pick"),
-            Some(_) => {}
+    /// An entry that is answered and handed out is struck.
+    fn strike(&mut self, i: usize) {
+        let written = &self.entries[i];
+        if written.handed_out && written.answered.is_some() {
+            self.entries.remove(i);
         }
+    }
+
+    fn marked(&mut self, p: usize, entry: Entry) -> Result<(), Fault> {
+        let begin = match self.open[p] {
+            Open::DeleteMin {
+                begin,
+                marked: None,
+            } => {
+                self.is_the_pick(begin, entry)?;
+                begin
+            }
+            Open::Relaxed(begin) => {
+                self.may_be_relaxed(begin, entry)?;
+                begin
+            }
+            _ => return Err("marked, but no Delete_Min is open with nothing marked"),
+        };
         if let Some(i) = self.find(entry.ticket) {
             self.entries[i].marked = true;
         }
@@ -238,19 +271,61 @@ impl Book {
         Ok(())
     }
 
-    fn empty(&mut self, p: usize) -> Result<(), Fault> {
-        let Open::DeleteMin {
-            begin,
-            marked: None,
-        } = self.open[p]
-        else {
-            return Err("EMPTY, but no Delete_Min is open with nothing marked");
+    /// What an ordinary Delete_Min may mark: its pick.
+    fn is_the_pick(&self, begin: u32, entry: Entry) -> Result<(), Fault> {
+        match self.pick(begin) {
+            None => Err("marked, but there is no pick"),
+            Some(pick) if pick != entry => Err("marked, but not the pick"),
+            Some(_) => Ok(()),
+        }
+    }
+
+    /// What a Relaxed Delete_Min may mark (document 02, W3): an entry that is
+    /// written, answered or not, and unmarked, if none of the unmarked ones that
+    /// were answered before the begin is earlier.
+    fn may_be_relaxed(&self, begin: u32, entry: Entry) -> Result<(), Fault> {
+        let Some(i) = self.find(entry.ticket) else {
+            return Err("marked, but no such entry is written");
         };
-        if self.pick(begin).is_some() {
-            return Err("EMPTY, but there is a pick");
+        if self.entries[i].entry != entry {
+            return Err("marked, but no such entry is written");
+        }
+        if self.entries[i].marked {
+            return Err("marked, but it was marked before");
+        }
+        let earlier = |written: &Written| {
+            let Written { entry: other, .. } = written;
+            !written.marked
+                && written.answered.is_some_and(|time| time < begin)
+                && (other.due, other.ticket) < (entry.due, entry.ticket)
+        };
+        if self.entries.iter().any(earlier) {
+            return Err("marked, but an entry answered before the begin is earlier");
+        }
+        Ok(())
+    }
+
+    fn empty(&mut self, p: usize) -> Result<(), Fault> {
+        match self.open[p] {
+            Open::DeleteMin {
+                begin,
+                marked: None,
+            } if self.pick(begin).is_some() => return Err("EMPTY, but there is a pick"),
+            Open::Relaxed(begin) if self.left_before(begin) => {
+                return Err("EMPTY, but an entry answered before the begin is left")
+            }
+            Open::DeleteMin { marked: None, .. } | Open::Relaxed(_) => {}
+            _ => return Err("EMPTY, but no Delete_Min is open with nothing marked"),
         }
         self.open[p] = Open::Nothing;
         Ok(())
+    }
+
+    /// Whether an unmarked entry was answered before this begin.
+    fn left_before(&self, begin: u32) -> bool {
+        self.entries
+            .iter()
+            .any(|written| !written.marked && written.answered.is_some_and(|time| time < begin))
     }
 
     fn handed_out(&mut self, p: usize, entry: Entry) -> Result<(), Fault> {
@@ -264,10 +339,14 @@ impl Book {
         let Some(i) = self.find(ticket) else {
             return Err("handed out, but it was handed out before");
         };
+        if self.entries[i].handed_out {
+            return Err("handed out, but it was handed out before");
+        }
         if self.entries[i].entry != entry {
             return Err("handed out, but not the entry that was marked");
         }
-        self.entries.remove(i);
+        self.entries[i].handed_out = true;
+        self.strike(i);
         self.open[p] = Open::Nothing;
         Ok(())
     }

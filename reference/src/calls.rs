@@ -1,4 +1,4 @@
-//! The calls of a host: their refusals in order, the clock, and the two
+//! The calls of a host: their refusals in order, the clock, and the three
 //! begins.
 //!
 //! Each call has an open form, which makes check 21 first, and an inner form
@@ -28,6 +28,11 @@ pub enum Call {
     },
     /// Begin a Delete_Min.
     DeleteMin {
+        /// The calling processor.
+        processor: u64,
+    },
+    /// Begin a Relaxed Delete_Min (document 02, W3).
+    Relaxed {
         /// The calling processor.
         processor: u64,
     },
@@ -87,6 +92,13 @@ impl Queue {
         self.begin_delete_min_inner(processor)
     }
 
+    /// Begins a Relaxed Delete_Min (document 02, W3); gives the time. Refused
+    /// with 21, 31, 32 or 33.
+    pub fn begin_relaxed(&mut self, processor: u64) -> Result<u32, Refusal> {
+        self.check()?;
+        self.begin_relaxed_inner(processor)
+    }
+
     /// One step of a busy processor. Refused with 21, 31, 32 or 34.
     pub fn step(&mut self, processor: u64) -> Result<Answer, Refusal> {
         self.check()?;
@@ -122,6 +134,7 @@ impl Queue {
             Call::DeleteMin { processor } => {
                 self.begin_delete_min_inner(processor).map(Outcome::Began)
             }
+            Call::Relaxed { processor } => self.begin_relaxed_inner(processor).map(Outcome::Began),
             Call::Step { processor } => self.step_inner(processor).map(Outcome::Stepped),
             Call::Backlog => Ok(Outcome::Count(self.backlog_inner())),
             Call::Markers { room } => self.listing(room).map(Outcome::Listed),
@@ -144,12 +157,21 @@ impl Queue {
 
     /// As `begin_delete_min`, without check 21.
     pub fn begin_delete_min_inner(&mut self, processor: u64) -> Result<u32, Refusal> {
+        self.begin_walk(processor, Stage::W1Read(at(HEAD, 1)))
+    }
+
+    /// As `begin_relaxed`, without check 21.
+    pub fn begin_relaxed_inner(&mut self, processor: u64) -> Result<u32, Refusal> {
+        self.begin_walk(processor, Stage::RW1Read(at(HEAD, 1)))
+    }
+
+    fn begin_walk(&mut self, processor: u64, first: Stage) -> Result<u32, Refusal> {
         let p = self.idle_caller(processor)?;
         self.clock += 1;
         let caller = &mut self.processors[p];
         caller.begin = self.clock;
         caller.own = 0;
-        caller.stage = Stage::W1Read(at(HEAD, 1));
+        caller.stage = first;
         Ok(self.clock)
     }
 

@@ -80,8 +80,8 @@ impl Queue {
         let has_own = self.is_entry(processor.own);
         match processor.stage {
             Stage::Idle => true,
-            Stage::W1Read(a) | Stage::W2Compare(a) => self.is_place(a),
-            Stage::W3Mark(a) => self.is_place(a) && self.is_entry(a.node),
+            Stage::W1Read(a) | Stage::W2Compare(a) | Stage::RW1Read(a) => self.is_place(a),
+            Stage::W3Mark(a) | Stage::RW3Mark(a) => self.is_place(a) && self.is_entry(a.node),
             Stage::I4UnlockNode
             | Stage::I5Stamp
             | Stage::L1LockNode

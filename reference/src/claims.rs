@@ -13,7 +13,9 @@ pub enum Role {
     Insert,
     /// It is in a Delete_Min that has not marked yet; it has no own node.
     Walk,
-    /// It is in a Delete_Min that has marked its own node.
+    /// It is in a Relaxed Delete_Min that has not marked yet; it has no own node.
+    Relaxed,
+    /// It is in a Delete_Min, ordinary or Relaxed, that has marked its own node.
     Delete,
 }
 
@@ -87,8 +89,8 @@ pub fn claim(processor: &Processor) -> Claim {
         linked: Linked::Unsaid,
         saved_from: NONE_SAVED,
     };
-    let walk = |a: Place| Claim {
-        role: Role::Walk,
+    let walk = |role: Role, a: Place| Claim {
+        role,
         place: Some(Place {
             node: a.node,
             level: 1,
@@ -152,7 +154,8 @@ pub fn claim(processor: &Processor) -> Claim {
             role: Role::Insert,
             ..quiet
         },
-        Stage::W1Read(a) | Stage::W2Compare(a) | Stage::W3Mark(a) => walk(a),
+        Stage::W1Read(a) | Stage::W2Compare(a) | Stage::W3Mark(a) => walk(Role::Walk, a),
+        Stage::RW1Read(a) | Stage::RW3Mark(a) => walk(Role::Relaxed, a),
         Stage::L1LockNode => Claim {
             role: Role::Delete,
             linked: Linked::HeightIfFree,

@@ -12,7 +12,7 @@ const SHEET_REFUSALS: [u32; 6] = [11, 12, 13, 41, 42, 43];
 /// The refusals of a call.
 const CALL_REFUSALS: [u32; 8] = [31, 32, 33, 34, 35, 39, 36, 37];
 /// The letters of a history.
-const LETTERS: [char; 7] = ['I', 'D', 'A', 'M', 'T', 'E', 'R'];
+const LETTERS: [char; 8] = ['I', 'D', 'L', 'A', 'M', 'T', 'E', 'R'];
 
 /// What occurred in the sheets.
 #[derive(Clone, Default, Debug)]

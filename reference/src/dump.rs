@@ -15,6 +15,7 @@ pub fn call_words(call: &Call) -> String {
             height,
         } => format!("insert {processor} {due} {item} {height}"),
         Call::DeleteMin { processor } => format!("delete {processor}"),
+        Call::Relaxed { processor } => format!("relaxed {processor}"),
         Call::Step { processor } => format!("step {processor}"),
         Call::Backlog => "backlog".to_string(),
         Call::Markers { room } => format!("markers {room}"),
@@ -100,8 +101,9 @@ fn processor_words(processor: &Processor) -> String {
     )
 }
 
-/// A stage: document 01's letters, then `insert` or `delete` where a Search
-/// or Lock-seek needs it, then node and level, then the b of G4.
+/// A stage: document 01's letters, `r` in front of them for a Relaxed walk, then
+/// `insert` or `delete` where a Search or Lock-seek needs it, then node and
+/// level, then the b of G4.
 pub fn stage_words(stage: &Stage) -> String {
     match *stage {
         Stage::Idle => "idle".to_string(),
@@ -118,6 +120,8 @@ pub fn stage_words(stage: &Stage) -> String {
         Stage::W1Read(a) => format!("w1 {}", place(a)),
         Stage::W2Compare(a) => format!("w2 {}", place(a)),
         Stage::W3Mark(a) => format!("w3 {}", place(a)),
+        Stage::RW1Read(a) => format!("rw1 {}", place(a)),
+        Stage::RW3Mark(a) => format!("rw3 {}", place(a)),
         Stage::L1LockNode => "l1".to_string(),
         Stage::L2LockOwn(a) => format!("l2 {}", place(a)),
         Stage::L3Unlink(a) => format!("l3 {}", place(a)),

@@ -156,6 +156,8 @@ fn stage_code(stage: &Stage) -> (u8, Option<Place>, u8) {
         Stage::L6Unlock(a) => (24, Some(a), 0),
         Stage::L7UnlockNode => (25, None, 0),
         Stage::L8Retire => (26, None, 0),
+        Stage::RW1Read(a) => (27, Some(a), 0),
+        Stage::RW3Mark(a) => (28, Some(a), 0),
     }
 }
 
@@ -191,6 +193,8 @@ fn stage_of(tag: u8, a: Place, ahead: u8) -> Option<Stage> {
         24 => Stage::L6Unlock(a),
         25 => Stage::L7UnlockNode,
         26 => Stage::L8Retire,
+        27 => Stage::RW1Read(a),
+        28 => Stage::RW3Mark(a),
         _ => return None,
     })
 }

@@ -9,8 +9,8 @@ use crate::queue::{Queue, Refusal};
 /// How many numbers a call has, and an answer.
 pub const NUMBERS: usize = 5;
 
-/// The call of these numbers: kind 1 begins an Insert, kind 2 a Delete_Min, any
-/// other is a step.
+/// The call of these numbers: kind 1 begins an Insert, kind 2 a Delete_Min,
+/// kind 4 a Relaxed one (document 02, W3), any other is a step.
 pub fn call_of(numbers: [u32; NUMBERS]) -> Call {
     let [kind, processor, due, item, height] = numbers.map(u64::from);
     match kind {
@@ -21,6 +21,7 @@ pub fn call_of(numbers: [u32; NUMBERS]) -> Call {
             height,
         },
         2 => Call::DeleteMin { processor },
+        4 => Call::Relaxed { processor },
         _ => Call::Step { processor },
     }
 }
@@ -74,6 +75,7 @@ pub fn run_inner(queue: &mut Queue, calls: &[u32], answers: &mut [u32]) {
         match kind {
             1 => valued(queue.begin_insert_inner(processor, due, item, height)),
             2 => valued(queue.begin_delete_min_inner(processor)),
+            4 => valued(queue.begin_relaxed_inner(processor)),
             _ => stepped(queue.step_inner(processor)),
         }
     });

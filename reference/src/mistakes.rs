@@ -1,13 +1,13 @@
 //! Wrong queues: one for each mistake of document 01's "Where an implementer
-//! goes astray", two of document 02's marks, and some that name the wrong
-//! holder. Each takes the right queue and does one stage its own way; the right
-//! code knows nothing of them.
+//! goes astray", two of document 02's marks, some that name the wrong holder, and
+//! some about the Relaxed Delete_Min. Each takes the right queue and does one
+//! stage its own way; the right code knows nothing of them.
 
 use crate::answer::Answer;
 use crate::calls::{Call, Outcome};
 use crate::locks::Lock;
 use crate::queue::{named, Key, Place, Processor, Queue, Stage};
-use crate::queue::{HEAD, MAX_NUMBER, MAX_PROCESSORS, UNMARKED};
+use crate::queue::{FREE, HEAD, MAX_NUMBER, MAX_PROCESSORS, UNMARKED};
 use crate::stages::{at, holder};
 use crate::trial::Machine;
 
@@ -33,7 +33,37 @@ pub enum Mistake {
     MarkTakenOff,
     /// A wait names another than the holder (document 02, W1).
     Misnamed(Misnamed),
+    /// A Relaxed Delete_Min, or what stands beside it, goes another way
+    /// (document 02, W3).
+    Relaxed(Astray),
 }
+
+/// What goes another way by mistake.
+#[derive(Clone, Copy, PartialEq, Eq, Debug)]
+pub enum Astray {
+    /// A Relaxed Delete_Min is begun as an ordinary one, W2 and all.
+    BegunOrdinary,
+    /// RW3 passes a node by that is not stamped before the begin.
+    StampTested,
+    /// RW1 takes the head for an entry when it is led back to it.
+    HeadMarked,
+    /// RW1 leaves the next entry out where another unmarked one follows.
+    NextLeftOut,
+    /// W2 of an ordinary Delete_Min lets every node but the head pass.
+    StampNotTested,
+    /// L1 takes the node lock from whoever holds it.
+    LockTaken,
+}
+
+/// Every such mistake.
+pub const ASTRAY: [Astray; 6] = [
+    Astray::BegunOrdinary,
+    Astray::StampTested,
+    Astray::HeadMarked,
+    Astray::NextLeftOut,
+    Astray::StampNotTested,
+    Astray::LockTaken,
+];
 
 /// Whom a wait names by mistake.
 #[derive(Clone, Copy, PartialEq, Eq, Debug)]
@@ -137,20 +167,57 @@ impl Wrong {
         }
     }
 
-    /// The step of processor p, if the mistake is about marks and touches its
-    /// stage.
+    /// Where the step of processor p goes, if this mistake touches its stage.
+    fn astray(&mut self, astray: Astray, p: usize) -> Option<Stage> {
+        let Processor { stage, own, .. } = self.queue.processors[p];
+        let next = |a: Place| self.queue.after(at(a.node, 1));
+        let unmarked = |n: u8| {
+            let entry = n != HEAD && n != self.queue.tail();
+            entry && !self.queue.nodes[n as usize].is_marked()
+        };
+        match (astray, stage) {
+            (Astray::StampTested, Stage::RW3Mark(a)) if !self.stamped_early(p, a) => {
+                Some(Stage::RW1Read(a))
+            }
+            (Astray::HeadMarked, Stage::RW1Read(a)) if next(a) == HEAD => {
+                Some(Stage::RW3Mark(at(HEAD, 1)))
+            }
+            (Astray::NextLeftOut, Stage::RW1Read(a)) => {
+                let (b, c) = (next(a), next(at(next(a), 1)));
+                let leaves = unmarked(b) && unmarked(c);
+                leaves.then_some(Stage::RW3Mark(at(c, 1)))
+            }
+            (Astray::StampNotTested, Stage::W2Compare(a)) if a.node != HEAD => {
+                Some(Stage::W3Mark(a))
+            }
+            (Astray::LockTaken, Stage::L1LockNode) => {
+                // the right step then finds it free
+                self.queue.nodes[own as usize].node_lock = FREE;
+                None
+            }
+            _ => None,
+        }
+    }
+
+    /// The step of processor p, if the mistake is about marks or the Relaxed
+    /// walk and touches its stage.
     fn wrong_mark(&mut self, p: usize) -> Option<Answer> {
         let Processor { stage, own, .. } = self.queue.processors[p];
         match (self.mistake, stage) {
-            (Mistake::MarkTakenOver, Stage::W3Mark(a)) => {
+            (Mistake::MarkTakenOver, Stage::W3Mark(a) | Stage::RW3Mark(a)) => {
                 self.queue.clock += 1;
-                let answer = self.queue.walk_mark(p, a);
+                let answer = self.queue.run_stage(p);
                 self.queue.nodes[a.node as usize].mark = holder(p);
                 Some(answer)
             }
             (Mistake::MarkTakenOff, Stage::L8Retire) => {
                 self.queue.nodes[own as usize].mark = UNMARKED;
                 None
+            }
+            (Mistake::Relaxed(astray), _) => {
+                let wrong = self.astray(astray, p)?;
+                self.queue.clock += 1;
+                Some(self.queue.go(p, wrong))
             }
             _ => None,
         }
@@ -211,6 +278,13 @@ impl Wrong {
 
 impl Machine for Wrong {
     fn call(&mut self, call: &Call) -> Outcome {
+        let ordinary = Mistake::Relaxed(Astray::BegunOrdinary);
+        let call = match *call {
+            Call::Relaxed { processor } if self.mistake == ordinary => {
+                &Call::DeleteMin { processor }
+            }
+            _ => call,
+        };
         if let Call::Step { processor } = *call {
             let known = processor < u64::from(self.queue.processor_count);
             if known && self.queue.clock < MAX_NUMBER {

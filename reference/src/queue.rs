@@ -49,7 +49,8 @@ pub struct Node {
     pub level_locks: [u8; MAX_LEVELS],
     /// The holder of the node lock.
     pub node_lock: u8,
-    /// Who set the mark: the Delete_Min that takes this entry (document 02, W6).
+    /// Who set the mark: the Delete_Min, ordinary or Relaxed, that takes this
+    /// entry (document 02, W6).
     pub mark: u8,
     /// The time at which the Insert answered, or none.
     pub stamp: Option<u32>,
@@ -79,11 +80,12 @@ pub struct Place {
 pub enum Operation {
     /// An Insert.
     Insert,
-    /// A Delete_Min that has marked its node.
+    /// A Delete_Min, ordinary or Relaxed, that has marked its node.
     DeleteMin,
 }
 
-/// What the next step of a processor does. The letters are document 01's.
+/// What the next step of a processor does. The letters are document 01's; an R
+/// in front of them is for the Relaxed walk (document 02, W3).
 #[derive(Clone, Copy, PartialEq, Eq, Debug)]
 pub enum Stage {
     /// No operation.
@@ -114,6 +116,10 @@ pub enum Stage {
     W2Compare(Place),
     /// W3: set the mark.
     W3Mark(Place),
+    /// RW1: read the next node of level 1, in a Relaxed walk.
+    RW1Read(Place),
+    /// RW3: set the mark, in a Relaxed walk.
+    RW3Mark(Place),
     /// L1: take the node lock.
     L1LockNode,
     /// L2: take own lock of the level.

@@ -39,10 +39,11 @@ impl Refusals {
         let processor = match *call {
             Call::Backlog => return None,
             Call::Markers { room } => {
-                return (room < PAIR * book.entries.len()).then_some(43);
+                return (room < PAIR * book.held()).then_some(43);
             }
             Call::Insert { processor, .. } => processor,
             Call::DeleteMin { processor } => processor,
+            Call::Relaxed { processor } => processor,
             Call::Step { processor } => processor,
         };
         if book.count == MAX_NUMBER {
@@ -54,7 +55,9 @@ impl Refusals {
         let idle = book.open[processor as usize] == Open::Nothing;
         match *call {
             Call::Step { .. } if idle => Some(34),
-            Call::Insert { .. } | Call::DeleteMin { .. } if !idle => Some(33),
+            Call::Insert { .. } | Call::DeleteMin { .. } | Call::Relaxed { .. } if !idle => {
+                Some(33)
+            }
             Call::Insert {
                 due, item, height, ..
             } => self.expected_of_insert(book, due, item, height),
@@ -80,7 +83,9 @@ impl Refusals {
             Some(&retired) => {
                 let all_later = book.open.iter().all(|open| match *open {
                     Open::Nothing => true,
-                    Open::Insert(begin) | Open::DeleteMin { begin, .. } => begin > retired,
+                    Open::Insert(begin) | Open::DeleteMin { begin, .. } | Open::Relaxed(begin) => {
+                        begin > retired
+                    }
                 });
                 if all_later {
                     None

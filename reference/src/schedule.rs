@@ -1,9 +1,9 @@
 //! Random schedules: which call comes next.
 //!
 //! Processors are held back in the middle of an operation and released late,
-//! some run in bursts, dues are often equal, and calls that must be refused
-//! come in between. A schedule sees what the calls give back and never the
-//! record.
+//! some run in bursts, some are let on just until they free a lock that another
+//! waits for, dues are often equal, and calls that must be refused come in
+//! between. A schedule sees what the calls give back and never the record.
 
 use crate::answer::Answer;
 use crate::calls::{Call, Outcome};
@@ -69,12 +69,20 @@ pub struct Schedule {
     dues: u64,
     /// Of 100 begins, how many are Inserts; drawn anew from time to time.
     inserts: u64,
+    /// Of 100 begins of a Delete_Min, how many are Relaxed ones; drawn anew from
+    /// time to time, in some schedules always 0.
+    relaxed: u64,
+    /// Whether any is.
+    has_relaxed: bool,
     /// One call in so many is made to be refused.
     bad_once_in: u64,
     /// One call in so many holds a processor back.
     hold_once_in: u64,
     /// A processor that runs alone, and for how many calls more.
     burst: (u64, u64),
+    /// One that waits and the one that it waits for: they take turns alone
+    /// until the first goes on; then the second is held back.
+    pair: Option<(u64, u64)>,
     /// So many calls in vain (a wait, 37 or EMPTY) release whoever is held.
     patience: u64,
     /// Calls in vain since the last release.
@@ -96,15 +104,19 @@ impl Schedule {
         let bad_once_in = random.among(&[10, 30, 100]);
         let hold_once_in = random.among(&[10, 40, 200, 1000]);
         let patience = random.among(&[3, 10, 30, 100, 1000]);
+        let has_relaxed = !random.one_in(4);
         Schedule {
             random,
             sizes,
             made: 0,
             dues,
             inserts: 50,
+            relaxed: if has_relaxed { 50 } else { 0 },
+            has_relaxed,
             bad_once_in,
             hold_once_in,
             burst: (0, 0),
+            pair: None,
             patience,
             in_vain: 0,
             held_until: [0; MAX_PROCESSORS],
@@ -124,6 +136,7 @@ impl Schedule {
         self.made += 1;
         if self.random.one_in(200) {
             self.inserts = self.random.among(&[20, 50, 50, 60, 80]);
+            self.relaxed = self.draw_relaxed();
         }
         if self.random.one_in(self.hold_once_in) {
             let p = self.random.below(self.sizes.processors) as usize;
@@ -148,15 +161,24 @@ impl Schedule {
         }
     }
 
+    fn draw_relaxed(&mut self) -> u64 {
+        if self.has_relaxed {
+            self.random.among(&[10, 50, 50, 90, 100])
+        } else {
+            0
+        }
+    }
+
     /// Takes notice of what a call gave back.
     pub fn note(&mut self, call: &Call, outcome: &Outcome) {
         self.note_vain(outcome);
+        self.note_pair(call, outcome);
         match (*call, outcome) {
             (Call::Insert { processor, .. }, Outcome::Began(_)) => {
                 self.busy[processor as usize] = true;
                 self.held += 1;
             }
-            (Call::DeleteMin { processor }, Outcome::Began(_)) => {
+            (Call::DeleteMin { processor } | Call::Relaxed { processor }, Outcome::Began(_)) => {
                 self.busy[processor as usize] = true;
             }
             (
@@ -188,6 +210,41 @@ impl Schedule {
         }
     }
 
+    /// One wait in four makes a pair, which ends where the holder waits too.
+    fn note_pair(&mut self, call: &Call, outcome: &Outcome) {
+        let (Call::Step { processor }, Outcome::Stepped(answer)) = (*call, outcome) else {
+            return;
+        };
+        match (*answer, self.pair) {
+            (Answer::Waits { .. }, Some((_, other))) if processor == other => self.pair = None,
+            (Answer::Waits { holder }, None) if self.random.one_in(4) => {
+                let holder = u64::from(holder);
+                let known = holder < self.sizes.processors && holder != processor;
+                self.pair = known.then_some((processor, holder));
+            }
+            (Answer::Moved, Some((waiter, other))) if processor == waiter => {
+                self.pair = None;
+                self.burst = (waiter, self.random.between(20, 60));
+                self.held_until[other as usize] = self.made + self.random.among(&[20, 60, 300]);
+            }
+            _ => {}
+        }
+    }
+
+    /// Whose turn it is in a pair, as long as both are busy.
+    fn next_of_pair(&mut self) -> Option<u64> {
+        let (waiter, other) = self.pair?;
+        if !self.busy[waiter as usize] || !self.busy[other as usize] {
+            self.pair = None;
+            return None;
+        }
+        Some(if self.made.is_multiple_of(2) {
+            waiter
+        } else {
+            other
+        })
+    }
+
     /// The processors that are in an operation.
     pub fn busy(&self) -> Vec<u64> {
         (0..self.sizes.processors)
@@ -196,6 +253,9 @@ impl Schedule {
     }
 
     fn next_processor(&mut self) -> u64 {
+        if let Some(processor) = self.next_of_pair() {
+            return processor;
+        }
         if self.burst.1 > 0 {
             self.burst.1 -= 1;
             return self.burst.0;
@@ -217,6 +277,14 @@ impl Schedule {
     fn begin(&mut self, processor: u64) -> Call {
         if self.random.below(100) < self.inserts {
             self.insert(processor)
+        } else {
+            self.walk(processor)
+        }
+    }
+
+    fn walk(&mut self, processor: u64) -> Call {
+        if self.random.below(100) < self.relaxed {
+            Call::Relaxed { processor }
         } else {
             Call::DeleteMin { processor }
         }
@@ -270,9 +338,7 @@ impl Schedule {
         let item = self.random.among(&[0, 1, 1, 1]);
         match self.random.below(11) {
             0 => self.insert(stranger),
-            1 => Call::DeleteMin {
-                processor: stranger,
-            },
+            1 => self.walk(stranger),
             2 => Call::Step {
                 processor: stranger,
             },

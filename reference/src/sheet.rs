@@ -13,7 +13,7 @@ const LINE: usize = 1 + FIELDS * COLUMN + 1;
 const MOST_STEPS: u64 = 999;
 
 /// For each letter, how many of its four fields it uses; the others hold 0.
-const USED_FIELDS: [(u8, usize); 4] = [(b'Q', 3), (b'I', 4), (b'D', 1), (b'S', 2)];
+const USED_FIELDS: [(u8, usize); 5] = [(b'Q', 3), (b'I', 4), (b'D', 1), (b'L', 1), (b'S', 2)];
 
 /// A refused sheet: the number of the refusal and the line.
 #[derive(Clone, Copy, PartialEq, Eq, Debug)]
@@ -136,6 +136,10 @@ fn run_line(queue: &mut Queue, line: &Line, history: &mut Vec<u8>) {
         },
         b'D' => match queue.begin_delete_min_inner(processor) {
             Ok(time) => write_line(history, b'D', time, processor, [0, 0, 0]),
+            Err(number) => write_refusal(history, queue, processor, number),
+        },
+        b'L' => match queue.begin_relaxed_inner(processor) {
+            Ok(time) => write_line(history, b'L', time, processor, [0, 0, 0]),
             Err(number) => write_refusal(history, queue, processor, number),
         },
         _ => {

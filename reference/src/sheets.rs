@@ -141,7 +141,7 @@ pub fn sheet(seed: u64, number: u64) -> Vec<u8> {
             field_of(random, line).fill(b' ');
         }),
         Kind::WrongLetter => damaged(random, |random, line| {
-            line[0] = random.among(b"qidsARTEMX 0\n");
+            line[0] = random.among(b"qidlsARTEMX 0\n");
         }),
         Kind::UnusedField => with_line(random, unused_field),
         Kind::WrongSteps => with_line(random, wrong_steps),
@@ -202,8 +202,8 @@ fn processor(random: &mut Random, sizes: Sizes) -> u64 {
 
 fn begin_line(random: &mut Random, sizes: Sizes) -> Vec<u8> {
     let processor = processor(random, sizes);
-    if random.below(100) < 40 {
-        return line(b'D', [processor, 0, 0, 0]);
+    if random.below(100) < 45 {
+        return line(random.among(b"DL"), [processor, 0, 0, 0]);
     }
     let limit = u64::from(MAX_NUMBER);
     let mut due = random.among(&[0, 1, 2, 2, 7, limit - 1, limit]);
@@ -294,11 +294,12 @@ fn leading_zero(random: &mut Random, line: &mut [u8]) {
 
 fn unused_field(random: &mut Random) -> Vec<u8> {
     let value = random.among(&[1, 2, 10, MOST]);
+    let walk = random.among(b"DL");
     match random.below(6) {
         0 => line(b'Q', [1, 1, 1, value]),
-        1 => line(b'D', [0, value, 0, 0]),
-        2 => line(b'D', [0, 0, value, 0]),
-        3 => line(b'D', [0, 0, 0, value]),
+        1 => line(walk, [0, value, 0, 0]),
+        2 => line(walk, [0, 0, value, 0]),
+        3 => line(walk, [0, 0, 0, value]),
         4 => line(b'S', [0, 1, value, 0]),
         _ => line(b'S', [0, 1, 0, value]),
     }
@@ -314,7 +315,7 @@ fn wrong_steps(random: &mut Random) -> Vec<u8> {
 fn other_byte(random: &mut Random) -> Vec<u8> {
     let mut sheet = calls(random, 20);
     let at = random.below(sheet.len() as u64) as usize;
-    let near = b" 0123456789QIDS-+.\n\r\t";
+    let near = b" 0123456789QIDLS-+.\n\r\t";
     sheet[at] = if random.one_in(3) {
         random.below(256) as u8
     } else {
@@ -417,7 +418,7 @@ fn full_sheet(random: &mut Random, lines: usize) -> Vec<u8> {
     for _ in 1..lines {
         let p = random.below(sizes.processors);
         sheet.extend(match random.below(10) {
-            0 => line(b'D', [p, 0, 0, 0]),
+            0 => line(random.among(b"DL"), [p, 0, 0, 0]),
             1 => line(
                 b'I',
                 [p, random.below(3), 1, random.between(1, sizes.levels)],

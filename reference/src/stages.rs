@@ -50,7 +50,9 @@ impl Queue {
             }
             Stage::W1Read(a) => self.walk_read(p, a),
             Stage::W2Compare(a) => self.walk_compare(p, a),
-            Stage::W3Mark(a) => self.walk_mark(p, a),
+            Stage::W3Mark(a) => self.walk_mark(p, a, Stage::W1Read(a)),
+            Stage::RW1Read(a) => self.relaxed_read(p, a),
+            Stage::RW3Mark(a) => self.walk_mark(p, a, Stage::RW1Read(a)),
             Stage::L1LockNode => self.lock_own_node(p),
             Stage::L2LockOwn(a) => self.lock_own_level(p, a),
             Stage::L3Unlink(a) => {
@@ -154,11 +156,25 @@ impl Queue {
         }
     }
 
-    /// W3: set the mark; whoever finds it unset owns the node.
-    pub(crate) fn walk_mark(&mut self, p: usize, a: Place) -> Answer {
+    /// RW1: the tail answers EMPTY, at the head the walk reads on, any other
+    /// node is marked next, stamped or not (document 02, W3).
+    fn relaxed_read(&mut self, p: usize, a: Place) -> Answer {
+        let b = self.after(at(a.node, 1));
+        if b == self.tail() {
+            self.finish(p, Answer::Empty)
+        } else if b == HEAD {
+            self.go(p, Stage::RW1Read(at(HEAD, 1)))
+        } else {
+            self.go(p, Stage::RW3Mark(at(b, 1)))
+        }
+    }
+
+    /// W3 and RW3: set the mark; whoever finds it unset owns the node, and the
+    /// others go on at W1 or RW1.
+    fn walk_mark(&mut self, p: usize, a: Place, on: Stage) -> Answer {
         let node = &mut self.nodes[a.node as usize];
         if node.is_marked() {
-            return self.go(p, Stage::W1Read(a));
+            return self.go(p, on);
         }
         node.mark = holder(p);
         self.processors[p].own = a.node;

@@ -1,10 +1,74 @@
 //! How often each thing happened in a run, so that a test can show that it did.
 
 use crate::answer::Answer;
-use crate::calls::Outcome;
+use crate::calls::{Call, Outcome};
 use crate::markers::NOBODY;
-use crate::queue::{Processor, Queue, Stage, MAX_PROCESSORS};
+use crate::queue::{Processor, Queue, Stage, Use, FREE, HEAD, MAX_PROCESSORS};
 use crate::waits::{asked, ASKERS};
+use std::collections::BTreeSet;
+
+/// What Relaxed Delete_Mins did, and what came of it for Inserts.
+#[derive(Clone, Copy, Default, Debug)]
+pub struct Relaxed {
+    /// Those that began.
+    pub begun: u64,
+    /// Entries that they marked.
+    pub marked: u64,
+    /// Of these, entries whose Insert had not answered.
+    pub unanswered: u64,
+    /// Of these, entries whose Insert had still to link a level.
+    pub unlinked: u64,
+    /// Those that found nothing.
+    pub empty: u64,
+    /// Walks that found a mark set already (RW3).
+    pub marks_lost: u64,
+    /// Walks that were led back to an earlier node (RW1), the head too.
+    pub led_back: u64,
+    /// Of these, walks that were led back to the head and stayed at RW1.
+    pub led_to_head: u64,
+    /// Entries handed out before their Insert answered: I5 then stamps a node
+    /// that is retired.
+    pub answered_late: u64,
+    /// Nodes so stamped that were taken again.
+    pub reused: u64,
+}
+
+impl Relaxed {
+    fn add(&mut self, other: &Relaxed) {
+        self.begun += other.begun;
+        self.marked += other.marked;
+        self.unanswered += other.unanswered;
+        self.unlinked += other.unlinked;
+        self.empty += other.empty;
+        self.marks_lost += other.marks_lost;
+        self.led_back += other.led_back;
+        self.led_to_head += other.led_to_head;
+        self.answered_late += other.answered_late;
+        self.reused += other.reused;
+    }
+
+    /// Counts a step of a Relaxed walk: `was` is the stage before it, `now` the
+    /// processor after it.
+    fn count(&mut self, was: &Stage, answer: &Answer, now: &Processor, queue: &Queue) {
+        match (*was, *answer) {
+            (Stage::RW1Read(_), Answer::Empty) => self.empty += 1,
+            (Stage::RW1Read(a), Answer::Moved) => {
+                if let Stage::RW1Read(b) | Stage::RW3Mark(b) = now.stage {
+                    self.led_back += u64::from(queue.key(b.node) < queue.key(a.node));
+                    self.led_to_head += u64::from(b.node == HEAD);
+                }
+            }
+            (Stage::RW3Mark(_), Answer::Moved) => self.marks_lost += 1,
+            (Stage::RW3Mark(_), Answer::Marked(_)) => {
+                let node = &queue.nodes[now.own as usize];
+                self.marked += 1;
+                self.unanswered += u64::from(node.stamp.is_none());
+                self.unlinked += u64::from(node.node_lock != FREE);
+            }
+            _ => {}
+        }
+    }
+}
 
 /// How often each thing happened.
 #[derive(Clone, Copy, Default, Debug)]
@@ -25,6 +89,8 @@ pub struct Tally {
     pub handed: u64,
     /// Delete_Mins that found nothing.
     pub empty: u64,
+    /// What Relaxed Delete_Mins did (document 02, W3).
+    pub relaxed: Relaxed,
     /// Backlog calls.
     pub backlogs: u64,
     /// Markers calls.
@@ -61,6 +127,7 @@ impl Tally {
         self.marked += other.marked;
         self.handed += other.handed;
         self.empty += other.empty;
+        self.relaxed.add(&other.relaxed);
         self.backlogs += other.backlogs;
         self.listings += other.listings;
         self.markers += other.markers;
@@ -100,6 +167,8 @@ impl Tally {
     /// Counts what seldom happens: `was` is the processor before the step,
     /// `queue` the record after it.
     pub(crate) fn count_rare(&mut self, was: &Processor, p: u64, answer: &Answer, queue: &Queue) {
+        let now = &queue.processors[p as usize];
+        self.relaxed.count(&was.stage, answer, now, queue);
         match (was.stage, *answer) {
             (Stage::G4Unlock(..), _) => self.moved_on += 1,
             (Stage::W3Mark(_), Answer::Moved) => self.marks_lost += 1,
@@ -112,10 +181,37 @@ impl Tally {
                 }
             }
             (Stage::W1Read(a), Answer::Moved) => {
-                if let Stage::W2Compare(b) = queue.processors[p as usize].stage {
+                if let Stage::W2Compare(b) = now.stage {
                     if queue.key(b.node) < queue.key(a.node) {
                         self.led_back += 1;
                     }
+                }
+            }
+            _ => {}
+        }
+    }
+
+    /// Counts nodes whose entry is handed out before its Insert answers: `was`
+    /// is the processor before the call, `late` the nodes that are stamped so
+    /// and not taken again since, `queue` the record after the call.
+    pub(crate) fn count_late(
+        &mut self,
+        was: &Processor,
+        call: &Call,
+        outcome: &Outcome,
+        late: &mut BTreeSet<u8>,
+        queue: &Queue,
+    ) {
+        match (*call, outcome) {
+            (Call::Relaxed { .. }, Outcome::Began(_)) => self.relaxed.begun += 1,
+            (Call::Insert { processor, .. }, Outcome::Began(_)) => {
+                let taken = queue.processors[processor as usize].own;
+                self.relaxed.reused += u64::from(late.remove(&taken));
+            }
+            (Call::Step { .. }, Outcome::Stepped(Answer::Inserted(_))) => {
+                if let Use::Retired(_) = queue.nodes[was.own as usize].state {
+                    self.relaxed.answered_late += 1;
+                    late.insert(was.own);
                 }
             }
             _ => {}

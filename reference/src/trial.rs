@@ -10,6 +10,7 @@ use crate::refusals::Refusals;
 use crate::schedule::{Schedule, Sizes};
 use crate::tally::Tally;
 use crate::waits::Watch;
+use std::collections::BTreeSet;
 
 /// Something that takes calls: the queue, or a wrong one.
 pub trait Machine {
@@ -58,6 +59,9 @@ pub struct Trial<M: Machine> {
     pub calls: Vec<Call>,
     schedule: Schedule,
     refusals: Refusals,
+    /// The nodes that were stamped after they had been retired, and not taken
+    /// again since.
+    late: BTreeSet<u8>,
     seed: u64,
     sizes: Sizes,
 }
@@ -85,6 +89,7 @@ impl<M: Machine> Trial<M> {
             calls: Vec::new(),
             schedule: Schedule::new(seed, sizes),
             refusals: Refusals::new(sizes),
+            late: BTreeSet::new(),
             seed,
             sizes,
         }
@@ -156,9 +161,11 @@ impl<M: Machine> Trial<M> {
         self.schedule.note(call, &outcome);
         self.ghost
             .follow(&was, call, &outcome, self.machine.queue());
+        let queue = self.machine.queue();
+        self.tally
+            .count_late(&was, call, &outcome, &mut self.late, queue);
         if let (Call::Step { processor }, Outcome::Stepped(answer)) = (*call, &outcome) {
-            self.tally
-                .count_rare(&was, processor, answer, self.machine.queue());
+            self.tally.count_rare(&was, processor, answer, queue);
         }
         outcome
     }
@@ -220,7 +227,7 @@ impl<M: Machine> Trial<M> {
         if count != self.book.pending() {
             return Err(self.failure(format!("the backlog would be {count}")));
         }
-        if used as usize != self.book.entries.len() {
+        if used as usize != self.book.held() {
             return Err(self.failure(format!("{used} nodes are in use")));
         }
         self.tally.fewer_than_in_use += u64::from(count < used);
@@ -230,7 +237,7 @@ impl<M: Machine> Trial<M> {
     /// Markers would give what the book asks for, whether it is called here or
     /// not: with just enough room, with a byte more, and with a byte less.
     fn check_markers(&mut self) -> Result<(), Failure> {
-        let enough = PAIR * self.book.entries.len();
+        let enough = PAIR * self.book.held();
         let more = (self.tally.calls % 2) as usize;
         match self.machine.queue().listing(enough + more) {
             Err(number) => return Err(self.failure(format!("markers are refused with {number}"))),

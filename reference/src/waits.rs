@@ -12,7 +12,7 @@ use crate::queue::{named, Operation, Place, Processor, Queue, Stage};
 pub enum Asker {
     /// G2 of an Insert.
     InsertG2,
-    /// G2 of a Delete_Min.
+    /// G2 of a Delete_Min, ordinary or Relaxed.
     RemovalG2,
     /// L1.
     L1,

@@ -22,8 +22,9 @@ fn any_room(random: &mut Random, queue: &Queue) -> usize {
 
 fn any_call(random: &mut Random, queue: &Queue) -> Call {
     let processor = random.below(u64::from(queue.processor_count) + 1);
-    match random.below(9) {
+    match random.below(14) {
         0 => Call::Backlog,
+        9 => Call::Relaxed { processor },
         8 => Call::Markers {
             room: any_room(random, queue),
         },
@@ -72,7 +73,7 @@ fn check_call(before: &Queue, call: &Call, outcome: &Outcome, after: &Queue) {
             return;
         }
         (Call::Insert { processor, .. }, _) => processor,
-        (Call::DeleteMin { processor }, _) => processor,
+        (Call::DeleteMin { processor } | Call::Relaxed { processor }, _) => processor,
         (Call::Step { processor }, _) => processor,
     };
     assert_eq!(after.clock, before.clock + 1);
@@ -116,7 +117,7 @@ fn check_marks(before: &Queue, call: &Call, outcome: &Outcome, after: &Queue) {
 fn every_call_keeps_check_21_on_any_record() {
     let mut random = Random::new(5);
     let mut steps: HashMap<Discriminant<Stage>, u64> = HashMap::new();
-    let (mut taken, mut waits) = ([0u64; 3], Waits::default());
+    let (mut taken, mut waits) = ([0u64; 4], Waits::default());
     let mut refusals: HashMap<u32, u64> = HashMap::new();
     for _ in 0..RECORDS {
         let mut queue = any_record(&mut random);
@@ -135,6 +136,7 @@ fn every_call_keeps_check_21_on_any_record() {
                 }
                 (Call::Insert { .. }, Outcome::Began(_)) => taken[0] += 1,
                 (Call::DeleteMin { .. }, Outcome::Began(_)) => taken[1] += 1,
+                (Call::Relaxed { .. }, Outcome::Began(_)) => taken[3] += 1,
                 (Call::Markers { .. }, Outcome::Listed(listing)) => {
                     check_listing(&before, &listing);
                     taken[2] += 1;
@@ -144,7 +146,7 @@ fn every_call_keeps_check_21_on_any_record() {
             }
         }
     }
-    assert_eq!(steps.len(), 21, "some stage never stepped");
+    assert_eq!(steps.len(), 23, "some stage never stepped");
     assert!(steps.values().all(|&count| count > 1000), "{steps:?}");
     assert!(taken.iter().all(|&count| count > 1000), "{taken:?}");
     for number in [31, 32, 33, 34, 35, 36, 37, 39, 43] {
@@ -207,27 +209,79 @@ fn check_listing(queue: &Queue, listing: &Listing) {
     assert!(listing.leaves_the_rest(), "written past the nodes");
 }
 
-/// The walk reads level 1 whatever level its place holds.
+/// The walk, ordinary or Relaxed, reads level 1 whatever level its place holds.
 #[test]
 fn the_walk_reads_level_1_whatever_its_place_says() {
     let mut random = Random::new(6);
-    let mut seen = 0;
-    while seen < 2000 {
+    let mut seen = [0, 0];
+    while seen.iter().any(|&count| count < 2000) {
         let queue = any_record(&mut random);
-        let Stage::W1Read(mut place) = queue.processors[0].stage else {
-            continue;
-        };
         if queue.clock == MAX_NUMBER {
             continue;
         }
         let mut first = queue.clone();
         let mut second = queue.clone();
-        place.level = 1;
-        second.processors[0].stage = Stage::W1Read(place);
+        match &mut second.processors[0].stage {
+            Stage::W1Read(place) => {
+                place.level = 1;
+                seen[0] += 1;
+            }
+            Stage::RW1Read(place) => {
+                place.level = 1;
+                seen[1] += 1;
+            }
+            _ => continue,
+        }
         assert_eq!(first.step(0), second.step(0));
         assert!(first == second);
-        seen += 1;
     }
+}
+
+/// A Relaxed walk with the stages of an ordinary one in place of its own.
+fn ordinary(queue: &Queue) -> Queue {
+    let mut other = queue.clone();
+    let stage = &mut other.processors[0].stage;
+    *stage = match *stage {
+        Stage::RW1Read(a) => Stage::W1Read(a),
+        Stage::RW3Mark(a) => Stage::W3Mark(a),
+        unchanged => unchanged,
+    };
+    other
+}
+
+/// A Relaxed walk does what an ordinary one does in its place, but where it reads
+/// a node that is not the tail: there it stands at that node's W3, or at W1 of
+/// the head, and the ordinary one at its W2.
+#[test]
+fn a_relaxed_walk_goes_as_an_ordinary_one_but_for_w2() {
+    let mut random = Random::new(10);
+    let (mut same, mut at_w3, mut at_head) = (0, 0, 0);
+    for _ in 0..RECORDS {
+        let mut relaxed = any_record(&mut random);
+        let walks = matches!(
+            relaxed.processors[0].stage,
+            Stage::RW1Read(_) | Stage::RW3Mark(_)
+        );
+        if !walks {
+            continue;
+        }
+        let mut other = ordinary(&relaxed);
+        assert_eq!(relaxed.step(0), other.step(0));
+        if let Stage::W2Compare(b) = other.processors[0].stage {
+            let head = b.node == 0;
+            other.processors[0].stage = if head {
+                Stage::W1Read(b)
+            } else {
+                Stage::W3Mark(b)
+            };
+            (at_w3, at_head) = (at_w3 + u64::from(!head), at_head + u64::from(head));
+        } else {
+            same += 1;
+        }
+        assert!(ordinary(&relaxed) == other);
+    }
+    println!("{same} as the ordinary one, {at_w3} at W3, {at_head} at the head");
+    assert!(same > 1000 && at_w3 > 1000 && at_head > 300);
 }
 
 /// The same record with another item in place of each.

@@ -2,12 +2,13 @@
 //! should, and a wrong refusal is noticed.
 
 use darthog_reference::answer::{Answer, Entry};
-use darthog_reference::book::{Book, Fault};
+use darthog_reference::book::{Book, Fault, Open, Written};
 use darthog_reference::calls::{Call, Outcome};
 use darthog_reference::markers::Listing;
-use darthog_reference::mistakes::{Mistake, Wrong};
+use darthog_reference::mistakes::{Astray, Mistake, Wrong};
+use darthog_reference::random::Random;
 use darthog_reference::schedule::Sizes;
-use darthog_reference::trial::{fresh_of, Trial};
+use darthog_reference::trial::{fresh_of, Machine, Trial};
 
 const FIRST: Entry = Entry {
     due: 9,
@@ -32,6 +33,10 @@ fn insert(processor: u64, entry: Entry) -> (Call, Outcome) {
 
 fn delete(processor: u64, time: u32) -> (Call, Outcome) {
     (Call::DeleteMin { processor }, Outcome::Began(time))
+}
+
+fn relaxed(processor: u64, time: u32) -> (Call, Outcome) {
+    (Call::Relaxed { processor }, Outcome::Began(time))
 }
 
 fn step(processor: u64, answer: Answer) -> (Call, Outcome) {
@@ -310,4 +315,251 @@ fn a_refusal_left_out_is_noticed() {
         failure.fault.contains("refusal Some(37) was due"),
         "{failure:?}"
     );
+}
+
+const MARKED_BEFORE: &str = "marked, but it was marked before";
+const NOT_WRITTEN: &str = "marked, but no such entry is written";
+const EARLIER: &str = "marked, but an entry answered before the begin is earlier";
+const LEFT: &str = "EMPTY, but an entry answered before the begin is left";
+
+/// Two entries answered at 2 and 4; then the begins and answers of a Relaxed
+/// Delete_Min of 0 that begins at 5.
+fn after_relaxed(more: &[(Call, Outcome)]) -> Result<Book, Fault> {
+    let mut list = two_entries();
+    list.pop();
+    list.push(relaxed(0, 5));
+    list.extend_from_slice(more);
+    enter(&list)
+}
+
+#[test]
+fn right_answers_of_a_relaxed_one_are_entered() {
+    let book = after_relaxed(&[
+        step(0, Answer::Moved),
+        step(0, Answer::Marked(FIRST)),
+        relaxed(1, 8),
+        step(1, Answer::Marked(SECOND)),
+        step(0, Answer::Waits { holder: 1 }),
+        step(1, Answer::HandedOut(SECOND)),
+        relaxed(1, 12),
+        step(1, Answer::Empty),
+        step(0, Answer::HandedOut(FIRST)),
+    ])
+    .expect("all answers are right");
+    assert_eq!((book.count, book.entries.len()), (14, 0));
+}
+
+#[test]
+fn wrong_answers_of_a_relaxed_one_are_noticed() {
+    let fault = |answers: &[Answer]| {
+        let steps: Vec<_> = answers.iter().map(|&answer| step(0, answer)).collect();
+        after_relaxed(&steps).unwrap_err()
+    };
+    let (other, unknown) = (Entry { item: 7, ..FIRST }, Entry { ticket: 2, ..FIRST });
+    let (first, later_due) = (Answer::Marked(FIRST), Entry { due: 10, ..FIRST });
+    assert_eq!(fault(&[Answer::Marked(SECOND)]), EARLIER);
+    assert_eq!(fault(&[Answer::Marked(other)]), NOT_WRITTEN);
+    assert_eq!(fault(&[Answer::Marked(later_due)]), NOT_WRITTEN);
+    assert_eq!(fault(&[Answer::Marked(unknown)]), NOT_WRITTEN);
+    assert_eq!(fault(&[Answer::Empty]), LEFT);
+    assert!(fault(&[Answer::HandedOut(FIRST)]).contains("no Delete_Min is open that marked"));
+    assert!(fault(&[Answer::Inserted(FIRST)]).contains("no Insert is open"));
+    assert!(fault(&[first, first]).contains("nothing marked"));
+    assert!(fault(&[first, Answer::Empty]).contains("nothing marked"));
+    let not_marked = "handed out, but not the entry that was marked";
+    assert_eq!(fault(&[first, Answer::HandedOut(SECOND)]), not_marked);
+    let busy = after_relaxed(&[relaxed(0, 6)]);
+    assert!(busy.unwrap_err().contains("something is open"));
+    let time = after_relaxed(&[relaxed(1, 7)]);
+    assert!(time.unwrap_err().contains("another time"));
+    let mixed = enter(&[(Call::Relaxed { processor: 0 }, Outcome::Count(0))]);
+    assert!(mixed.unwrap_err().contains("cannot give this back"));
+}
+
+/// What one has marked another may not mark, whichever kind either is of; it
+/// stands in nobody's way either.
+#[test]
+fn marks_of_both_kinds_count_as_earlier_marks() {
+    type Begin = fn(u64, u32) -> (Call, Outcome);
+    let kinds: [[Begin; 2]; 3] = [[delete, relaxed], [relaxed, delete], [relaxed, relaxed]];
+    for [first, second] in kinds {
+        let then = |answer: Answer| {
+            let mut list = two_entries();
+            list.pop();
+            list.extend([first(0, 5), step(0, Answer::Marked(FIRST)), second(1, 7)]);
+            list.push(step(1, answer));
+            enter(&list).err()
+        };
+        let again = then(Answer::Marked(FIRST)).expect("it is marked");
+        assert!([MARKED_BEFORE, "marked, but not the pick"].contains(&again));
+        assert_eq!(then(Answer::Marked(SECOND)), None);
+        let empty = then(Answer::Empty).expect("the second is left");
+        assert!([LEFT, "EMPTY, but there is a pick"].contains(&empty));
+    }
+}
+
+/// 0 has answered the second entry alone; 1, with an earlier due minute, has not.
+/// 2 may mark either one in a Relaxed Delete_Min, and the answered one alone in
+/// an ordinary one.
+#[test]
+fn a_relaxed_one_may_mark_what_is_not_answered() {
+    let early = Entry {
+        due: 8,
+        item: 3,
+        ticket: 3,
+    };
+    let late = Entry { due: 10, ..early };
+    let fault = |begin: (Call, Outcome), unanswered: Entry, answer: Answer| {
+        let list = [
+            insert(0, FIRST),
+            step(0, Answer::Inserted(FIRST)),
+            insert(1, unanswered),
+            begin,
+            step(2, answer),
+        ];
+        enter(&list).err()
+    };
+    let begin = relaxed(2, 4);
+    assert_eq!(fault(begin.clone(), early, Answer::Marked(early)), None);
+    assert_eq!(fault(begin.clone(), early, Answer::Marked(FIRST)), None);
+    assert_eq!(fault(begin.clone(), late, Answer::Marked(FIRST)), None);
+    let passed_over = fault(begin.clone(), late, Answer::Marked(late));
+    assert_eq!(passed_over, Some(EARLIER));
+    assert_eq!(fault(begin, early, Answer::Empty), Some(LEFT));
+    for unanswered in [early, late] {
+        let begin = delete(2, 4);
+        let pick = fault(begin.clone(), unanswered, Answer::Marked(unanswered));
+        assert_eq!(pick, Some("marked, but not the pick"));
+        assert_eq!(fault(begin, unanswered, Answer::Marked(FIRST)), None);
+    }
+}
+
+/// An entry answered at or after the begin stands in nobody's way, and is left
+/// where EMPTY is answered.
+#[test]
+fn an_entry_answered_after_a_relaxed_begin_may_be_left() {
+    for answer in [Answer::Empty, Answer::Marked(FIRST)] {
+        let book = enter(&[
+            insert(0, FIRST),
+            relaxed(1, 2),
+            step(0, Answer::Inserted(FIRST)),
+            step(1, answer),
+        ]);
+        assert!(book.is_ok(), "{answer:?}");
+    }
+    let later = Entry {
+        due: 10,
+        item: 2,
+        ticket: 2,
+    };
+    let book = enter(&[
+        insert(0, FIRST),
+        insert(1, later),
+        relaxed(2, 3),
+        step(0, Answer::Inserted(FIRST)),
+        step(2, Answer::Marked(later)),
+    ]);
+    assert!(book.is_ok(), "FIRST was answered after the begin");
+}
+
+/// An entry that is handed out before its Insert answers: the answer gives it, is
+/// given once, and neither counts as backlog nor comes up again.
+#[test]
+fn an_insert_may_answer_after_the_hand_out() {
+    let handed = [
+        insert(0, FIRST),
+        relaxed(1, 2),
+        step(1, Answer::Marked(FIRST)),
+        step(1, Answer::HandedOut(FIRST)),
+    ];
+    let then = |more: &[(Call, Outcome)]| enter(&[&handed[..], more].concat());
+    let open = then(&[]).expect("all answers are right");
+    let written = Written {
+        entry: FIRST,
+        answered: None,
+        marked: true,
+        handed_out: true,
+    };
+    assert_eq!((open.entries.as_slice(), open.held()), (&[written][..], 0));
+    assert_eq!(open.open[0], Open::Insert(1));
+    let none = listed(0, &[]);
+    let zero = (Call::Backlog, Outcome::Count(0));
+    let answered = step(0, Answer::Inserted(FIRST));
+    let more = [none.clone(), zero.clone(), answered.clone(), none, zero];
+    let book = then(&more).expect("all answers are right");
+    assert_eq!((book.entries.len(), book.pending()), (0, 0));
+    let other = then(&[step(0, Answer::Inserted(SECOND))]);
+    assert!(other.unwrap_err().contains("not the entry of this Insert"));
+    let twice = then(&[answered.clone(), answered.clone()]);
+    assert!(twice.unwrap_err().contains("nothing is open"));
+    for begin in [relaxed(1, 5), delete(1, 5)] {
+        let again = then(&[begin.clone(), step(1, Answer::Marked(FIRST))]);
+        assert!(again.is_err(), "{begin:?}");
+        let empty = then(&[begin, answered.clone(), step(1, Answer::Empty)]);
+        assert!(empty.is_ok());
+    }
+    let told = then(&[listed(1, &[1, 255])]);
+    assert_eq!(told.unwrap_err(), OTHER_NUMBER);
+}
+
+/// A wrong book: what a Relaxed Delete_Min marks need not come before what was
+/// answered.
+#[derive(Clone)]
+struct Lax(Book);
+
+impl Lax {
+    fn enter(&mut self, call: &Call, outcome: &Outcome) -> Result<(), Fault> {
+        let before = self.0.clone();
+        match self.0.enter(call, outcome) {
+            Err(EARLIER) => {}
+            other => return other,
+        }
+        self.0 = before;
+        let (Call::Step { processor }, Outcome::Stepped(Answer::Marked(entry))) = (*call, outcome)
+        else {
+            panic!("only a mark is refused so");
+        };
+        let Open::Relaxed(begin) = self.0.open[processor as usize] else {
+            panic!("only a Relaxed one is refused so");
+        };
+        let i = self.0.find(entry.ticket).expect("it is written");
+        self.0.entries[i].marked = true;
+        self.0.count += 1;
+        let marked = Some(entry.ticket);
+        self.0.open[processor as usize] = Open::DeleteMin { begin, marked };
+        Ok(())
+    }
+}
+
+/// By the wrong book a Relaxed walk may leave entries out; the right one refuses
+/// that: on a list by hand, and in runs of a queue that does so.
+#[test]
+fn a_book_that_lets_a_relaxed_one_leave_entries_out_is_wrong() {
+    let mut list = two_entries();
+    list.pop();
+    list.extend([relaxed(0, 5), step(0, Answer::Marked(SECOND))]);
+    let mut lax = Lax(Book::new());
+    let taken = list
+        .iter()
+        .try_for_each(|(call, outcome)| lax.enter(call, outcome));
+    assert_eq!((taken, enter(&list).err()), (Ok(()), Some(EARLIER)));
+
+    let (mut random, mut both, mut right_alone) = (Random::new(11), 0, 0);
+    for _ in 0..200 {
+        let sizes = Sizes::small(&mut random);
+        let mut wrong = Wrong::new(fresh_of(sizes), Mistake::Relaxed(Astray::NextLeftOut));
+        let mut trial = Trial::new(wrong.clone(), random.draw(), sizes);
+        let Err(_) = trial.play_by_book(1000) else {
+            continue;
+        };
+        let mut lax = Lax(Book::new());
+        let taken = trial.calls.iter().try_for_each(|call| {
+            let outcome = wrong.call(call);
+            lax.enter(call, &outcome)
+        });
+        both += u64::from(taken.is_err());
+        right_alone += u64::from(taken.is_ok());
+    }
+    println!("the right book alone noticed {right_alone} runs, both {both}");
+    assert!(right_alone > 20, "{right_alone} {both}");
 }

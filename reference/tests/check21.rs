@@ -28,6 +28,7 @@ fn each_field_out_of_range_is_refused_with_21() {
             }
             assert_eq!(queue.step(0), Err(21));
             assert_eq!(queue.begin_delete_min(0), Err(21));
+            assert_eq!(queue.begin_relaxed(0), Err(21));
             assert_eq!(queue.begin_insert(0, 0, 1, 1), Err(21));
             assert!(queue == before, "{}", change.name);
             count += 1;

@@ -4,7 +4,7 @@
 use darthog_reference::answer::{Answer, Entry};
 use darthog_reference::calls::{Call, Outcome};
 use darthog_reference::compare::{compare, Counts, Ended};
-use darthog_reference::mistakes::{Mistake, Wrong};
+use darthog_reference::mistakes::{Astray, Mistake, Wrong};
 use darthog_reference::program::{printed, Printed, AREA};
 use darthog_reference::queue::{fresh, Queue};
 use darthog_reference::sheet;
@@ -36,7 +36,7 @@ fn every_kind_occurs_in_the_sheets() {
     println!("{counts}");
     assert_eq!(counts.sheets, SHEETS);
     assert_eq!(counts.missing(), Vec::<String>::new());
-    assert_eq!(Counts::default().missing().len(), 26);
+    assert_eq!(Counts::default().missing().len(), 27);
 }
 
 /// The lines of a sheet, changed one by one.
@@ -107,6 +107,9 @@ fn a_program_that_takes_an_unused_field_is_found() {
         (b'D', 1),
         (b'D', 2),
         (b'D', 3),
+        (b'L', 1),
+        (b'L', 2),
+        (b'L', 3),
         (b'S', 2),
         (b'S', 3),
     ] {
@@ -176,6 +179,7 @@ fn history(machine: &mut dyn Machine, lines: &[u8]) -> Vec<u8> {
                 height: field(3),
             },
             b'D' => Call::DeleteMin { processor },
+            b'L' => Call::Relaxed { processor },
             _ => Call::Step { processor },
         };
         let times = if line[0] == b'S' { field(1) } else { 1 };
@@ -204,6 +208,7 @@ fn event(call: &Call, outcome: &Outcome) -> Option<(char, [u64; 3])> {
                 due, item, height, ..
             },
         ) => Some(('I', [due, item, height])),
+        (Outcome::Began(_), Call::Relaxed { .. }) => Some(('L', [0, 0, 0])),
         (Outcome::Began(_), _) => Some(('D', [0, 0, 0])),
         (Outcome::Stepped(Answer::Empty), _) => Some(('E', [0, 0, 0])),
         (Outcome::Stepped(Answer::Marked(e)), _) => Some(('M', values(e))),
@@ -240,6 +245,12 @@ fn a_program_whose_queue_is_mistaken_is_found() {
         Mistake::ForwardLeft,
         Mistake::HeadMarked,
         Mistake::ReuseAtOnce,
+        Mistake::Relaxed(Astray::BegunOrdinary),
+        Mistake::Relaxed(Astray::StampTested),
+        Mistake::Relaxed(Astray::HeadMarked),
+        Mistake::Relaxed(Astray::NextLeftOut),
+        Mistake::Relaxed(Astray::StampNotTested),
+        Mistake::Relaxed(Astray::LockTaken),
     ];
     let numbers: Vec<Option<u64>> = mistakes
         .iter()

@@ -271,3 +271,111 @@ fn a_mark_of_another_than_the_remover_breaks_one_conjunct() {
     delete.finish(0);
     assert_eq!(delete.queue.nodes[2].mark, 1);
 }
+
+/// A Relaxed walk stands at one of two settled entries.
+#[test]
+fn relaxed_walks_broken_one_conjunct_at_a_time() {
+    let mut walk = settled();
+    walk.call(Call::Relaxed { processor: 0 });
+    let begin = walk.queue.clock;
+    let (second, third) = (Place { node: 2, level: 1 }, Place { node: 3, level: 1 });
+    let stage = |s: &mut State, stage: Stage| s.queue.processors[0].stage = stage;
+    assert_eq!(
+        broken_by(&walk, |s| stage(s, Stage::RW1Read(second))),
+        ["WalkW1"]
+    );
+    walk.step_to(0, |stage| matches!(stage, Stage::RW3Mark(_)));
+    assert_eq!(walk.queue.processors[0].stage, Stage::RW3Mark(second));
+    assert_eq!(
+        broken_by(&walk, |s| stage(s, Stage::RW3Mark(third))),
+        ["WalkW3"]
+    );
+    assert_eq!(
+        broken_by(&walk, |s| stage(s, Stage::W3Mark(second))),
+        ["BookOpen"]
+    );
+    assert_eq!(
+        broken_by(&walk, |s| s.book.open[0] = Open::Relaxed(begin - 1)),
+        ["BookOpen"]
+    );
+    let marked = None;
+    assert_eq!(
+        broken_by(&walk, |s| s.book.open[0] =
+            Open::DeleteMin { begin, marked }),
+        ["BookOpen"]
+    );
+}
+
+/// No stamp is asked for at RW3, as it is at W3.
+#[test]
+fn an_unanswered_entry_breaks_an_ordinary_walk_alone() {
+    let mut unanswered = State::new();
+    unanswered.begin_insert(1, 10, 1);
+    unanswered.step_to(1, |stage| *stage == Stage::I5Stamp);
+    unanswered.call(Call::Relaxed { processor: 0 });
+    unanswered.step_to(0, |stage| matches!(stage, Stage::RW3Mark(_)));
+    let first = Place { node: 1, level: 1 };
+    let (begin, marked) = (unanswered.queue.clock - 1, None);
+    let ordinary = |s: &mut State| {
+        s.book.open[0] = Open::DeleteMin { begin, marked };
+        s.queue.processors[0].stage = Stage::W3Mark(first);
+    };
+    assert_eq!(broken_by(&unanswered, ordinary), ["W3Stamp"]);
+}
+
+/// Processor 1 removes what processor 0 has not answered.
+#[test]
+fn what_an_insert_and_its_remover_share_broken_one_conjunct_at_a_time() {
+    let mut shared = State::new();
+    shared.begin_insert(0, 5, 1);
+    shared.step_to(0, |stage| *stage == Stage::I4UnlockNode);
+    shared.call(Call::Relaxed { processor: 1 });
+    shared.step_to(1, |stage| *stage == Stage::L1LockNode);
+    assert_eq!(
+        broken_by(&shared, |s| s.queue.nodes[1].node_lock = 0),
+        ["HoldsNode"]
+    );
+    assert_eq!(
+        broken_by(&shared, |s| s.queue.nodes[1].node_lock = 2),
+        ["HoldsNode", "NodeLockHeld"]
+    );
+    shared.step_to(0, |stage| *stage == Stage::I5Stamp);
+    shared.step_to(1, |stage| *stage == Stage::L8Retire);
+    let before = |s: &mut State| s.queue.processors[0].stage = Stage::I4UnlockNode;
+    let broken = broken_by(&shared, before);
+    assert_eq!(broken, ["InsM", "HiInsert", "L8InsertAtI5", "HoldsNode"]);
+}
+
+/// Processor 1 has handed out what processor 0 has not answered.
+#[test]
+fn a_retired_node_of_an_insert_broken_one_conjunct_at_a_time() {
+    let mut retired = State::new();
+    retired.begin_insert(0, 5, 1);
+    retired.step_to(0, |stage| *stage == Stage::I5Stamp);
+    retired.call(Call::Relaxed { processor: 1 });
+    retired.finish(1);
+    retired.call(Call::Relaxed { processor: 1 });
+    let now = retired.queue.clock;
+    type Change = fn(&mut State);
+    let changes: [(&str, Change); 6] = [
+        ("BookRetired", |s| s.book.entries.clear()),
+        ("BookRetired", |s| s.book.entries[0].marked = false),
+        ("BookRetired", |s| s.book.entries[0].answered = Some(1)),
+        ("BookRetired", |s| s.book.entries[0].entry.item += 1),
+        ("BookRetired", |s| s.queue.nodes[1].due += 1),
+        ("InsStamp", |s| s.queue.nodes[1].stamp = Some(1)),
+    ];
+    for (name, change) in changes {
+        assert_eq!(broken_by(&retired, change), [name]);
+    }
+    assert_eq!(
+        broken_by(&retired, |s| s.queue.processors[0].begin = now),
+        ["OwnUse"]
+    );
+    assert_eq!(
+        broken_by(&retired, |s| s.book.entries[0].handed_out = false),
+        ["BookEntries", "BookRetired"]
+    );
+    retired.finish(0);
+    assert!(retired.book.entries.is_empty());
+}

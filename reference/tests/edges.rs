@@ -150,6 +150,7 @@ fn run_6_processors_that_are_not_there_or_idle() {
     assert_eq!(queue.step(2), Err(32));
     assert_eq!(queue.begin_insert(2, 0, 1, 1), Err(32));
     assert_eq!(queue.begin_delete_min(2), Err(32));
+    assert_eq!(queue.begin_relaxed(2), Err(32));
     assert_eq!(queue.step(u64::MAX), Err(32));
     assert_eq!(queue.step(0), Err(34));
     assert_eq!(queue, before);
@@ -162,6 +163,7 @@ fn refusals_come_in_their_order() {
     let before = queue.clone();
     assert_eq!(queue.begin_insert(0, 1_000_000, 0, 0), Err(33));
     assert_eq!(queue.begin_delete_min(0), Err(33));
+    assert_eq!(queue.begin_relaxed(0), Err(33));
     assert_eq!(queue.begin_insert(1, 1_000_000, 0, 0), Err(35));
     assert_eq!(queue.begin_insert(1, 0, 1_000_000, 0), Err(35));
     assert_eq!(queue.begin_insert(1, 0, 0, 0), Err(39));
@@ -173,6 +175,7 @@ fn refusals_come_in_their_order() {
     queue.clock = 999_999;
     assert_eq!(queue.begin_insert(2, 1_000_000, 0, 0), Err(31));
     assert_eq!(queue.begin_delete_min(2), Err(31));
+    assert_eq!(queue.begin_relaxed(2), Err(31));
     assert_eq!(queue.step(2), Err(31));
     assert_eq!(queue.backlog(), Ok(0));
     let mut area = [9; 3];
@@ -182,6 +185,7 @@ fn refusals_come_in_their_order() {
     assert_eq!(area, [1, 255, 9]);
     queue.clock = 1_000_000;
     assert_eq!(queue.begin_insert(2, 1_000_000, 0, 0), Err(21));
+    assert_eq!(queue.begin_relaxed(2), Err(21));
     assert_eq!(queue.backlog(), Err(21));
     assert_eq!(queue.markers(&mut area[..1]), Err(21));
     assert_eq!(queue.markers(&mut area), Err(21));

@@ -99,6 +99,20 @@ fn the_pieces_stand_where_stated() {
     }
 }
 
+#[test]
+fn a_relaxed_begin_leaves_the_stated_bytes() {
+    for (sizes, changed) in images::BEGUN_RELAXED {
+        let [p, n, l] = sizes.map(u64::from);
+        let mut queue = fresh(p, n, l).unwrap();
+        let mut expected = encode(&queue);
+        for (at, byte) in changed {
+            expected[at] = byte;
+        }
+        assert_eq!(queue.begin_relaxed(p - 1), Ok(1));
+        assert!(encode(&queue) == expected, "{sizes:?}");
+    }
+}
+
 /// Whether the bytes are the image of a record that passes check 21.
 fn taken(bytes: &[u8]) -> bool {
     decode(bytes).is_some_and(|mut queue| queue.call(&Call::Backlog) != Outcome::Refused(21))
@@ -111,6 +125,12 @@ fn bytes_are_taken_and_refused_as_stated() {
         let mut bytes = encode(&fresh(p, n, l).unwrap());
         bytes[at] = byte;
         assert_eq!(taken(&bytes), expected, "{sizes:?}: byte {at} is {byte}");
+    }
+    for (sizes, at, stage, expected) in images::STAGES {
+        let [p, n, l] = sizes.map(u64::from);
+        let mut bytes = encode(&fresh(p, n, l).unwrap());
+        bytes[at..at + 4].copy_from_slice(&stage);
+        assert_eq!(taken(&bytes), expected, "{sizes:?}: {stage:?}");
     }
     for (what, length, bytes) in images::refused() {
         assert_eq!(bytes.len(), length, "{what}");
@@ -157,7 +177,8 @@ fn every_stage_has_its_own_tag() {
     let mut tags: Vec<u8> = stages.iter().map(|stage| tag_of(*stage)).collect();
     tags.sort_unstable();
     tags.dedup();
-    assert_eq!(tags, (0..=26).collect::<Vec<u8>>());
+    assert_eq!(tags, (0..=28).collect::<Vec<u8>>());
+    assert_eq!([Stage::RW1Read(a), Stage::RW3Mark(a)].map(tag_of), [27, 28]);
 }
 
 fn tag_of(stage: Stage) -> u8 {
@@ -202,7 +223,7 @@ fn wrong_tags_are_no_image() {
     }
     // stage, place, level, node of G3
     for processor in 0..2 {
-        for (at, byte) in [(5, 27), (5, 255), (6, 1), (7, 1), (8, 1)] {
+        for (at, byte) in [(5, 29), (5, 255), (6, 1), (7, 1), (8, 1)] {
             let mut damaged = image.clone();
             damaged[processor_at(processor) + at] = byte;
             let whose = format!("processor {processor}");

@@ -74,7 +74,7 @@ fn the_inner_form_does_the_same() {
         let processors = u64::from(queue.processor_count);
         let calls: Vec<u32> = (0..20)
             .flat_map(|_| {
-                let kind = random.below(5);
+                let kind = random.below(7);
                 let processor = random.below(processors + 1);
                 let (due, item) = (random.among(&[7, 1_000_000]), random.below(3));
                 [kind, processor, due, item, random.below(4)].map(|number| number as u32)

@@ -1,12 +1,16 @@
-//! Each mistake of document 01's "Where an implementer goes astray", and two of
-//! document 02's marks, put in on purpose, is caught, and the right queue passes
-//! the very same calls.
+//! Each mistake of document 01's "Where an implementer goes astray", two of
+//! document 02's marks and those about its Relaxed Delete_Min, put in on purpose,
+//! are caught, and the right queue passes the very same calls.
 
 use darthog_reference::book::Book;
 use darthog_reference::calls::Call;
-use darthog_reference::mistakes::{Mistake, Wrong};
+use darthog_reference::lists::{call_of, numbers_of};
+use darthog_reference::mistakes::{Astray, Mistake, Wrong, ASTRAY};
+use darthog_reference::queue::fresh;
 use darthog_reference::random::Random;
 use darthog_reference::schedule::Sizes;
+use darthog_reference::stated::relaxed;
+use darthog_reference::stated::walks;
 use darthog_reference::trial::{drain_bound, fresh_of, Failure, Machine, Trial};
 
 const RUNS: u64 = 400;
@@ -138,4 +142,93 @@ fn a_mark_is_taken_off_with_the_hand_out() {
     let faults = faults_of(Mistake::MarkTakenOff);
     let again = count(&faults, "marked, but");
     assert!(again > 0, "{faults:?}");
+}
+
+/// What the book and the drain say of a mistake about the Relaxed Delete_Min.
+/// One that tests the stamp marks what it may and finds nothing where it may: as
+/// far as the book goes it is a Relaxed one, and a worse one.
+#[test]
+fn the_book_notices_what_it_can_of_a_relaxed_walk() {
+    for astray in [Astray::BegunOrdinary, Astray::StampTested] {
+        let faults = faults_of(Mistake::Relaxed(astray));
+        assert_eq!(faults, Vec::<String>::new(), "{astray:?}");
+    }
+    for (astray, words) in [
+        (Astray::HeadMarked, "marked, but no such entry is written"),
+        (Astray::NextLeftOut, "answered before the begin is earlier"),
+        (Astray::StampNotTested, "marked, but there is no pick"),
+        (Astray::StampNotTested, "marked, but not the pick"),
+        (Astray::LockTaken, "EMPTY, but"),
+    ] {
+        let faults = faults_of(Mistake::Relaxed(astray));
+        assert!(count(&faults, words) > 0, "{astray:?}: {faults:?}");
+    }
+}
+
+/// The watchers of the record see more: a walk that is begun as an ordinary one
+/// has another stage than the book says, and a held lock must not be taken.
+/// That RW3 tests the stamp is nothing to them: they follow what a queue may do,
+/// and not that it does it.
+#[test]
+fn the_watchers_notice_what_they_can_of_a_relaxed_walk() {
+    for astray in ASTRAY {
+        let mut faults = Vec::new();
+        for (seed, sizes) in runs().into_iter().take(100) {
+            let wrong = Wrong::new(fresh_of(sizes), Mistake::Relaxed(astray));
+            let mut trial = Trial::new(wrong, seed, sizes);
+            if let Err(failure) = trial.play(CALLS, 1) {
+                faults.push(failure.fault);
+            }
+        }
+        let words = match astray {
+            Astray::BegunOrdinary => "conjunct BookOpen does not hold",
+            Astray::StampTested => {
+                assert_eq!(faults, Vec::<String>::new());
+                continue;
+            }
+            Astray::HeadMarked => "conjunct Sound does not hold",
+            Astray::NextLeftOut => "conjunct WalkW3 does not hold",
+            Astray::StampNotTested => "conjunct W3Stamp does not hold",
+            Astray::LockTaken => "a held lock, but the step did not wait",
+        };
+        println!("{astray:?}: noticed in {} of 100 runs", faults.len());
+        assert_eq!(
+            count(&faults, words),
+            faults.len(),
+            "{astray:?}: {faults:?}"
+        );
+        assert!(faults.len() > 20, "{astray:?}: {faults:?}");
+    }
+}
+
+/// Every one of these mistakes fails a stated run, two of them a stated step.
+#[test]
+fn a_relaxed_walk_astray_fails_what_is_stated() {
+    for astray in ASTRAY {
+        let mistake = Mistake::Relaxed(astray);
+        let mut runs = Vec::new();
+        for (run, _) in relaxed::runs() {
+            let [p, n, l] = run.sizes.map(u64::from);
+            let queue = fresh(p, n, l).expect("the sizes are in range");
+            let mut wrong = Wrong::new(queue, mistake);
+            let right = |(call, answer): &([u32; 5], [u32; 5])| {
+                numbers_of(&wrong.call(&call_of(*call))) == answer[..4]
+            };
+            if !run.turns.iter().all(right) {
+                runs.push(run.what);
+            }
+        }
+        let mut steps = 0;
+        for case in walks::cases() {
+            let mut wrong = Wrong::new(case.queue.clone(), mistake);
+            let processor = u64::from(case.processor);
+            let outcome = wrong.call(&Call::Step { processor });
+            let same = numbers_of(&outcome) == case.reply && *wrong.queue() == case.after;
+            steps += u64::from(!same);
+        }
+        println!("{astray:?}: {steps} steps, {} runs: {runs:?}", runs.len());
+        assert!(!runs.is_empty(), "{astray:?}");
+        let about_steps = matches!(astray, Astray::StampTested | Astray::HeadMarked);
+        assert_eq!(steps > 0, about_steps, "{astray:?}: {steps}");
+    }
 }

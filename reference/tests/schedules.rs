@@ -6,7 +6,7 @@
 use darthog_reference::queue::MAX_NUMBER;
 use darthog_reference::random::Random;
 use darthog_reference::schedule::Sizes;
-use darthog_reference::tally::Tally;
+use darthog_reference::tally::{Relaxed, Tally};
 use darthog_reference::trial::{fresh_of, Trial};
 
 /// Calls of each of the two tests.
@@ -33,19 +33,41 @@ fn play_many(seed: u64) -> Tally {
     total
 }
 
-/// Steps waited at G2 of both operations and at L2, and for every processor. No
-/// step waits at L1: an Insert gives its node lock back before it stamps, a
-/// Delete_Min marks none but stamped nodes, and no node twice.
+/// Steps waited at G2 of both operations, at L1 and at L2, and for every
+/// processor. At L1 it is the remover of an entry that a Relaxed walk has marked
+/// before its Insert gave the node lock back.
 fn assert_waits(total: &Tally) {
     let [insert, removal, node, own] = total.waits_at;
     assert!(
-        insert > 10_000 && removal > 10_000 && own > 300,
+        insert > 10_000 && removal > 10_000 && node > 10_000 && own > 300,
         "{total:?}"
     );
-    assert_eq!(node, 0, "{total:?}");
     assert_eq!(insert + removal + node + own, total.waits, "{total:?}");
     assert!(total.waits_for.iter().all(|&count| count > 30), "{total:?}");
     assert_eq!(total.waits_for.iter().sum::<u64>(), total.waits);
+}
+
+/// Relaxed Delete_Mins began, marked and found nothing often; so did all that
+/// they alone bring about (document 02, W3).
+fn assert_relaxed(relaxed: &Relaxed) {
+    for count in [
+        relaxed.begun,
+        relaxed.marked,
+        relaxed.empty,
+        relaxed.marks_lost,
+    ] {
+        assert!(count > 10_000, "{relaxed:?}");
+    }
+    for count in [
+        relaxed.unanswered,
+        relaxed.unlinked,
+        relaxed.led_back,
+        relaxed.led_to_head,
+        relaxed.answered_late,
+        relaxed.reused,
+    ] {
+        assert!(count > 1_000, "{relaxed:?}");
+    }
 }
 
 /// Every kind of answer and refusal but 31 came up, and often, and so did the
@@ -55,6 +77,7 @@ fn assert_rich(total: &Tally) {
     assert_eq!(total.invariant, total.calls);
     assert!(total.calls >= CALLS);
     assert_waits(total);
+    assert_relaxed(&total.relaxed);
     for count in [
         total.moved,
         total.waits,

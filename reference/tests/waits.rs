@@ -155,7 +155,7 @@ fn stated_failures(mistake: Misnamed) -> (BTreeMap<&'static str, u64>, u64) {
 }
 
 /// Each step that the mistake is about, and no other, fails on some stated
-/// record; in the runs no step waits at L1.
+/// record, and some call of a run fails.
 #[test]
 fn a_wrong_holder_fails_stated_cases_and_stated_runs() {
     let [insert, removal, node, own] = ["G2 of an Insert", "G2 of a Delete_Min", "L1", "L2"];
@@ -173,13 +173,11 @@ fn a_wrong_holder_fails_stated_cases_and_stated_runs() {
         let mut expected = expected.to_vec();
         expected.sort_unstable();
         assert_eq!(steps, expected, "{mistake:?}");
-        let in_runs = mistake != Misnamed::LevelLockAtL1;
-        assert_eq!(calls > 0, in_runs, "{mistake:?}: {calls} calls of runs");
+        assert!(calls > 0, "{mistake:?}");
     }
 }
 
-/// The watcher of the schedules notices each wrong holder that can occur in a
-/// run, and nothing else.
+/// The watcher of the schedules notices each wrong holder, and nothing else.
 #[test]
 fn a_wrong_holder_is_noticed_in_schedules() {
     for mistake in MISNAMED {
@@ -196,8 +194,7 @@ fn a_wrong_holder_is_noticed_in_schedules() {
             }
         }
         println!("{mistake:?}: noticed in {noticed} of 60 runs");
-        let in_runs = mistake != Misnamed::LevelLockAtL1;
-        assert_eq!(noticed > 10, in_runs, "{mistake:?}: {noticed}");
+        assert!(noticed > 10, "{mistake:?}: {noticed}");
     }
 }
 

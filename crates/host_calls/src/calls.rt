@@ -2,7 +2,8 @@
 // accepted call leaves the image of the defined record in their place, and a refused one leaves
 // every byte as it was. Bytes that are the image of no record are refused with 21.
 ghost use mathlib.Core.Path.{_≡_};
-ghost use Rattle.rules.specs.Calls.{called, beginInsert, beginDeleteMin, step as stepOf};
+ghost use Rattle.rules.specs.Calls.{called, beginInsert, beginDeleteMin, beginRelaxed};
+ghost use Rattle.rules.specs.Calls.{step as stepOf};
 ghost use Rattle.host_calls.specs.Entries.{plainOutcome, onBytes, bytesAfter};
 use crate::replies::refusal;
 use image_call::call_at;
@@ -57,6 +58,20 @@ pub extern "C" fn darthog_begin_delete_min(image: &mut [u8], processor: u32) -> 
         (onBytes (now (image .entry)) (λ q. beginDeleteMin q processor)) ⌝ }
 {
     call_on(image, Call::DeleteMin(processor))
+}
+
+// The begin of a Relaxed Delete_Min by a processor (02, W3).
+#[no_mangle]
+pub extern "C" fn darthog_begin_relaxed(image: &mut [u8], processor: u32) -> PlainAnswer
+    ensures { λ r.
+        ⌜ r ≡ plainOutcome
+        (onBytes (now (image .entry)) (λ q. beginRelaxed q processor)) ⌝ }
+    ensures { λ _.
+        ⌜ now (image .exit)
+        ≡ bytesAfter (now (image .entry))
+        (onBytes (now (image .entry)) (λ q. beginRelaxed q processor)) ⌝ }
+{
+    call_on(image, Call::Relaxed(processor))
 }
 
 // A step of a processor.

@@ -14,6 +14,7 @@ use Rattle.record.specs.declared.stages.Insert.the-variants as ins
 use Rattle.record.specs.declared.stages.Removal.the-variants as rem
 use Rattle.record.specs.declared.stages.Job.the-variants as jobs
 use Rattle.record.specs.declared.stages.Delete.the-variants as del
+use Rattle.record.specs.declared.stages.Relaxed.the-variants as rlx
 use Rattle.record.specs.declared.stages.Stage.{Stage}
 use Rattle.record.specs.declared.stages.Stage.the-variants as stage
 use Rattle.image.specs.Tags.{Timed, Code, timed, timedSame, stampTimed, stampOf}
@@ -90,6 +91,8 @@ stage-back (stage.Insert ins.Stamp) = refl
 stage-back (stage.Delete (del.ReadNext a)) = refl
 stage-back (stage.Delete (del.TestStamp a)) = refl
 stage-back (stage.Delete (del.SetMark a)) = refl
+stage-back (stage.Relaxed (rlx.ReadNext a)) = refl
+stage-back (stage.Relaxed (rlx.SetMark a)) = refl
 stage-back (stage.Removal jobs.Deliver (rem.Search a)) = refl
 stage-back (stage.Removal jobs.Deliver rem.HoldNode) = refl
 stage-back (stage.Removal jobs.Deliver (rem.Seek (seek.Approach a))) = refl
@@ -108,7 +111,7 @@ pub stage-taken : (s : Stage) → stageTaken (stageCode s) ≡ true
 stage-taken s = rw (stage-back s) (code-same (stageCode s))
 
 -- some of what is refused: an unknown tag, a time where there is none, a place where the stage has none, a node of G3 at another stage
-unknown-stage : (n l b : ℕ) → stageTaken (code 27 n l b) ≡ false
+unknown-stage : (n l b : ℕ) → stageTaken (code 29 n l b) ≡ false
 unknown-stage n l b = refl
 
 idle-with-a-place : stageTaken (code 0 1 1 0) ≡ false

@@ -3,7 +3,7 @@
 --
 --   stamp   0 none         1 a time
 --   use     0 never used   1 in use   2 retired, with a time
---   stage   0 to 26: the column `tag` of the table in record/specs/Stages
+--   stage   0 to 28: the column `tag` of the table in record/specs/Stages
 use Prim.Native.Nat.{ℕ, _-_}
 use mathlib.Core.Bool.{Bool, cond, _&&_}
 use lib.Dec.{eqb, leb}
@@ -21,9 +21,11 @@ use Rattle.record.specs.declared.stages.Removal.the-variants as rem
 use Rattle.record.specs.declared.stages.Job.the-variants as jobs
 use Rattle.record.specs.declared.stages.Delete.{Delete}
 use Rattle.record.specs.declared.stages.Delete.the-variants as del
+use Rattle.record.specs.declared.stages.Relaxed.{Relaxed}
+use Rattle.record.specs.declared.stages.Relaxed.the-variants as rlx
 use Rattle.record.specs.declared.stages.Stage.{Stage}
 use Rattle.record.specs.declared.stages.Stage.the-variants as stage
-use Rattle.record.specs.Stages.{place, Row, rowOf, insertRow, deleteRow, removalRow}
+use Rattle.record.specs.Stages.{place, Row, rowOf, insertRow, deleteRow, relaxedRow, removalRow}
 
 -- a tag and a time
 pub record Timed : Type 0 where
@@ -93,6 +95,9 @@ insertTag i = insertRow i .tag
 abbrev pub deleteTag : Delete → ℕ
 deleteTag d = deleteRow d .tag
 
+abbrev pub relaxedTag : Relaxed → ℕ
+relaxedTag d = relaxedRow d .tag
+
 abbrev pub removalTag : Removal → ℕ
 removalTag r = removalRow r .tag
 
@@ -127,6 +132,9 @@ abbrev pub deleteOf : ℕ → Place → Delete
 deleteOf tag a =
     cond (eqb tag 11) (del.ReadNext a) (cond (eqb tag 12) (del.TestStamp a) (del.SetMark a))
 
+abbrev pub relaxedOf : ℕ → Place → Relaxed
+relaxedOf tag a = cond (eqb tag 27) (rlx.ReadNext a) (rlx.SetMark a)
+
 abbrev pub placeOf : Code → Place
 placeOf x = record { node = x .node; level = x .level }
 
@@ -135,7 +143,9 @@ stageOf x =
     cond (eqb (x .tag) 0) stage.Idle
     (cond (leb (x .tag) 10) (stage.Insert (insertOf (x .tag) (placeOf x) (x .ahead)))
     (cond (leb (x .tag) 13) (stage.Delete (deleteOf (x .tag) (placeOf x)))
-    (stage.Removal jobs.Deliver (removalOf (x .tag) (placeOf x) (x .ahead)))))
+    (cond (leb (x .tag) 26)
+    (stage.Removal jobs.Deliver (removalOf (x .tag) (placeOf x) (x .ahead)))
+    (stage.Relaxed (relaxedOf (x .tag) (placeOf x))))))
 
 abbrev pub stageTaken : Code → Bool
 stageTaken x = codeSame (stageCode (stageOf x)) x

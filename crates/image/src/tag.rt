@@ -42,5 +42,10 @@ pub const REMOVAL_FREE_NODE: u8 = 25;
 
 pub const RETIRE: u8 = 26;
 
+// A Relaxed Delete_Min: W1 and W3.
+pub const RELAXED_READ_NEXT: u8 = 27;
+
+pub const RELAXED_SET_MARK: u8 = 28;
+
 // How many there are.
-pub const COUNT: usize = 27;
+pub const COUNT: usize = 29;

@@ -1,24 +1,28 @@
 -- What a begin stores is what the definition says, and the bytes after it are sound. Assumes nothing.
 use mathlib.Core.Path.{_≡_, refl, sym, _∙_, ap}
 use mathlib.Core.Bool.{_||_}
-use mathlib.Core.List.{List, []}
+use mathlib.Core.List.{List, [], _∷_, _++_}
 use Prim.Native.Nat.{ℕ, _+_, _*_, _≤_, _<_}
 use native.Mathlib.Omega.{arith}
 use lib.ListN.{getD}
 use lib.Dec.{ltb, eqb}
 use borrow.Author.Tests.{eq-eqb, ne-eqb, ltb-false}
-use Rattle.image.specs.Tags.{code, stageOf}
+use Rattle.image.specs.Tags.{Code, code, stageCode, stageOf}
 use Rattle.record.specs.declared.queues.Processor.{Processor}
+use Rattle.record.specs.declared.stages.Delete.the-variants as del
+use Rattle.record.specs.declared.stages.Relaxed.the-variants as rlx
 use Rattle.record.specs.declared.stages.Stage.{Stage}
 use Rattle.record.specs.declared.stages.Stage.the-variants as stage
 use Rattle.record.specs.Limits.{maxNumber}
 use Rattle.record.specs.Queues.{nodeAt, processorAt}
-use Rattle.image.specs.Numbers.{number32}
-use Rattle.image.specs.Pieces.{processorImage}
+use Rattle.record.specs.Stages.{place}
+use Rattle.image.specs.Numbers.{bytesOf32, number32, eight}
+use Rattle.image.specs.Pieces.{codeBytes, processorImage}
 use Rattle.rules.specs.declared.answers.Answer.{Answer}
 use Rattle.rules.specs.declared.answers.Answer.the-variants as ans
+use Rattle.rules.specs.declared.calls.Call.{Call}
 use Rattle.rules.specs.declared.calls.Call.the-variants as call
-use Rattle.rules.specs.Calls.{insertDecision, deleteDecision, taken, nodeRefusal, refusalOf}
+use Rattle.rules.specs.Calls.{insertDecision, walkBegins, taken, nodeRefusal, refusalOf}
 use Rattle.rules.specs.Calls.{calledValid}
 use Rattle.rules.specs.Choice.{chosen}
 use Rattle.rules.specs.Effects.{accepted}
@@ -62,35 +66,63 @@ at-idle b p s low h =
     (code t (getD b (7 + 17 * p + 6) 0) (getD b (7 + 17 * p + 7) 0)
     (getD b (7 + 17 * p + 8) 0))) h
 
-module _ (b : List ℕ) (p : ℕ) (s : Sound b) (e : refusalIn b (call.DeleteMin p) ≡ 0) where
-  pub delete-begins :
-      (after : List ℕ) (r : Answer) →
-      after ≡ puts (puts b 0 (four 3 (number32 b 3 + 1))) (7 + 17 * p)
-      (begun (number32 b 3 + 1) 0 11 1) → r ≡ ans.Began (number32 b 3 + 1) →
-      Called b (call.DeleteMin p) after r
-  unfolding queueIn processorImage
-  delete-begins after r stored f =
-      let q = queueIn b in
-      let k = call.DeleteMin p in
-      let c = processorAt q p in
-      let t = number32 b 3 + 1 in
-      let low = here b s k e in
-      let idle = begin-idle b s k e refl in
-      let none : refusalOf q k ≡ 0 = first-none (refusalIn b k) 0 e in
-      kept-sound b s k after r
-      (gives b (7 + 17 * getD b 0 0) p s refl low (deleteDecision q) (calledValid q k)
-      (call-accepted q k none)
-      [] (begun t 0 11 1) (omega arith) tt (
-        omega arith,
-        (
+-- a call k that is accepted and begins a walk, whose first stage g has this tag
+module _ (b : List ℕ) (p tag : ℕ) (s : Sound b) (low : p < getD b 0 0)
+    (idle : getD b (7 + 17 * p + 5) 0 ≡ 0) (g : Stage) (coded : stageCode g ≡ code tag 0 1 0)
+    (k : Call)
+    (is : calledValid (queueIn b) k ≡ accepted (queueIn b) p (walkBegins (number32 b 3 + 1) g))
+  where
+    walk-begins :
+        (after : List ℕ) (r : Answer) → r ≡ ans.Began (number32 b 3 + 1) →
+        after ≡ puts (puts b 0 (four 3 (number32 b 3 + 1))) (7 + 17 * p)
+        (begun (number32 b 3 + 1) 0 tag 1) →
+        Called b k after r
+    unfolding queueIn processorImage
+    walk-begins after r f stored =
+        let q = queueIn b in
+        let c = processorAt q p in
+        let t = number32 b 3 + 1 in
+        kept-sound b s k after r
+        (gives b (7 + 17 * getD b 0 0) p s refl low (walkBegins t g) (calledValid q k) is
+        [] (begun t 0 tag 1) (omega arith) tt (
           omega arith,
-          (omega arith, (omega arith, (omega arith, (omega arith, (omega arith, tt))))),
-        ),
-      )
-      refl
-      (ap (λ (g : Stage). putsIn (processorImage (moves c g (c .saved))) (begun t 0 11 1))
-      (at-idle b p s low idle))
-      after stored r f)
+          (
+            omega arith,
+            (omega arith, (omega arith, (omega arith, (omega arith, (omega arith, tt))))),
+          ),
+        )
+        refl
+        (ap (λ (x : Stage). putsIn (processorImage (moves c x (c .saved))) (begun t 0 tag 1))
+        (at-idle b p s low idle)
+        ∙ ap (λ (x : Code). (bytesOf32 t ++ (0 ∷ [])) ++ codeBytes x ++ eight (c .saved) 0)
+        (sym coded))
+        after stored r f)
+
+-- a Delete_Min and a Relaxed one are such calls
+module _ (b : List ℕ) (p : ℕ) (s : Sound b) where
+  pub delete-begins : (e : refusalIn b (call.DeleteMin p) ≡ 0) (after : List ℕ) (r : Answer) →
+      r ≡ ans.Began (number32 b 3 + 1) →
+      after ≡ puts (puts b 0 (four 3 (number32 b 3 + 1))) (7 + 17 * p)
+      (begun (number32 b 3 + 1) 0 11 1) →
+      Called b (call.DeleteMin p) after r
+  unfolding queueIn
+  delete-begins e =
+      let k = call.DeleteMin p in
+      walk-begins b p 11 s (here b s k e) (begin-idle b s k e refl)
+      (stage.Delete (del.ReadNext (place 0 1))) refl k
+      (call-accepted (queueIn b) k (first-none (refusalIn b k) 0 e))
+
+  pub relaxed-begins : (e : refusalIn b (call.Relaxed p) ≡ 0) (after : List ℕ) (r : Answer) →
+      r ≡ ans.Began (number32 b 3 + 1) →
+      after ≡ puts (puts b 0 (four 3 (number32 b 3 + 1))) (7 + 17 * p)
+      (begun (number32 b 3 + 1) 0 27 1) →
+      Called b (call.Relaxed p) after r
+  unfolding queueIn
+  relaxed-begins e =
+      let k = call.Relaxed p in
+      walk-begins b p 27 s (here b s k e) (begin-idle b s k e refl)
+      (stage.Relaxed (rlx.ReadNext (place 0 1))) refl k
+      (call-accepted (queueIn b) k (first-none (refusalIn b k) 0 e))
 
 module _ (b : List ℕ) (p due item height : ℕ) (s : Sound b)
     (e : refusalIn b (call.Insert p due item height) ≡ 0) where
@@ -172,9 +204,9 @@ insert-stored b c d e o i l tail h u due item height x f g k m =
     (puts (puts b 0 (four 3 (number32 b 3 + 1))) o (fills l tail h (v + 1) due item height)) i
     (begun (v + 1) x 1 l)) g
 
-pub delete-stored : (b c d : List ℕ) (i u : ℕ) → c ≡ puts b 0 (four 3 (number32 b 3 + 1)) →
-    u ≡ number32 b 3 → d ≡ puts c i (begun (u + 1) 0 11 1) →
-    d ≡ puts (puts b 0 (four 3 (number32 b 3 + 1))) i (begun (number32 b 3 + 1) 0 11 1)
-delete-stored b c d i u f g k =
-    k ∙ ap (λ (r : List ℕ). puts r i (begun (u + 1) 0 11 1)) f
-    ∙ ap (λ (v : ℕ). puts (puts b 0 (four 3 (number32 b 3 + 1))) i (begun (v + 1) 0 11 1)) g
+pub walk-stored : (b c d : List ℕ) (i u tag : ℕ) → c ≡ puts b 0 (four 3 (number32 b 3 + 1)) →
+    u ≡ number32 b 3 → d ≡ puts c i (begun (u + 1) 0 tag 1) →
+    d ≡ puts (puts b 0 (four 3 (number32 b 3 + 1))) i (begun (number32 b 3 + 1) 0 tag 1)
+walk-stored b c d i u tag f g k =
+    k ∙ ap (λ (r : List ℕ). puts r i (begun (u + 1) 0 tag 1)) f
+    ∙ ap (λ (v : ℕ). puts (puts b 0 (four 3 (number32 b 3 + 1))) i (begun (v + 1) 0 tag 1)) g

@@ -1,7 +1,16 @@
 // The begins in place, on the image of a record that passes check 21; the image that they leave is
 // one again.
+ghost use mathlib.Core.Path.{_≡_};
+ghost use Prim.Native.Nat.{_+_, _<_};
+ghost use lib.ListN.{getD};
 ghost use Rattle.image.specs.Image.{Sound};
+ghost use Rattle.image.specs.Layout.{processorStart};
+ghost use Rattle.image.specs.Numbers.{number32};
+ghost use Rattle.image.specs.Puts.{puts, four};
+ghost use Rattle.image_begin.specs.Stores.{begun};
 ghost use Rattle.image_parts.specs.Given.{Called};
+ghost use Rattle.record.specs.Limits.{maxNumber};
+ghost use Rattle.rules.specs.declared.answers.Answer.the-variants as ans;
 ghost use Rattle.rules.specs.declared.calls.Call.the-variants as call;
 use crate::choice::choose;
 use crate::stores::begin;
@@ -17,6 +26,29 @@ use image_parts::refused::refusal_at;
 use rules::Answer;
 use rules::Call;
 
+// A walk begins at the head, on level 1; `first` is the tag of its W1.
+fn begin_walk(image: &mut [u8], processor: u32, first: u8) -> Answer
+    requires { ⌜ Sound (now image) × (processor < getD (now image) 0 0)
+        × (number32 (now image) 3 < maxNumber) ⌝ }
+    ensures { λ r. ⌜ r ≡ ans.Began (number32 (now (image .entry)) 3 + 1) ⌝ }
+    ensures { λ _.
+        ⌜ now (image .exit)
+        ≡ puts (puts (now (image .entry)) 0 (four 3 (number32 (now (image .entry)) 3 + 1)))
+        (processorStart processor) (begun (number32 (now (image .entry)) 3 + 1) 0 first 1) ⌝ }
+{
+    let time = number_from(image, header::CLOCK) + 1;
+    tick(image);
+    begin(
+        image,
+        HEADER + PROCESSOR_BYTES * (processor as usize),
+        time,
+        0,
+        first,
+        1,
+    );
+    Answer::Began(time)
+}
+
 // The begin of a Delete_Min.
 pub fn begin_delete_min_at(image: &mut [u8], processor: u32) -> Answer
     requires { ⌜ Sound (now image) ⌝ }
@@ -27,17 +59,20 @@ pub fn begin_delete_min_at(image: &mut [u8], processor: u32) -> Answer
     if 0 < refusal {
         return Answer::Refused(refusal);
     }
-    let t = number_from(image, header::CLOCK) + 1;
-    tick(image);
-    begin(
-        image,
-        HEADER + PROCESSOR_BYTES * (processor as usize),
-        t,
-        0,
-        tag::READ_NEXT,
-        1,
-    );
-    Answer::Began(t)
+    begin_walk(image, processor, tag::READ_NEXT)
+}
+
+// The begin of a Relaxed Delete_Min (02, W3).
+pub fn begin_relaxed_at(image: &mut [u8], processor: u32) -> Answer
+    requires { ⌜ Sound (now image) ⌝ }
+    ensures { λ r.
+        ⌜ Called (now (image .entry)) (call.Relaxed processor) (now (image .exit)) r ⌝ }
+{
+    let refusal = refusal_at(image, Call::Relaxed(processor));
+    if 0 < refusal {
+        return Answer::Refused(refusal);
+    }
+    begin_walk(image, processor, tag::RELAXED_READ_NEXT)
 }
 
 // The begin of an Insert.

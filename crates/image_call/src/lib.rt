@@ -4,6 +4,7 @@ ghost use Rattle.image.specs.Image.{Sound};
 ghost use Rattle.image_parts.specs.Given.{Called};
 use image_begin::begin_delete_min_at;
 use image_begin::begin_insert_at;
+use image_begin::begin_relaxed_at;
 use image_step::step_at;
 use rules::Answer;
 use rules::Call;
@@ -17,6 +18,7 @@ pub fn call_at(image: &mut [u8], c: Call) -> Answer
             return begin_insert_at(image, p, due, item, height);
         }
         Call::DeleteMin(p) => return begin_delete_min_at(image, p),
+        Call::Relaxed(p) => return begin_relaxed_at(image, p),
         Call::Step(p) => return step_at(image, p),
     }
 }

@@ -209,29 +209,39 @@ filled r t a i x = record {
   ahead = cond (r .releases) x 0;
 }
 
-rows : (a i x t : ℕ) → t < 27 → rowOf (stageOf (code t a i x)) ≡ filled (rowAt t) t a i x
+rows : (a i x t : ℕ) → t < 29 → rowOf (stageOf (code t a i x)) ≡ filled (rowAt t) t a i x
 rows a i x =
-    below (λ t. rowOf (stageOf (code t a i x)) ≡ filled (rowAt t) t a i x) 27
+    below (λ t. rowOf (stageOf (code t a i x)) ≡ filled (rowAt t) t a i x) 29
     (none ⊕ refl ⊕ refl ⊕ refl ⊕ refl ⊕ refl ⊕ refl ⊕ refl ⊕ refl ⊕ refl ⊕ refl ⊕ refl ⊕ refl
     ⊕ refl ⊕ refl ⊕ refl ⊕ refl ⊕ refl ⊕ refl ⊕ refl ⊕ refl ⊕ refl ⊕ refl ⊕ refl ⊕ refl ⊕ refl
-    ⊕ refl ⊕ refl)
+    ⊕ refl ⊕ refl ⊕ refl ⊕ refl)
 
 -- a column of the table, at each tag but some
-module _ (t : ℕ) (low : t < 27) where
+module _ (t : ℕ) (low : t < 29) where
   marks-placed : rowAt t .marks ≡ true → rowAt t .placed ≡ true
   marks-placed h =
       go (rowAt t .marks) (rowAt t .placed) h
-      (every-at (λ t. not (rowAt t .marks) || rowAt t .placed) 27 t refl low)
+      (every-at (λ t. not (rowAt t .marks) || rowAt t .placed) 29 t refl low)
     where
       go : (m p : Bool) → m ≡ true → (not m || p) ≡ true → p ≡ true
       go true p h e = e
       go false p h e = absurd (false≢true h)
 
-  pub owned-rest : (t ≡ 0 → ⊥) → (t ≡ 11 → ⊥) → (t ≡ 12 → ⊥) → (t ≡ 13 → ⊥) → rowAt t .owns ≡ true
-  owned-rest n0 n11 n12 n13 =
+  pub owned-rest : (t ≡ 0 → ⊥) → (t ≡ 11 → ⊥) → (t ≡ 12 → ⊥) → (t ≡ 13 → ⊥) → (t ≡ 27 → ⊥) →
+      (t ≡ 28 → ⊥) → rowAt t .owns ≡ true
+  owned-rest n0 n11 n12 n13 n27 n28 =
       subst (λ (b : Bool). b ≡ true)
-      (rw (ne-eqb t 0 n0, ne-eqb t 11 n11, ne-eqb t 12 n12, ne-eqb t 13 n13) refl)
-      (every-at (λ t. eqb t 0 || eqb t 11 || eqb t 12 || eqb t 13 || rowAt t .owns) 27 t refl low)
+      (rw (
+        ne-eqb t 0 n0,
+        ne-eqb t 11 n11,
+        ne-eqb t 12 n12,
+        ne-eqb t 13 n13,
+        ne-eqb t 27 n27,
+        ne-eqb t 28 n28,
+      ) refl)
+      (every-at
+      (λ t. eqb t 0 || eqb t 11 || eqb t 12 || eqb t 13 || eqb t 27 || eqb t 28 || rowAt t .owns)
+      29 t refl low)
 
   pub placed-rest : (t ≡ 0 → ⊥) → (t ≡ 9 → ⊥) → (t ≡ 10 → ⊥) → (t ≡ 15 → ⊥) → (t ≡ 25 → ⊥) →
       (t ≡ 26 → ⊥) → rowAt t .placed ≡ true
@@ -247,19 +257,19 @@ module _ (t : ℕ) (low : t < 27) where
       ) refl)
       (every-at
       (λ t. eqb t 0 || eqb t 9 || eqb t 10 || eqb t 15 || eqb t 25 || eqb t 26 || rowAt t .placed)
-      27 t refl low)
+      29 t refl low)
 
   pub releases-rest : (t ≡ 5 → ⊥) → (t ≡ 19 → ⊥) → rowAt t .releases ≡ false
   releases-rest n5 n19 =
       not-true (rowAt t .releases)
       (subst (λ (b : Bool). b ≡ true) (rw (ne-eqb t 5 n5, ne-eqb t 19 n19) refl)
-      (every-at (λ t. eqb t 5 || eqb t 19 || not (rowAt t .releases)) 27 t refl low))
+      (every-at (λ t. eqb t 5 || eqb t 19 || not (rowAt t .releases)) 29 t refl low))
 
-  pub marks-rest : (t ≡ 13 → ⊥) → rowAt t .marks ≡ false
-  marks-rest n13 =
+  pub marks-rest : (t ≡ 13 → ⊥) → (t ≡ 28 → ⊥) → rowAt t .marks ≡ false
+  marks-rest n13 n28 =
       not-true (rowAt t .marks)
-      (subst (λ (b : Bool). b ≡ true) (rw (ne-eqb t 13 n13) refl)
-      (every-at (λ t. eqb t 13 || not (rowAt t .marks)) 27 t refl low))
+      (subst (λ (b : Bool). b ≡ true) (rw (ne-eqb t 13 n13, ne-eqb t 28 n28) refl)
+      (every-at (λ t. eqb t 13 || eqb t 28 || not (rowAt t .marks)) 29 t refl low))
 
   pub stage-tests :
       (s : Sizes) (a i x own : ℕ) → 1 ≤ s .levelCount →

@@ -112,22 +112,15 @@ swap : (e t v : Bool) → (e && (t && v)) ≡ (t && (e && v))
 swap true t v = refl
 swap false t v = sym (and-false t)
 
-tag-past : (t a i x : ℕ) → 26 < t → stageTaken (code t a i x) ≡ false
+tag-past : (t a i x : ℕ) → 28 < t → stageTaken (code t a i x) ≡ false
 tag-past t a i x h =
     rw (
       ne-eqb t 0 (λ e. omega arith),
       lt-leb t 10 (omega arith),
       lt-leb t 13 (omega arith),
-      ne-eqb t 14 (λ e. omega arith),
-      ne-eqb t 15 (λ e. omega arith),
-      lt-leb t 19 (omega arith),
-      ne-eqb t 20 (λ e. omega arith),
-      ne-eqb t 21 (λ e. omega arith),
-      ne-eqb t 22 (λ e. omega arith),
-      ne-eqb t 23 (λ e. omega arith),
-      ne-eqb t 24 (λ e. omega arith),
-      ne-eqb t 25 (λ e. omega arith),
-      ne-eqb 26 t (λ e. omega arith),
+      lt-leb t 26 (omega arith),
+      ne-eqb t 27 (λ e. omega arith),
+      ne-eqb 28 t (λ e. omega arith),
     )
     refl
 
@@ -179,7 +172,7 @@ module _ (b : List ℕ) (p : ℕ) (low : p < getD b 0 0) (many : getD b 0 0 ≤ 
       processor-early (ap (λ (t : Bool). leb (number32 b (7 + 17 * p + 0)) (number32 b 3) && t)
       (sym e ∙ h) ∙ and-false (leb (number32 b (7 + 17 * p + 0)) (number32 b 3)))
 
-  pub processor-past : 26 < getD b (7 + 17 * p + 5) 0 → false ≡ processorOk b p
+  pub processor-past : 28 < getD b (7 + 17 * p + 5) 0 → false ≡ processorOk b p
   unfolding processorOk
   processor-past h =
       let f = piece b (7 + 17 * p) in
@@ -188,7 +181,7 @@ module _ (b : List ℕ) (p : ℕ) (low : p < getD b 0 0) (many : getD b 0 0 ≤ 
 
   pub processor-tests :
       {v w : ℕ} {t : Bool} → v ≡ number32 b 3 → w ≡ number32 b (7 + 17 * p + 0) → w ≤ v →
-      t ≡ saved → t ≡ true → getD b (7 + 17 * p + 5) 0 < 27 →
+      t ≡ saved → t ≡ true → getD b (7 + 17 * p + 5) 0 < 29 →
       inBounds (rowAt (getD b (7 + 17 * p + 5) 0)) (getD b (7 + 17 * p + 6) 0)
       (getD b (7 + 17 * p + 7) 0) (getD b (7 + 17 * p + 8) 0) (getD b (7 + 17 * p + 4) 0)
       (getD b 1 0) (getD b 2 0)

@@ -17,6 +17,8 @@ fn owns(tag: usize) -> bool
         11 => false,
         12 => false,
         13 => false,
+        27 => false,
+        28 => false,
         _ => true,
     }
 }
@@ -53,6 +55,7 @@ fn marks(tag: usize) -> bool
 {
     match tag {
         13 => true,
+        28 => true,
         _ => false,
     }
 }

@@ -1,4 +1,5 @@
--- What each stage of a Delete_Min's walk stores is what the definition says. Assumes nothing.
+-- What each stage of a walk stores is what the definition says. W1 and W3 are a Delete_Min's (w is
+-- false) and a Relaxed one's (w is true). Assumes nothing.
 use mathlib.Core.Path.{_≡_, refl, _∙_, ap}
 use mathlib.Core.Bool.{Bool, true, false, cond}
 use mathlib.Core.List.{List, [], _∷_, _++_}
@@ -37,6 +38,10 @@ use Rattle.rules.specs.declared.decisions.ProcessorChange.the-variants as chang
 use Rattle.image.proofs.Sizes.{sized-in}
 use Rattle.image_parts.proofs.Readings.{mine, arm, levels-is, clears-below}
 use Rattle.image_parts.proofs.Readings.{entryIn, entry-is}
+use Rattle.image_delete.proofs.Tags.{reading, setting, onto, readTag, setTag, ontoTag}
+use Rattle.image_delete.proofs.Tags.{read-tag, set-tag, read-busy, set-busy, read-ends}
+use Rattle.image_delete.proofs.Tags.{read-goes, set-passes, set-marks, reads-next}
+use Rattle.image_delete.proofs.Tags.{reads-again, set-starts}
 
 stamped-cases : (t u g : ℕ) → stampedBefore (stampOf (timed t u)) g ≡ cond (eqb t 1) (ltb u g) false
 stamped-cases t u g = go (eqb t 1)
@@ -74,7 +79,8 @@ unfolding queueIn
 entries-is b = refl
 
 -- W1
-module _ (b : List ℕ) (base p : ℕ) (r : Walked b base p 11) (after : List ℕ) (answer : Answer) where
+module _ (w : Bool) (b : List ℕ) (base p : ℕ) (r : Walked b base p (readTag w)) (after : List ℕ)
+    (answer : Answer) where
   pub walks-empty :
       getD b (base + 41 * mine b p 6 + 0) 0 ≡ getD b 1 0 + 1 →
       after ≡ puts (puts b 0 (four 3 (number32 b 3 + 1))) (7 + 17 * p)
@@ -85,10 +91,12 @@ module _ (b : List ℕ) (base p : ℕ) (r : Walked b base p 11) (after : List �
       let q = queueIn b in
       let c = processorAt q p in
       let a = place (mine b p 6) (mine b p 7) in
-      let s = stepViewOf q c (place (mine b p 6) 1) in
-      arm b base p 11 (r .sound) (r .start) (r .nodes-high) (r .processors-high) (r .low)
-      (r .few) (r .early) (r .tagged) (stage.Delete (del.ReadNext a)) refl refl
-      (answers eff.Keep ans.Empty) (rw (after-is b base p 11 r, entries-is b, eq-eqb _ _ h) refl)
+      arm b base p (readTag w) (r .sound) (r .start) (r .nodes-high) (r .processors-high) (r .low)
+      (r .few) (r .early) (r .tagged) (reading w a)
+      (read-tag w (mine b p 6) (mine b p 7) (mine b p 8)) (read-busy w a)
+      (answers eff.Keep ans.Empty)
+      (read-ends (stepViewOf q c) a w
+      (rw (after-is b base p (readTag w) r, entries-is b, eq-eqb _ _ h) refl))
       ([]) (clears (getD b 2 0) ++ rests) (omega arith) tt
       (clears-below (getD b 2 0) rests (r .levels-high) (
         omega arith,
@@ -104,29 +112,34 @@ module _ (b : List ℕ) (base p : ℕ) (r : Walked b base p 11) (after : List �
         ),
       ))
       (refl) (rw (levels-is b)
-      (put-idle (moves c (stage.Delete (del.ReadNext a)) (c .saved)) (getD b 2 0)
+      (put-idle (moves c (reading w a) (c .saved)) (getD b 2 0)
       (sized-in b .saved-long p (r .few)))) after e answer f
 
   pub walks-on :
       (getD b (base + 41 * mine b p 6 + 0) 0 ≡ getD b 1 0 + 1 → ⊥) →
+      (v : ℕ) → v ≡ ontoTag w (getD b (base + 41 * mine b p 6 + 0) 0) →
       after ≡ puts (puts b 0 (four 3 (number32 b 3 + 1))) (7 + 17 * p)
-      ((5, 12) ∷ (6, getD b (base + 41 * mine b p 6 + 0) 0) ∷ (7, 1) ∷ []) →
+      ((5, v) ∷ (6, getD b (base + 41 * mine b p 6 + 0) 0) ∷ (7, 1) ∷ []) →
       answer ≡ ans.Moved →
       Stepped b p after answer
-  unfolding processorImage
-  walks-on h e f =
+  walks-on h v is e f =
       let q = queueIn b in
       let c = processorAt q p in
       let a = place (mine b p 6) (mine b p 7) in
       let s = stepViewOf q c (place (mine b p 6) 1) in
-      arm b base p 11 (r .sound) (r .start) (r .nodes-high) (r .processors-high) (r .low)
-      (r .few) (r .early) (r .tagged) (stage.Delete (del.ReadNext a)) refl refl
-      (moved s eff.Keep
-      (stage.Delete (del.TestStamp (place (getD b (base + 41 * mine b p 6 + 0) 0) 1))))
-      (rw (after-is b base p 11 r, entries-is b, ne-eqb _ _ h) refl)
-      ([]) ((5, 12) ∷ (6, getD b (base + 41 * mine b p 6 + 0) 0) ∷ (7, 1) ∷ []) (omega arith) tt
+      let x = getD b (base + 41 * mine b p 6 + 0) 0 in
+      arm b base p (readTag w) (r .sound) (r .start) (r .nodes-high) (r .processors-high) (r .low)
+      (r .few) (r .early) (r .tagged) (reading w a)
+      (read-tag w (mine b p 6) (mine b p 7) (mine b p 8)) (read-busy w a)
+      (moved s eff.Keep (onto w x))
+      (read-goes (stepViewOf q c) a w
+      (rw (after-is b base p (readTag w) r, entries-is b, ne-eqb _ _ h) refl)
+      ∙ ap (λ (n : ℕ). moved s eff.Keep (onto w n)) (after-is b base p (readTag w) r))
+      ([]) ((5, ontoTag w x) ∷ (6, x) ∷ (7, 1) ∷ []) (omega arith) tt
       (omega arith, (omega arith, (omega arith, tt)))
-      (refl) (refl) after e answer f
+      (refl) (reads-next c a w x) after
+      (e ∙ ap (λ (n : ℕ). puts (puts b 0 (four 3 (number32 b 3 + 1))) (7 + 17 * p)
+      ((5, n) ∷ (6, x) ∷ (7, 1) ∷ [])) is) answer f
 
 -- W2
 module _ (b : List ℕ) (base p : ℕ) (r : Walked b base p 12) (after : List ℕ) (answer : Answer) where
@@ -187,24 +200,30 @@ module _ (b : List ℕ) (base p : ℕ) (r : Walked b base p 12) (after : List �
       (refl) (refl) after e answer f
 
 -- W3
-module _ (b : List ℕ) (base p : ℕ) (r : Walked b base p 13) (after : List ℕ) (answer : Answer) where
+module _ (w : Bool) (b : List ℕ) (base p : ℕ) (r : Walked b base p (setTag w)) (after : List ℕ)
+    (answer : Answer) where
   pub mark-set :
       (getD b (base + 41 * mine b p 6 + 17) 0 ≡ 0 → ⊥) →
-      after ≡ puts (puts b 0 (four 3 (number32 b 3 + 1))) (7 + 17 * p) ((5, 11) ∷ []) →
+      (v : ℕ) → v ≡ readTag w →
+      after ≡ puts (puts b 0 (four 3 (number32 b 3 + 1))) (7 + 17 * p) ((5, v) ∷ []) →
       answer ≡ ans.Moved →
       Stepped b p after answer
-  unfolding processorImage
-  mark-set h e f =
+  mark-set h v is e f =
       let q = queueIn b in
       let c = processorAt q p in
       let a = place (mine b p 6) (mine b p 7) in
       let s = stepViewOf q c (place (mine b p 6) 1) in
-      arm b base p 13 (r .sound) (r .start) (r .nodes-high) (r .processors-high) (r .low)
-      (r .few) (r .early) (r .tagged) (stage.Delete (del.SetMark a)) refl refl
-      (moved s eff.Keep (stage.Delete (del.ReadNext a)))
-      (rw (marked-is b base p 13 r, lt-ltb 0 (getD b (base + 41 * mine b p 6 + 17) 0) (omega arith)) refl)
-      ([]) ((5, 11) ∷ []) (omega arith) tt (omega arith, tt)
-      (refl) (refl) after e answer f
+      let m = getD b (base + 41 * mine b p 6 + 17) 0 in
+      arm b base p (setTag w) (r .sound) (r .start) (r .nodes-high) (r .processors-high) (r .low)
+      (r .few) (r .early) (r .tagged) (setting w a)
+      (set-tag w (mine b p 6) (mine b p 7) (mine b p 8)) (set-busy w a)
+      (moved s eff.Keep (reading w a))
+      (set-passes (stepViewOf q c) a w
+      (rw (marked-is b base p (setTag w) r, lt-ltb 0 m (omega arith)) refl))
+      ([]) ((5, readTag w) ∷ []) (omega arith) tt (omega arith, tt)
+      (refl) (reads-again c a w) after
+      (e ∙ ap (λ (n : ℕ). puts (puts b 0 (four 3 (number32 b 3 + 1))) (7 + 17 * p)
+      ((5, n) ∷ [])) is) answer f
 
   pub marks :
       getD b (base + 41 * mine b p 6 + 17) 0 ≡ 0 →
@@ -213,14 +232,13 @@ module _ (b : List ℕ) (base p : ℕ) (r : Walked b base p 13) (after : List �
       (7 + 17 * p) ((4, mine b p 6) ∷ (5, 14) ∷ (6, 0) ∷ (7, getD b 2 0) ∷ []) →
       answer ≡ ans.Did deed.Marked (entryIn b (base + 41 * mine b p 6)) →
       Stepped b p after answer
-  unfolding processorImage
   marks h e f =
       let q = queueIn b in
       let c = processorAt q p in
       let a = place (mine b p 6) (mine b p 7) in
-      let s = stepViewOf q c (place (mine b p 6) 1) in
-      arm b base p 13 (r .sound) (r .start) (r .nodes-high) (r .processors-high) (r .low)
-      (r .few) (r .early) (r .tagged) (stage.Delete (del.SetMark a)) refl refl
+      arm b base p (setTag w) (r .sound) (r .start) (r .nodes-high) (r .processors-high) (r .low)
+      (r .few) (r .early) (r .tagged) (setting w a)
+      (set-tag w (mine b p 6) (mine b p 7) (mine b p 8)) (set-busy w a)
       (record {
         effect = eff.Mark (mine b p 6);
         stage =
@@ -230,9 +248,8 @@ module _ (b : List ℕ) (base p : ℕ) (r : Walked b base p 13) (after : List �
             change.Keep;
         answer = ans.Did deed.Marked (entryIn b (base + 41 * mine b p 6));
       })
-      (rw (
-        marked-is b base p 13 r,
-        h,
+      (set-marks (stepViewOf q c) a w (rw (marked-is b base p (setTag w) r, h) refl)
+      ∙ rw (
         entry-is b base (r .start) (r .nodes-high)
             (mine b p 6) (omega (arith, r .node-low)),
         levels-is b,
@@ -240,4 +257,5 @@ module _ (b : List ℕ) (base p : ℕ) (r : Walked b base p 13) (after : List �
       ((17, p + 1) ∷ []) ((4, mine b p 6) ∷ (5, 14) ∷ (6, 0) ∷ (7, getD b 2 0) ∷ [])
       (omega (arith, r .node-low)) (omega arith, tt)
       (omega arith, (omega arith, (omega arith, (omega arith, tt))))
-      (put-mark (nodeAt q (mine b p 6)) (p + 1)) (refl) after e answer f
+      (put-mark (nodeAt q (mine b p 6)) (p + 1)) (set-starts c a w (mine b p 6) (getD b 2 0))
+      after e answer f

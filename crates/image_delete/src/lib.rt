@@ -1,2 +1,2 @@
-// The walk of a Delete_Min, in place.
+// The walk of a Delete_Min and of a Relaxed one, in place.
 pub mod walk;

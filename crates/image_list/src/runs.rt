@@ -12,14 +12,15 @@ use image::header;
 use image::numbers::number_from;
 use image_begin::begin_delete_min_at;
 use image_begin::begin_insert_at;
+use image_begin::begin_relaxed_at;
 use image_step::step_at;
 use rules::Answer;
 use rules::PlainAnswer;
 use rules::answers::plain;
 
 // The call whose five numbers begin at this place of the list: kind 1 begins an Insert, 2 a
-// Delete_Min, every other is a step. No `Call` is made of them: to store one and read it takes as
-// long as a step.
+// Delete_Min, 4 a Relaxed one; 3 and every other is a step. No `Call` is made of them: to store one
+// and read it takes as long as a step.
 fn turn(image: &mut [u8], calls: &[u32], i: usize) -> Answer
     requires { ⌜ Sound (now image) × (i + 5 ≤ length (now calls)) ⌝ }
     ensures { λ r.
@@ -32,6 +33,9 @@ fn turn(image: &mut [u8], calls: &[u32], i: usize) -> Answer
     }
     if kind == 2 {
         return begin_delete_min_at(image, p);
+    }
+    if kind == 4 {
+        return begin_relaxed_at(image, p);
     }
     step_at(image, p)
 }

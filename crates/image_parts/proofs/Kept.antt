@@ -14,6 +14,8 @@ use Rattle.record.specs.declared.stages.Removal.{Removal}
 use Rattle.record.specs.declared.stages.Removal.the-variants as rem
 use Rattle.record.specs.declared.stages.Delete.{Delete}
 use Rattle.record.specs.declared.stages.Delete.the-variants as del
+use Rattle.record.specs.declared.stages.Relaxed.{Relaxed}
+use Rattle.record.specs.declared.stages.Relaxed.the-variants as rlx
 use Rattle.record.specs.declared.stages.Job.{Job}
 use Rattle.record.specs.declared.stages.Job.the-variants as jobs
 use Rattle.record.specs.declared.stages.Stage.{Stage}
@@ -33,7 +35,7 @@ use Rattle.rules.specs.Calls.{decisionOf, processorOf, called}
 use Rattle.rules.proofs.Allowed.{of-call}
 use Rattle.rules.specs.Decide.{searchStep, seekStep, insertSearched, insertSought, insertStep}
 use Rattle.rules.specs.Decide.{removalSearched, removalSought, removalStep, deleteStep, decide}
-use Rattle.rules.specs.Decide.{nodeTried, ownTried}
+use Rattle.rules.specs.Decide.{nodeTried, ownTried, relaxedStep}
 use Rattle.rules.specs.Effects.{accepted}
 use Rattle.rules.specs.Runs.{Turn, calls, backlog, markers, after}
 use Rattle.image_parts.proofs.Arrays.{applied-sized}
@@ -95,10 +97,17 @@ delete-answers s (del.ReadNext a) = cond-elim Answers (s .nextIsTail) _ _ refl r
 delete-answers s (del.TestStamp a) = cond-elim Answers (s .stamped) _ _ refl refl
 delete-answers s (del.SetMark a) = cond-elim Answers (s .marked) _ _ refl refl
 
+relaxed-answers : (s : StepView) (d : Relaxed) → Answers (relaxedStep s d)
+relaxed-answers s (rlx.ReadNext a) =
+    cond-elim Answers (s .nextIsTail) _ _ refl
+    (cond-elim Answers (eqb (s .next) 0) _ _ refl refl)
+relaxed-answers s (rlx.SetMark a) = cond-elim Answers (s .marked) _ _ refl refl
+
 decision-answers : (s : StepView) (g : Stage) → Answers (decide s g)
 decision-answers s stage.Idle = refl
 decision-answers s (stage.Insert i) = insert-answers s i
 decision-answers s (stage.Delete d) = delete-answers s d
+decision-answers s (stage.Relaxed d) = relaxed-answers s d
 decision-answers s (stage.Removal j r) = removal-answers j s r
 
 module _ (q : Queue) (S : Sized q) where
@@ -113,6 +122,7 @@ module _ (q : Queue) (S : Sized q) where
   answers : (c : Call) → Answers (decisionOf q c)
   answers (call.Insert p due item height) = refl
   answers (call.DeleteMin p) = refl
+  answers (call.Relaxed p) = refl
   answers (call.Step p) = decision-answers _ (processorAt q p .stage)
 
   pub kept-call : (c : Call) → Kept q (called q c)

@@ -83,6 +83,7 @@ own-key : (g : Stage) (k : Key) → keyFor g k ≡ k
 own-key stage.Idle k = refl
 own-key (stage.Insert i) k = refl
 own-key (stage.Delete d) k = refl
+own-key (stage.Relaxed d) k = refl
 own-key (stage.Removal j r) k = refl
 
 module _ (b : List ℕ) (base p tag : ℕ) (r : Placed b base p tag) where

@@ -15,7 +15,7 @@ use Rattle.record.specs.Queues.{processorAt}
 use Rattle.record.specs.Stages.{isIdle, place}
 use Rattle.image.specs.Image.{queueIn, Sound}
 use Rattle.image.specs.Numbers.{number32}
-use Rattle.image.specs.Tags.{code, insertOf, deleteOf, removalOf, stageOf}
+use Rattle.image.specs.Tags.{code, insertOf, deleteOf, relaxedOf, removalOf, stageOf}
 use Rattle.image.proofs.Fields.{processor-is}
 use Rattle.rules.specs.declared.calls.Call.{Call}
 use Rattle.rules.specs.declared.calls.Call.the-variants as call
@@ -25,18 +25,20 @@ use Rattle.rules.proofs.ValidFacts.{valid-facts}
 use Rattle.image_parts.specs.Given.{idleIn, refusalIn}
 
 idle-tag : (t a i x : ℕ) → isIdle (stageOf (code t a i x)) ≡ eqb t 0
-idle-tag t a i x = go (eqb t 0) (leb t 10) (leb t 13)
+idle-tag t a i x = go (eqb t 0) (leb t 10) (leb t 13) (leb t 26)
   where
-    go : (y z w : Bool) →
+    go : (y z w v : Bool) →
         isIdle
         (cond y stage.Idle
         (cond z (stage.Insert (insertOf t (place a i) x))
         (cond w (stage.Delete (deleteOf t (place a i)))
-        (stage.Removal jobs.Deliver (removalOf t (place a i) x))))) ≡ y
-    go true z w = refl
-    go false true w = refl
-    go false false true = refl
-    go false false false = refl
+        (cond v (stage.Removal jobs.Deliver (removalOf t (place a i) x))
+        (stage.Relaxed (relaxedOf t (place a i))))))) ≡ y
+    go true z w v = refl
+    go false true w v = refl
+    go false false true v = refl
+    go false false false true = refl
+    go false false false false = refl
 
 pub idle-is : (b : List ℕ) (p : ℕ) → getD b 0 0 ≤ 16 → p < getD b 0 0 →
     isIdle (processorAt (queueIn b) p .stage) ≡ eqb (getD b (7 + 17 * p + 5) 0) 0

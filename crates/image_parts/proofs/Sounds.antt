@@ -15,6 +15,7 @@ use Rattle.record.specs.declared.stages.Seek.the-variants as seek
 use Rattle.record.specs.declared.stages.Insert.the-variants as ins
 use Rattle.record.specs.declared.stages.Removal.the-variants as rem
 use Rattle.record.specs.declared.stages.Delete.the-variants as del
+use Rattle.record.specs.declared.stages.Relaxed.the-variants as rlx
 use Rattle.record.specs.declared.stages.Job.the-variants as jobs
 use Rattle.record.specs.declared.stages.Stage.the-variants as stage
 use Rattle.record.specs.declared.stages.Stage.{Stage}
@@ -250,8 +251,8 @@ module _ (b : List ℕ) (p : ℕ) (s : Sound b) (r : Answer) where
   unfolding queueIn
   processors-high = valid-facts (queueIn b) (s .passes) .sizes .processorCount .high
 
--- a stage's tag is at most 26
-tag-low : (g : Stage) → stageCode g .tag ≤ 26
+-- a stage's tag is at most 28
+tag-low : (g : Stage) → stageCode g .tag ≤ 28
 tag-low stage.Idle = omega arith
 tag-low (stage.Insert (ins.Search a)) = omega arith
 tag-low (stage.Insert (ins.Copy a)) = omega arith
@@ -270,6 +271,8 @@ tag-low (stage.Removal jobs.Deliver (rem.Seek (seek.Release a b))) = omega arith
 tag-low (stage.Delete (del.ReadNext a)) = omega arith
 tag-low (stage.Delete (del.TestStamp a)) = omega arith
 tag-low (stage.Delete (del.SetMark a)) = omega arith
+tag-low (stage.Relaxed (rlx.ReadNext a)) = omega arith
+tag-low (stage.Relaxed (rlx.SetMark a)) = omega arith
 tag-low (stage.Removal jobs.Deliver (rem.Search a)) = omega arith
 tag-low (stage.Removal jobs.Deliver (rem.HoldOwn a)) = omega arith
 tag-low (stage.Removal jobs.Deliver (rem.Unlink a)) = omega arith
@@ -284,7 +287,7 @@ tag-of : (c : Processor) → getD (processorImage c) 5 0 ≡ stageCode (c .stage
 unfolding processorImage
 tag-of c = refl
 
-pub tag-high : (b : List ℕ) (p : ℕ) → Sound b → p < getD b 0 0 → mine b p 5 ≤ 26
+pub tag-high : (b : List ℕ) (p : ℕ) → Sound b → p < getD b 0 0 → mine b p 5 ≤ 28
 unfolding queueIn
 tag-high b p s low =
     let e : mine b p 5 ≡ stageCode (processorAt (queueIn b) p .stage) .tag =
@@ -302,9 +305,11 @@ pub beyond :
     (t ≡ 6 → ⊥) → (t ≡ 7 → ⊥) → (t ≡ 8 → ⊥) → (t ≡ 9 → ⊥) → (t ≡ 10 → ⊥) → (t ≡ 11 → ⊥) →
     (t ≡ 12 → ⊥) → (t ≡ 13 → ⊥) → (t ≡ 14 → ⊥) → (t ≡ 15 → ⊥) → (t ≡ 16 → ⊥) → (t ≡ 17 → ⊥) →
     (t ≡ 18 → ⊥) → (t ≡ 19 → ⊥) → (t ≡ 20 → ⊥) → (t ≡ 21 → ⊥) → (t ≡ 22 → ⊥) → (t ≡ 23 → ⊥) →
-    (t ≡ 24 → ⊥) → (t ≡ 25 → ⊥) → (t ≡ 26 → ⊥) → 26 < t
+    (t ≡ 24 → ⊥) → (t ≡ 25 → ⊥) → (t ≡ 26 → ⊥) → (t ≡ 27 → ⊥) → (t ≡ 28 → ⊥) → 28 < t
 beyond t n0 n1 n2 n3 n4 n5 n6 n7 n8 n9 n10 n11 n12 n13 n14 n15 n16 n17 n18 n19 n20 n21 n22 n23 n24
-    n25 n26 =
+    n25 n26 n27 n28 =
+    (more t 28
+    (more t 27
     (more t 26
     (more t 25
     (more t 24
@@ -328,7 +333,7 @@ beyond t n0 n1 n2 n3 n4 n5 n6 n7 n8 n9 n10 n11 n12 n13 n14 n15 n16 n17 n18 n19 n
     (more t 6
     (more t 5 (more t 4 (more t 3 (more t 2 (more t 1 (more t 0 (omega arith) n0) n1) n2) n3) n4)
     n5) n6) n7) n8) n9) n10) n11) n12) n13) n14) n15) n16) n17) n18) n19) n20) n21) n22) n23) n24)
-    n25) n26)
+    n25) n26) n27) n28)
 
-pub never : (b : List ℕ) (p : ℕ) → Sound b → p < getD b 0 0 → 26 < mine b p 5 → ⊥
+pub never : (b : List ℕ) (p : ℕ) → Sound b → p < getD b 0 0 → 28 < mine b p 5 → ⊥
 never b p s low high = omega (arith, tag-high b p s low)

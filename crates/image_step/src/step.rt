@@ -55,9 +55,9 @@ fn stage_step(image: &mut [u8], base: usize, p: usize) -> Answer
         8 => return insert_free_level(image, base, p),
         9 => return insert_free_node(image, base, p),
         10 => return stamp(image, base, p),
-        11 => return read_next(image, base, p),
+        11 => return read_next(image, base, p, false),
         12 => return test_stamp(image, base, p),
-        13 => return set_mark(image, base, p),
+        13 => return set_mark(image, base, p, false),
         14 => return search(image, base, p, true),
         15 => return hold_node(image, base, p),
         16 => return approach(image, base, p, true),
@@ -71,6 +71,8 @@ fn stage_step(image: &mut [u8], base: usize, p: usize) -> Answer
         24 => return free_level(image, base, p),
         25 => return free_node(image, base, p),
         26 => return retire(image, base, p),
+        27 => return read_next(image, base, p, true),
+        28 => return set_mark(image, base, p, true),
         _ => return Answer::Moved,
     }
 }

@@ -7,7 +7,7 @@ ghost use mathlib.Core.Bool.{true};
 ghost use Rattle.record_check.specs.Check.{valid as validOf};
 ghost use Rattle.rules.specs.Answers.{reported};
 ghost use Rattle.rules.specs.Calls.{calledValid, called, beginInsert, beginDeleteMin};
-ghost use Rattle.rules.specs.Calls.{step as stepOf};
+ghost use Rattle.rules.specs.Calls.{beginRelaxed, step as stepOf};
 use crate::applying::applied;
 use crate::deciding::decision_of;
 use crate::reading::idle_at;
@@ -80,6 +80,14 @@ pub fn begin_delete_min(q: Queue, processor: u32) -> Outcome
     ensures { λ r. ⌜ reported (r .answer) ≡ reported (beginDeleteMin q processor .answer) ⌝ }
 {
     call(q, Call::DeleteMin(processor))
+}
+
+// The begin of a Relaxed Delete_Min by a processor (02, W3).
+pub fn begin_relaxed(q: Queue, processor: u32) -> Outcome
+    ensures { λ r. ⌜ r ≡ beginRelaxed q processor ⌝ }
+    ensures { λ r. ⌜ reported (r .answer) ≡ reported (beginRelaxed q processor .answer) ⌝ }
+{
+    call(q, Call::Relaxed(processor))
 }
 
 // A step of a processor.

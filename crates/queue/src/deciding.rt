@@ -7,6 +7,7 @@ ghost use Rattle.record.specs.Queues.{processorAt};
 ghost use Rattle.rules.specs.Calls.{stepDecision, taken, decisionOf, refusalOf};
 use queue_begin::begins::delete_begins;
 use queue_begin::begins::insert_begins;
+use queue_begin::begins::relaxed_begins;
 use queue_decide::walk::decide;
 use queue_parts::reads::reading_place;
 use queue_parts::reads::step_view_from;
@@ -50,6 +51,7 @@ pub fn decision_of(q: Queue, c: Call, x: u8) -> Decision
             height as u8,
         ),
         Call::DeleteMin(_) => delete_begins(t),
+        Call::Relaxed(_) => relaxed_begins(t),
         Call::Step(p) => step_decision(q, p),
     }
 }

@@ -9,6 +9,7 @@ pub mod reading;
 
 pub use calls::begin_delete_min;
 pub use calls::begin_insert;
+pub use calls::begin_relaxed;
 pub use calls::call;
 pub use calls::call_valid;
 pub use calls::step;

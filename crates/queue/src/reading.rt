@@ -33,6 +33,7 @@ pub fn taken(q: Queue, c: Call) -> u8
     match c {
         Call::Insert(_, _, _, _) => choose(q),
         Call::DeleteMin(_) => 0,
+        Call::Relaxed(_) => 0,
         Call::Step(_) => 0,
     }
 }

@@ -1,9 +1,10 @@
 // What a begin decides.
 ghost use mathlib.Core.Path.{_≡_};
-ghost use Rattle.rules.specs.Calls.{insertBegins, deleteBegins};
+ghost use Rattle.rules.specs.Calls.{insertBegins, walkBegins, deleteBegins, relaxedBegins};
 use record::Delete;
 use record::Insert;
 use record::Place;
+use record::Relaxed;
 use record::Stage;
 use rules::Answer;
 use rules::Decision;
@@ -27,15 +28,29 @@ pub fn insert_begins(levels: u8, t: u32, x: u8, due: u32, item: u32, height: u8)
     }
 }
 
-// A Delete_Min walks from the head at level 1.
-pub fn delete_begins(t: u32) -> Decision
-    ensures { λ r. ⌜ r ≡ deleteBegins t ⌝ }
+// A walk begins with the stage g at the time t: it owns no node, and leaves all nodes as they are.
+fn walk_begins(t: u32, g: Stage) -> Decision
+    ensures { λ r. ⌜ r ≡ walkBegins t g ⌝ }
 {
     Decision {
         effect: Effect::Keep,
-        stage: Stage::Delete(Delete::ReadNext(Place::HEAD)),
+        stage: g,
         own: 0,
         change: ProcessorChange::Begin,
         answer: Answer::Began(t),
     }
+}
+
+// A Delete_Min walks from the head at level 1.
+pub fn delete_begins(t: u32) -> Decision
+    ensures { λ r. ⌜ r ≡ deleteBegins t ⌝ }
+{
+    walk_begins(t, Stage::Delete(Delete::ReadNext(Place::HEAD)))
+}
+
+// So does a Relaxed one (02, W3), with a stage of its own.
+pub fn relaxed_begins(t: u32) -> Decision
+    ensures { λ r. ⌜ r ≡ relaxedBegins t ⌝ }
+{
+    walk_begins(t, Stage::Relaxed(Relaxed::ReadNext(Place::HEAD)))
 }

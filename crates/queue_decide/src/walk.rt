@@ -1,13 +1,19 @@
-// A step of a Delete_Min before its mark, W1 to W3; and the step of any stage.
+// A step of a Delete_Min before its mark, W1 to W3, and of a Relaxed one (02, W3); and the step of
+// any stage.
 ghost use mathlib.Core.Path.{_≡_};
+ghost use mathlib.Core.Bool.{cond};
+ghost use Rattle.rules.specs.declared.answers.Answer.the-variants as ans;
+ghost use Rattle.rules.specs.declared.decisions.Effect.the-variants as eff;
+ghost use Rattle.rules.specs.Decide.{moved as movedOf, answers as answersOf};
 ghost use Rattle.rules.specs.Decide.{walkOn, stampTest, marking as markingOf, markTest};
-ghost use Rattle.rules.specs.Decide.{deleteStep, decide as decideOf};
+ghost use Rattle.rules.specs.Decide.{deleteStep, relaxedOn, relaxedStep, decide as decideOf};
 use crate::insert::insert_step;
 use crate::removal::removal_step;
 use crate::removal::removing;
 use record::Delete;
 use record::Job;
 use record::Place;
+use record::Relaxed;
 use record::Removal;
 use record::Stage;
 use record::stages::at;
@@ -20,16 +26,24 @@ use rules::StepView;
 use rules::moves::answers;
 use rules::moves::moved;
 
-// W1: on to the next node of level 1, or EMPTY at the end.
-fn walk_on(s: StepView) -> Decision
-    ensures { λ r. ⌜ r ≡ walkOn s ⌝ }
+// W1 of any walk: on to the next node of level 1, with the stage `on`, or EMPTY at the end.
+fn on_or_empty(s: StepView, on: Stage) -> Decision
+    ensures { λ r.
+        ⌜ r ≡ cond (s .nextIsTail) (answersOf eff.Keep ans.Empty) (movedOf s eff.Keep on) ⌝ }
 {
     if s.nextIsTail {
         answers(Effect::Keep, Answer::Empty)
     } else {
-        let b = at(s.next, 1);
-        moved(s, Effect::Keep, Stage::Delete(Delete::TestStamp(b)))
+        moved(s, Effect::Keep, on)
     }
+}
+
+// W1.
+fn walk_on(s: StepView) -> Decision
+    ensures { λ r. ⌜ r ≡ walkOn s ⌝ }
+{
+    let b = at(s.next, 1);
+    on_or_empty(s, Stage::Delete(Delete::TestStamp(b)))
 }
 
 // W2: a node whose stamp is older than the operation may be marked; any other is walked past.
@@ -59,12 +73,12 @@ fn marking(s: StepView, job: Job, a: Place) -> Decision
     }
 }
 
-// W3.
-fn mark_test(s: StepView, a: Place) -> Decision
-    ensures { λ r. ⌜ r ≡ markTest s a ⌝ }
+// W3: a node that is marked already is walked past, to the stage `past`.
+fn mark_test(s: StepView, a: Place, past: Stage) -> Decision
+    ensures { λ r. ⌜ r ≡ markTest s a past ⌝ }
 {
     if s.marked {
-        moved(s, Effect::Keep, Stage::Delete(Delete::ReadNext(a)))
+        moved(s, Effect::Keep, past)
     } else {
         marking(s, Job::Deliver, a)
     }
@@ -76,7 +90,29 @@ pub fn delete_step(s: StepView, g: Delete) -> Decision
     match g {
         Delete::ReadNext(_) => walk_on(s),
         Delete::TestStamp(a) => stamp_test(s, a),
-        Delete::SetMark(a) => mark_test(s, a),
+        Delete::SetMark(a) => mark_test(s, a, Stage::Delete(Delete::ReadNext(a))),
+    }
+}
+
+// W1 of a Relaxed Delete_Min: straight on to the mark. The head has no mark: a walk that was led
+// back there reads on from it.
+fn relaxed_on(s: StepView) -> Decision
+    ensures { λ r. ⌜ r ≡ relaxedOn s ⌝ }
+{
+    let b = at(s.next, 1);
+    if s.next == 0 {
+        on_or_empty(s, Stage::Relaxed(Relaxed::ReadNext(b)))
+    } else {
+        on_or_empty(s, Stage::Relaxed(Relaxed::SetMark(b)))
+    }
+}
+
+pub fn relaxed_step(s: StepView, g: Relaxed) -> Decision
+    ensures { λ r. ⌜ r ≡ relaxedStep s g ⌝ }
+{
+    match g {
+        Relaxed::ReadNext(_) => relaxed_on(s),
+        Relaxed::SetMark(a) => mark_test(s, a, Stage::Relaxed(Relaxed::ReadNext(a))),
     }
 }
 
@@ -88,6 +124,7 @@ pub fn decide(s: StepView, g: Stage) -> Decision
         Stage::Idle => moved(s, Effect::Keep, Stage::Idle),
         Stage::Insert(i) => insert_step(s, i),
         Stage::Delete(d) => delete_step(s, d),
+        Stage::Relaxed(x) => relaxed_step(s, x),
         Stage::Removal(job, r) => removal_step(s, job, r),
     }
 }

@@ -1,6 +1,6 @@
 // The calls on a lent record. The record after the call and the answer are those of the defined
 // outcome: a refused call gives the record as it came, so that it stays as it was.
-ghost use Rattle.rules.specs.Calls.{beginInsert, beginDeleteMin, step as stepOf};
+ghost use Rattle.rules.specs.Calls.{beginInsert, beginDeleteMin, beginRelaxed, step as stepOf};
 ghost use Rattle.queue_lent.specs.Lent.{Gave};
 use record::Queue;
 use rules::Answer;
@@ -20,6 +20,15 @@ pub fn begin_delete_min(q: &mut Queue, processor: u32) -> Answer
     ensures { λ a. ⌜ Gave (beginDeleteMin (now (q .entry)) processor) (now (q .exit)) a ⌝ }
 {
     let o = queue::begin_delete_min(*q, processor);
+    *q = o.queue;
+    o.answer
+}
+
+// The begin of a Relaxed Delete_Min by a processor (02, W3).
+pub fn begin_relaxed(q: &mut Queue, processor: u32) -> Answer
+    ensures { λ a. ⌜ Gave (beginRelaxed (now (q .entry)) processor) (now (q .exit)) a ⌝ }
+{
+    let o = queue::begin_relaxed(*q, processor);
     *q = o.queue;
     o.answer
 }

@@ -12,6 +12,7 @@ use record::Key;
 use record::Node;
 use record::Place;
 use record::Processor;
+use record::Relaxed;
 use record::Stage;
 use record::levels::number_at;
 use record::nodes::stamped_before;
@@ -39,6 +40,16 @@ fn walk_place(d: Delete) -> Place
     }
 }
 
+// So does a Relaxed one (02, W3).
+fn relaxed_place(x: Relaxed) -> Place
+    ensures { λ r. ⌜ r ≡ readingPlace (stage.Relaxed x) ⌝ }
+{
+    match x {
+        Relaxed::ReadNext(a) => at(a.node, 1),
+        Relaxed::SetMark(a) => at(a.node, 1),
+    }
+}
+
 // The place that a step of this stage reads at.
 pub fn reading_place(g: Stage) -> Place
     ensures { λ r. ⌜ r ≡ readingPlace g ⌝ }
@@ -47,6 +58,7 @@ pub fn reading_place(g: Stage) -> Place
         Stage::Idle => Place::HEAD,
         Stage::Insert(i) => carried_place(Stage::Insert(i)),
         Stage::Delete(d) => walk_place(d),
+        Stage::Relaxed(x) => relaxed_place(x),
         Stage::Removal(job, r) => carried_place(Stage::Removal(job, r)),
     }
 }
@@ -59,6 +71,7 @@ fn key_for(g: Stage, k: Key) -> Key
         Stage::Idle => k,
         Stage::Insert(_) => k,
         Stage::Delete(_) => k,
+        Stage::Relaxed(_) => k,
         Stage::Removal(_, _) => k,
     }
 }

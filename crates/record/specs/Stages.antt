@@ -12,6 +12,8 @@ use Rattle.record.specs.declared.stages.Removal.{Removal}
 use Rattle.record.specs.declared.stages.Removal.the-variants as rem
 use Rattle.record.specs.declared.stages.Delete.{Delete}
 use Rattle.record.specs.declared.stages.Delete.the-variants as del
+use Rattle.record.specs.declared.stages.Relaxed.{Relaxed}
+use Rattle.record.specs.declared.stages.Relaxed.the-variants as rlx
 use Rattle.record.specs.declared.stages.Stage.{Stage}
 use Rattle.record.specs.declared.stages.Stage.the-variants as stage
 use Rattle.record.specs.declared.stages.Carried.{Carried}
@@ -100,6 +102,11 @@ deleteRow (del.ReadNext a) {-    W1 -} = row 11 ○ ● ● ○ ○ ○ ○ a
 deleteRow (del.TestStamp a) {-   W2 -} = row 12 ○ ● ● ○ ○ ○ ○ a
 deleteRow (del.SetMark a) {-     W3 -} = row 13 ○ ● ● ● ○ ○ ○ a
 
+-- a Relaxed Delete_Min (02, W3)
+abbrev pub relaxedRow : Relaxed → Row
+relaxedRow (rlx.ReadNext a) {-   W1 -} = row 27 ○ ● ● ○ ○ ○ ○ a
+relaxedRow (rlx.SetMark a) {-    W3 -} = row 28 ○ ● ● ● ○ ○ ○ a
+
 -- what follows a mark, whatever its job
 abbrev pub removalRow : Removal → Row
 removalRow (rem.Search a) {- Search -} = row 14 ● ● ○ ○ ○ ○ ○ a
@@ -117,11 +124,12 @@ abbrev pub rowOf : Stage → Row
 rowOf stage.Idle {-                 -} = row 00 ○ ○ ○ ○ ○ ○ ○ (place 0 1)
 rowOf (stage.Insert i) = insertRow i
 rowOf (stage.Delete d) = deleteRow d
+rowOf (stage.Relaxed x) = relaxedRow x
 rowOf (stage.Removal job r) = removalRow r
 
--- the tags are 0 to 26
+-- the tags are 0 to 28
 abbrev pub tagCount : ℕ
-tagCount = 27
+tagCount = 29
 
 -- the numbers that a stage carries
 abbrev pub carriedOf : Row → Carried
@@ -139,4 +147,5 @@ abbrev pub isIdle : Stage → Bool
 isIdle stage.Idle = true
 isIdle (stage.Insert i) = false
 isIdle (stage.Delete d) = false
+isIdle (stage.Relaxed x) = false
 isIdle (stage.Removal job r) = false

@@ -20,6 +20,7 @@ pub use stages::Delete;
 pub use stages::Insert;
 pub use stages::Job;
 pub use stages::Place;
+pub use stages::Relaxed;
 pub use stages::Removal;
 pub use stages::Seek;
 pub use stages::Stage;

@@ -2,8 +2,8 @@
 // begin time, own node and saved nodes. The table in specs/Stages.antt ties each case to its line
 // of document 01.
 ghost use mathlib.Core.Path.{_≡_};
-ghost use mathlib.Core.Bool.{false};
-ghost use Rattle.record.specs.Stages.{seekRow, insertRow, deleteRow, removalRow};
+ghost use mathlib.Core.Bool.{true, false};
+ghost use Rattle.record.specs.Stages.{seekRow, insertRow, deleteRow, relaxedRow, removalRow};
 ghost use Rattle.record.specs.Stages.{carriedOf, carried, place, isIdle};
 
 // A node and a level, from 1.
@@ -58,10 +58,17 @@ pub enum Delete {
     SetMark(Place),
 }
 
+// A Relaxed Delete_Min before its mark (02, W3): W1 and W3, with no test of the stamp between.
+pub enum Relaxed {
+    ReadNext(Place),
+    SetMark(Place),
+}
+
 pub enum Stage {
     Idle,
     Insert(Insert),
     Delete(Delete),
+    Relaxed(Relaxed),
     Removal(Job, Removal),
 }
 
@@ -95,6 +102,7 @@ pub fn is_idle(g: Stage) -> bool
         Stage::Idle => true,
         Stage::Insert(_) => false,
         Stage::Delete(_) => false,
+        Stage::Relaxed(_) => false,
         Stage::Removal(_, _) => false,
     }
 }
@@ -107,6 +115,17 @@ fn carrying(own: bool, a: Place) -> Carried
         place: a,
         ahead: a.node,
         marking: false,
+    }
+}
+
+fn marking_at(a: Place) -> Carried
+    ensures { λ r. ⌜ r ≡ record { own = false; place = a; ahead = a .node; marking = true } ⌝ }
+{
+    Carried {
+        own: false,
+        place: a,
+        ahead: a.node,
+        marking: true,
     }
 }
 
@@ -163,12 +182,16 @@ fn delete_carried(g: Delete) -> Carried
     match g {
         Delete::ReadNext(a) => carrying(false, a),
         Delete::TestStamp(a) => carrying(false, a),
-        Delete::SetMark(a) => Carried {
-            own: false,
-            place: a,
-            ahead: a.node,
-            marking: true,
-        },
+        Delete::SetMark(a) => marking_at(a),
+    }
+}
+
+fn relaxed_carried(g: Relaxed) -> Carried
+    ensures { λ r. ⌜ r ≡ carriedOf (relaxedRow g) ⌝ }
+{
+    match g {
+        Relaxed::ReadNext(a) => carrying(false, a),
+        Relaxed::SetMark(a) => marking_at(a),
     }
 }
 
@@ -179,6 +202,7 @@ pub fn carried_by(g: Stage) -> Carried
         Stage::Idle => carrying(false, Place::HEAD),
         Stage::Insert(i) => insert_carried(i),
         Stage::Delete(d) => delete_carried(d),
+        Stage::Relaxed(x) => relaxed_carried(x),
         Stage::Removal(_j, r) => removal_carried(r),
     }
 }

@@ -20,7 +20,12 @@ use Rattle.rules.specs.declared.answers.Answer.the-variants as ans
 use Rattle.rules.specs.declared.answers.Deed.{Deed}
 use Rattle.rules.specs.declared.answers.Deed.the-variants as deed
 use Rattle.rules.specs.declared.answers.Entry.{Entry}
-use Rattle.rules.specs.Book.{BookEntry, Open, nothing, inserting, walking, unlinking, Book, Verdict, agrees, differs, agreesIf, now, afterCall, pick, gives, withAnswer, withMarked, withHandOut, beginsInsert, beginsDelete, inserted, marks, empties, handsOut, moves, feedBegin, feedInsert, feedDelete, feedDeed, feedStep, feed, thenFeed, judged}
+use Rattle.rules.specs.Book.{BookEntry, Open, nothing, inserting, walking, relaxing}
+use Rattle.rules.specs.Book.{unlinking, Book, Verdict, agrees, differs, agreesIf, now, afterCall, pick}
+use Rattle.rules.specs.Book.{relaxedMay, gives, withAnswer, withMarked, withHandOut, begins}
+use Rattle.rules.specs.Book.{beginsInsert, inserted, afterMark, marks, empties, handsOut}
+use Rattle.rules.specs.Book.{moves, feedBegin, feedInsert, feedDelete, feedRelaxed, feedDeed}
+use Rattle.rules.specs.Book.{feedStep, feed, thenFeed, judged}
 use Rattle.rules.specs.Book.{pendingIn, feedBacklog, heldIn, deliverersListed, feedMarkers}
 use Rattle.rules.specs.declared.calls.Call.the-variants as call
 use Rattle.record_markers.specs.declared.listing.Listed.{Listed}
@@ -87,37 +92,50 @@ module _ (flag : BookEntry → Bool) (t : ℕ) (answer-keeps : (l : BookEntry) (
     insert-begins p due item x nothing = right-if (Stays flag t) (eqb x (now b)) _ (λ e. written b p (inserting x) x _ (λ g. absurd (omega (arith, eqb-true x (now b) e))) S)
     insert-begins p due item x (inserting y) = tt
     insert-begins p due item x (walking y) = tt
+    insert-begins p due item x (relaxing y) = tt
     insert-begins p due item x (unlinking y) = tt
 
-    delete-begins : (p x : ℕ) (o : Open) → K (beginsDelete b p x o)
-    delete-begins p x nothing = right-if (Stays flag t) (eqb x (now b)) _ (λ e. opens-only p (walking x))
-    delete-begins p x (inserting y) = tt
-    delete-begins p x (walking y) = tt
-    delete-begins p x (unlinking y) = tt
+    walk-begins : (p x : ℕ) (opened o : Open) → K (begins b p x (b .entry) opened o)
+    walk-begins p x opened nothing =
+        right-if (Stays flag t) (eqb x (now b)) _ (λ e. opens-only p opened)
+    walk-begins p x opened (inserting y) = tt
+    walk-begins p x opened (walking y) = tt
+    walk-begins p x opened (relaxing y) = tt
+    walk-begins p x opened (unlinking y) = tt
 
     insert-answers : (p : ℕ) (e : Entry) (o : Open) → K (inserted b p e o)
     insert-answers p e nothing = tt
     insert-answers p e (inserting x) = right-if (Stays flag t) (gives b e x) _ (λ _. written b p nothing x _ (λ g. answer-keeps (b .entry x) (now b) (flagged x g)) S)
     insert-answers p e (walking y) = tt
+    insert-answers p e (relaxing y) = tt
     insert-answers p e (unlinking y) = tt
+
+    marked : (p x : ℕ) → Stays flag t (afterMark b p x)
+    marked p x = written b p (unlinking x) x _ (λ g. mark-keeps (b .entry x) (flagged x g)) S
 
     delete-marks : (p : ℕ) (e : Entry) (o : Open) → K (marks b p e o)
     delete-marks p e nothing = tt
     delete-marks p e (inserting y) = tt
     delete-marks p e (walking T) = right-if (Stays flag t) (ltb 0 (pick b T) && gives b e (pick b T)) _
-        (λ _. written b p (unlinking (pick b T)) (pick b T) _ (λ g. mark-keeps (b .entry (pick b T)) (flagged (pick b T) g)) S)
+        (λ _. marked p (pick b T))
+    delete-marks p e (relaxing T) =
+        right-if (Stays flag t) (relaxedMay b T (e .ticket) && gives b e (e .ticket)) _
+        (λ _. marked p (e .ticket))
     delete-marks p e (unlinking y) = tt
 
     delete-empties : (p : ℕ) (o : Open) → K (empties b p o)
     delete-empties p nothing = tt
     delete-empties p (inserting y) = tt
     delete-empties p (walking T) = right-if (Stays flag t) (eqb (pick b T) 0) _ (λ _. opens-only p nothing)
+    delete-empties p (relaxing T) =
+        right-if (Stays flag t) (eqb (pick b T) 0) _ (λ _. opens-only p nothing)
     delete-empties p (unlinking y) = tt
 
     delete-hands-out : (p : ℕ) (e : Entry) (o : Open) → K (handsOut b p e o)
     delete-hands-out p e nothing = tt
     delete-hands-out p e (inserting y) = tt
     delete-hands-out p e (walking y) = tt
+    delete-hands-out p e (relaxing y) = tt
     delete-hands-out p e (unlinking x) = right-if (Stays flag t) (gives b e x && not (b .entry x .handedOut)) _
         (λ _. written b p nothing x _ (λ g. hand-out-keeps (b .entry x) (flagged x g)) S)
 
@@ -125,6 +143,7 @@ module _ (flag : BookEntry → Bool) (t : ℕ) (answer-keeps : (l : BookEntry) (
     step-moves nothing = tt
     step-moves (inserting y) = same
     step-moves (walking y) = same
+    step-moves (relaxing y) = same
     step-moves (unlinking y) = same
 
     fed-begin : (begun : ℕ → Verdict) (a : Answer) → ((x : ℕ) → K (begun x)) → K (feedBegin b begun a)
@@ -139,7 +158,10 @@ module _ (flag : BookEntry → Bool) (t : ℕ) (answer-keeps : (l : BookEntry) (
     fed-insert p due item a = fed-begin _ a (λ x. insert-begins p due item x (b .opened p))
 
     fed-delete : (p : ℕ) (a : Answer) → K (feedDelete b p a)
-    fed-delete p a = fed-begin _ a (λ x. delete-begins p x (b .opened p))
+    fed-delete p a = fed-begin _ a (λ x. walk-begins p x (walking x) (b .opened p))
+
+    fed-relaxed : (p : ℕ) (a : Answer) → K (feedRelaxed b p a)
+    fed-relaxed p a = fed-begin _ a (λ x. walk-begins p x (relaxing x) (b .opened p))
 
     fed-deed : (p : ℕ) (e : Entry) (d : Deed) → K (feedDeed b p e d)
     fed-deed p e deed.Marked = delete-marks p e (b .opened p)
@@ -168,6 +190,7 @@ module _ (flag : BookEntry → Bool) (t : ℕ) (answer-keeps : (l : BookEntry) (
     fed : (c : Turn) (r : Reply) → K (feed b c r)
     fed (calls (call.Insert p due item height)) (answered a) = fed-insert p due item a
     fed (calls (call.DeleteMin p)) (answered a) = fed-delete p a
+    fed (calls (call.Relaxed p)) (answered a) = fed-relaxed p a
     fed (calls (call.Step p)) (answered a) = fed-step p a
     fed (calls c) (counted k) = tt
     fed (calls c) (listed k area) = tt

@@ -1,11 +1,11 @@
 -- Every step's answer agrees with the book.
 use mathlib.Core.Path.{_≡_, refl, sym, ap, subst, _∙_}
-use mathlib.Core.Bool.{Bool, true, false, true≢false}
+use mathlib.Core.Bool.{true, false, _||_, not, true≢false}
 use Prim.Native.Nat.{ℕ, suc, _+_, _≤_, _<_}
 use native.Mathlib.Omega.{arith}
 use native.Mathlib.Decide.{ℕ-discrete}
 use lib.Dec.{ltb, leb, eqb}
-use borrow.Author.Tests.{ltb-false, eqb-true, lt-ltb, le-ltb, eq-eqb}
+use borrow.Author.Tests.{ltb-false, eqb-true, lt-ltb, le-ltb, eq-eqb, ne-eqb}
 use Rattle.record.specs.declared.stages.Place.{Place}
 use Rattle.record.specs.declared.stages.Seek.{Seek}
 use Rattle.record.specs.declared.stages.Seek.the-variants as seek
@@ -15,11 +15,14 @@ use Rattle.record.specs.declared.stages.Delete.{Delete}
 use Rattle.record.specs.declared.stages.Delete.the-variants as del
 use Rattle.record.specs.declared.stages.Removal.{Removal}
 use Rattle.record.specs.declared.stages.Removal.the-variants as rem
+use Rattle.record.specs.declared.stages.Relaxed.the-variants as rlx
 use Rattle.record.specs.declared.stages.Stage.{Stage}
 use Rattle.record.specs.declared.stages.Job.{Job}
 use Rattle.record.specs.declared.stages.Job.the-variants as jobs
 use Rattle.record.specs.declared.stages.Stage.the-variants as stage
+use Rattle.rules.specs.declared.answers.Answer.the-variants as ans
 use Rattle.rules.specs.declared.answers.Entry.{Entry}
+use Rattle.rules.specs.declared.decisions.Effect.the-variants as eff
 use Rattle.rules.specs.declared.decisions.Decision.{Decision}
 use Rattle.rules.specs.declared.decisions.StepView.{StepView}
 use Rattle.rules.specs.declared.decisions.Searched.{Searched}
@@ -28,21 +31,24 @@ use Rattle.rules.specs.declared.decisions.Sought.{Sought}
 use Rattle.rules.specs.declared.decisions.Sought.the-variants as sght
 use Rattle.record.specs.Stages.{place}
 use Rattle.rules.specs.Decide.{insertSearched, insertSought, removalSearched, removalSought, seekStep, searchStep}
-use Rattle.rules.specs.Decide.{placeTried, nodeTried, ownTried}
+use Rattle.rules.specs.Decide.{moved, answers, marking, placeTried, nodeTried, ownTried}
 use Rattle.record.specs.Stages.{seekPart}
-use Rattle.laws.proofs.Booleans.{cond-elim}
+use Rattle.laws.proofs.Booleans.{cond-cases, cond-elim}
 use Rattle.laws.specs.Update.{changedAt}
 use Rattle.laws.proofs.Updating.{changed-same, changed-other}
 use Rattle.rules.proofs.Put.{ever}
-use Rattle.rules.proofs.View.{Pr, View, info, walkInfo, claim, key, tail}
+use Rattle.rules.proofs.View.{Pr, View, Info, info, walkInfo, claim, key, tail}
 use Rattle.rules.proofs.Inv.{Inv, Eligible, Inserts, NodeHeld}
 use Rattle.rules.proofs.Assemble.{ticked}
 use Rattle.rules.proofs.Machine.{decision, entryAt, view, withStatus}
 use Rattle.rules.proofs.Move.{busy-at, kind-at}
 use Rattle.rules.proofs.InsertSteps.{idle}
-use Rattle.rules.proofs.WalkSteps.{empty-right, mark-able, mark-first}
+use Rattle.rules.proofs.WalkSteps.{empty-right, mark-able, mark-first, mark-place}
 use Rattle.rules.proofs.Begin.{rank-entry}
-use Rattle.rules.specs.Book.{BookEntry, Open, nothing, unlinking, Book, afterCall, pick, gives, withAnswer, withMarked, withHandOut}
+use Rattle.rules.specs.Book.{BookEntry, Open, nothing, Book, afterCall, earlier, pick}
+use Rattle.rules.specs.Book.{gives, withAnswer, withMarked, withHandOut, afterMark}
+use Rattle.rules.specs.Book.{emptyAt, empties}
+use Rattle.rules.proofs.Ranks.{entries-before}
 use Rattle.rules.proofs.Picks.{order, Candidate, Picked, none, one, picked}
 use Rattle.rules.proofs.Rel.{opens, lineOf, Found, Filed, Marker, Rel, Booked, quiet, Quiet, quiet-booked}
 use Rattle.rules.proofs.Rel.{still-past}
@@ -266,13 +272,18 @@ module _ (v : View) (u : ℕ → ℕ → ℕ) (I : Inv v u) (H : NodeHeld v) (ro
   open-at s e = R .opened p ∙ ap (λ (k : Stage). opens k (v .pr p .begin) (v .tick (v .pr p .own)))
       e
 
+  -- a node's due, item and ticket are those of the entry under its ticket
+  tells : (n : ℕ) → Filed (b .entry) (v .tick) (v .due) (v .item) n →
+      gives b (entryAt v n) (v .tick n) ≡ true
+  tells n F = gives-true b (entryAt v n) (v .tick n) (sym (F .due)) (sym (F .item)) refl
+
   stamp-booked : v .pr p .stage ≡ stage.Insert ins.Stamp → Booked v p b (decision v p (stage.Insert ins.Stamp))
   stamp-booked e =
       let s = stage.Insert ins.Stamp in
       let o = v .pr p .own in
       let S = busy-at v u I p s e (omega arith) .inserts refl in
       let F = R .filed p (kind-at v u I p s e) in
-      let same = gives-true b (entryAt v o) (v .tick o) (sym (F .due)) (sym (F .item)) refl in
+      let same = tells o F in
       record {
         after = afterCall b (changedAt (b .entry) (v .tick o) (withAnswer (b .entry (v .tick o)) (b .count + 1))) p nothing;
         fed = rw (open-at s e, same);
@@ -299,7 +310,7 @@ module _ (v : View) (u : ℕ → ℕ → ℕ) (I : Inv v u) (H : NodeHeld v) (ro
       let S = busy-at v u I p (stage.Removal job rem.Retire) e (omega arith) .removes refl in
       let l = R .kept o (S .low) (S .high) (S .used) in
       let F = in-use-filed v b R o (S .low) (S .high) (S .used) in
-      let same = gives-true b (entryAt v o) (v .tick o) (sym (F .due)) (sym (F .item)) refl in
+      let same = tells o F in
       let marked : b .entry (v .tick o) .marked ≡ true = ap (λ (x : BookEntry). x .marked) l ∙ lt-ltb 0 (v .mk o) (S .marked) in
       go job e same (ap (λ (x : BookEntry). x .handedOut) l)
       (λ x h d i m y. rel-line v u I b R p (idle (v .top) (v .pr p)) (v .mk) (v .st)
@@ -343,21 +354,57 @@ module _ (v : View) (u : ℕ → ℕ → ℕ) (I : Inv v u) (H : NodeHeld v) (ro
       pick-none v u I b R (v .pr p .begin)
       (λ n L. empty-right v u I room p s e 2 0 a is H refl t n L)
 
-  empty-booked : (a : Place) → v .pr p .stage ≡ stage.Delete (del.ReadNext a) → Booked v p b (decision v p (stage.Delete (del.ReadNext a)))
-  empty-booked a e = go (eqb (v .fwd (a .node) 1) (tail v)) refl
-    where
-      go : (t : Bool) → eqb (v .fwd (a .node) 1) (tail v) ≡ t → Booked v p b (decision v p (stage.Delete (del.ReadNext a)))
-      go true x = rw x (record {
-        after = afterCall b (b .entry) p nothing;
-        fed = rw (
-          open-at (stage.Delete (del.ReadNext a)) e,
-          eq-eqb (pick b (v .pr p .begin)) 0
-              (nothing-left (stage.Delete (del.ReadNext a)) e a refl (eqb-true _ _ x)),
-        );
-        rel = rel-open v b R p (idle (v .top) (v .pr p)) nothing refl (λ k. omega arith)
-            (λ k. omega (arith, kind-at v u I p (stage.Delete (del.ReadNext a)) e));
+  -- what a step of a walk reads
+  abbrev sees : Place → StepView
+  sees a = view v (v .pr p) (key v (v .pr p .own)) (place (a .node) 1)
+
+  -- a step of a walk that moves on
+  walks-on : (s : Stage) → v .pr p .stage ≡ s → 1 ≤ info (v .ht (v .pr p .own)) s .kind →
+      (a : Place) (g : Stage) → ((h : ℕ) → info h g .kind ≡ info h s .kind) →
+      ((T t : ℕ) → opens g T t ≡ opens s T t) → Booked v p b (moved (sees a) eff.Keep g)
+  walks-on s e k a g kind opening =
+      quiet-step s e k _ (record {
+        answer = tt;
+        effect = tt;
+        own-same = refl;
+        begin-same = λ t b. refl;
+        kind-same = kind;
+        opens-same = opening;
       })
-      go false x = rw x (quiet-step (stage.Delete (del.ReadNext a)) e (omega arith) _ (record { answer = tt; effect = tt; own-same = refl; begin-same = λ t b. refl; kind-same = λ h. refl; opens-same = λ t b. refl }))
+
+  -- EMPTY in the book, where a walk of either kind is open
+  empty-booked : (s : Stage) → v .pr p .stage ≡ s → (a : Place) →
+      info (v .ht (v .pr p .own)) s ≡ walkInfo 2 0 a → v .fwd (a .node) 1 ≡ tail v →
+      empties b p (opens s (v .pr p .begin) (v .tick (v .pr p .own)))
+      ≡ emptyAt b p (v .pr p .begin) → Booked v p b (answers eff.Keep ans.Empty)
+  empty-booked s e a is t opened = record {
+    after = afterCall b (b .entry) p nothing;
+    fed = rw (
+      open-at s e,
+      opened,
+      eq-eqb (pick b (v .pr p .begin)) 0 (nothing-left s e a is t),
+    );
+    rel = rel-open v b R p (idle (v .top) (v .pr p)) nothing refl (λ k. omega arith)
+        (λ k. omega (arith, kind-at v u I p s e, ap (λ (f : Info). f .kind) is));
+  }
+
+  next-booked : (a : Place) → v .pr p .stage ≡ stage.Delete (del.ReadNext a) →
+      Booked v p b (decision v p (stage.Delete (del.ReadNext a)))
+  next-booked a e =
+      let s = stage.Delete (del.ReadNext a) in
+      cond-cases (Booked v p b) (eqb (v .fwd (a .node) 1) (tail v)) _ _
+      (λ x. empty-booked s e a refl (eqb-true _ _ x) refl)
+      (λ x. walks-on s e (omega arith) a _ (λ h. refl) (λ T t. refl))
+
+  relaxed-next-booked : (a : Place) → v .pr p .stage ≡ stage.Relaxed (rlx.ReadNext a) →
+      Booked v p b (decision v p (stage.Relaxed (rlx.ReadNext a)))
+  relaxed-next-booked a e =
+      let s = stage.Relaxed (rlx.ReadNext a) in
+      cond-cases (Booked v p b) (eqb (v .fwd (a .node) 1) (tail v)) _ _
+      (λ x. empty-booked s e a refl (eqb-true _ _ x) refl)
+      (λ x. cond-elim (Booked v p b) (eqb (v .fwd (a .node) 1) 0) _ _
+      (walks-on s e (omega arith) a _ (λ h. refl) (λ T t. refl))
+      (walks-on s e (omega arith) a _ (λ h. refl) (λ T t. refl)))
 
   -- the mark of a node in use, in the book
   rel-mark : claim v p .kind ≡ 2 → (job : Job) (n : ℕ) → 1 ≤ n → n ≤ v .nodes → v .us n ≡ 1 →
@@ -377,27 +424,97 @@ module _ (v : View) (u : ℕ → ℕ → ℕ) (I : Inv v u) (H : NodeHeld v) (ro
       (λ q nu m. let e : q ≡ p = omega (arith, changed-same (v .mk) n (suc p)) in
       rw (e, changed-same (v .pr) p c) (refl, refl))
 
-  mark-booked : (a : Place) → v .pr p .stage ≡ stage.Delete (del.SetMark a) → Booked v p b (decision v p (stage.Delete (del.SetMark a)))
-  mark-booked a e = go (ltb 0 (v .mk (a .node))) refl
+  mark-booked : (a : Place) → v .pr p .stage ≡ stage.Delete (del.SetMark a) →
+      Booked v p b (decision v p (stage.Delete (del.SetMark a)))
+  mark-booked a e =
+      cond-cases (Booked v p b) (ltb 0 (v .mk n)) _ _
+      (λ x. walks-on s e (omega arith) a _ (λ h. refl) (λ T t. refl)) unmarked
     where
-      go : (t : Bool) → ltb 0 (v .mk (a .node)) ≡ t → Booked v p b (decision v p (stage.Delete (del.SetMark a)))
-      go true x = rw x (quiet-step (stage.Delete (del.SetMark a)) e (omega arith) _ (record { answer = tt; effect = tt; own-same = refl; begin-same = λ t b. refl; kind-same = λ h. refl; opens-same = λ t b. refl }))
-      go false x =
-          let s = stage.Delete (del.SetMark a) in
-          let n = a .node in
+      s : Stage
+      s = stage.Delete (del.SetMark a)
+
+      n : ℕ
+      n = a .node
+
+      unmarked : ltb 0 (v .mk n) ≡ false →
+          Booked v p b (marking jobs.Deliver (sees a) a)
+      unmarked x =
           let L = mark-able v u I room p s e 1 2 a refl refl
-          (omega (arith, ltb-false 0 (v .mk (a .node)) x)) in
+          (omega (arith, ltb-false 0 (v .mk n) x)) in
           let l = R .kept n (L .low) (L .high) (L .used) in
           let is = pick-is v u I b R (v .pr p .begin) n L
           (mark-first v u I room p s e 1 2 a refl (omega arith)) in
-          let same = gives-true b (entryAt v n) (v .tick n) (sym (ap (λ (x : BookEntry). x .due) l)) (sym (ap (λ (x : BookEntry). x .item) l)) refl in
+          let same = tells n (in-use-filed v b R n (L .low) (L .high) (L .used)) in
           let late = R .late (v .tick n) (ap (λ (x : BookEntry). x .written) l) in
           let pos = lt-ltb 0 (v .tick n) (late .0) in
-          rw x (record {
-            after = afterCall b (changedAt (b .entry) (v .tick n) (withMarked (b .entry (v .tick n)))) p (unlinking (v .tick n));
+          record {
+            after = afterMark b p (v .tick n);
             fed = rw (open-at s e, is, pos, same);
             rel = rel-mark (kind-at v u I p s e) jobs.Deliver n (L .low) (L .high) (L .used);
-          })
+          }
+
+  -- W3 of a Relaxed one: the pick is not earlier than the node's entry
+  none-earlier : (n : ℕ) → 1 ≤ n → n ≤ v .nodes → v .us n ≡ 1 →
+      ((x : ℕ) → Eligible (v .us) (v .st) (v .mk) (v .nodes) (v .pr p .begin) x →
+      key v n ≤ key v x) →
+      (eqb (pick b (v .pr p .begin)) 0 || not (earlier b (pick b (v .pr p .begin)) (v .tick n)))
+      ≡ true
+  none-earlier n low high used first =
+      go (picked b (v .pr p .begin) (small v u I b R (v .pr p .begin)))
+    where
+      go : Picked b (v .pr p .begin) (b .count) (pick b (v .pr p .begin)) →
+          (eqb (pick b (v .pr p .begin)) 0 || not (earlier b (pick b (v .pr p .begin)) (v .tick n)))
+          ≡ true
+      go (none z k) = rw (eq-eqb (pick b (v .pr p .begin)) 0 z)
+      go (one l i C m) =
+          let E = eligible-of v u I b R (v .pr p .begin) (pick b (v .pr p .begin)) C in
+          let N = E .2 in
+          let le : order b (v .tick n) ≤ order b (v .tick (E .0)) = omega (
+            arith,
+            first (E .0) N,
+            order-of v u I b R (v .pr p .begin) (E .0) (N .low) (N .high) (N .used),
+            order-of v u I b R (v .pr p .begin) n low high used,
+          ) in
+          let not-before : earlier b (pick b (v .pr p .begin)) (v .tick n) ≡ false =
+          entries-before (b .entry (pick b (v .pr p .begin)) .due) (pick b (v .pr p .begin))
+          (b .entry (v .tick n) .due) (v .tick n) (omega (arith, R .count, I .core .clock))
+          (omega (arith, I .core .entered n low (omega arith) .ticket, I .core .clock))
+          ∙ le-ltb (order b (pick b (v .pr p .begin))) (order b (v .tick n)) (rw (E .1) at le) in
+          rw (not-before, ne-eqb (pick b (v .pr p .begin)) 0 (λ z. omega arith))
+
+  relaxed-mark-booked : (a : Place) → v .pr p .stage ≡ stage.Relaxed (rlx.SetMark a) →
+      Booked v p b (decision v p (stage.Relaxed (rlx.SetMark a)))
+  relaxed-mark-booked a e =
+      cond-cases (Booked v p b) (ltb 0 (v .mk n)) _ _
+      (λ x. walks-on s e (omega arith) a _ (λ h. refl) (λ T t. refl)) unmarked
+    where
+      s : Stage
+      s = stage.Relaxed (rlx.SetMark a)
+
+      n : ℕ
+      n = a .node
+
+      unmarked : ltb 0 (v .mk n) ≡ false →
+          Booked v p b (marking jobs.Deliver (sees a) a)
+      unmarked x =
+          let M = mark-place v u I room p s e 1 1 a refl (omega arith)
+          (omega (arith, ltb-false 0 (v .mk n) x)) in
+          let l = R .kept n (M .0) (M .1) (M .2) in
+          let first = none-earlier n (M .0) (M .1) (M .2)
+          (mark-first v u I room p s e 1 1 a refl (omega arith)) in
+          let same = tells n (in-use-filed v b R n (M .0) (M .1) (M .2)) in
+          record {
+            after = afterMark b p (v .tick n);
+            fed = rw (
+              open-at s e,
+              same,
+              first,
+              ap (λ (x : BookEntry). x .written) l,
+              ap (λ (x : BookEntry). x .marked) l,
+              x,
+            );
+            rel = rel-mark (kind-at v u I p s e) jobs.Deliver n (M .0) (M .1) (M .2);
+          }
 
   pub booked : (s : Stage) → v .pr p .stage ≡ s → 1 ≤ info (v .ht (v .pr p .own)) s .kind → Booked v p b (decision v p s)
   booked stage.Idle e k = absurd (omega arith)
@@ -415,9 +532,11 @@ module _ (v : View) (u : ℕ → ℕ → ℕ) (I : Inv v u) (H : NodeHeld v) (ro
   booked (stage.Insert (ins.FreeLevel a)) e k = quiet-step (stage.Insert (ins.FreeLevel a)) e k _ (cond-elim (Quiet (v .pr p .own) (stage.Insert (ins.FreeLevel a))) (ltb (a .level) (v .ht (v .pr p .own))) _ _ (record { answer = tt; effect = tt; own-same = refl; begin-same = λ t b. refl; kind-same = λ h. refl; opens-same = λ t b. refl }) (record { answer = tt; effect = tt; own-same = refl; begin-same = λ t b. refl; kind-same = λ h. refl; opens-same = λ t b. refl }))
   booked (stage.Insert ins.FreeNode) e k = quiet-step (stage.Insert ins.FreeNode) e k _ (record { answer = tt; effect = tt; own-same = refl; begin-same = λ t b. refl; kind-same = λ h. refl; opens-same = λ t b. refl })
   booked (stage.Insert ins.Stamp) e k = stamp-booked e
-  booked (stage.Delete (del.ReadNext a)) e k = empty-booked a e
+  booked (stage.Delete (del.ReadNext a)) e k = next-booked a e
   booked (stage.Delete (del.TestStamp a)) e k = quiet-step (stage.Delete (del.TestStamp a)) e k _ (cond-elim (Quiet (v .pr p .own) (stage.Delete (del.TestStamp a))) (ltb (v .st (a .node)) (v .pr p .begin)) _ _ (record { answer = tt; effect = tt; own-same = refl; begin-same = λ t b. refl; kind-same = λ h. refl; opens-same = λ t b. refl }) (record { answer = tt; effect = tt; own-same = refl; begin-same = λ t b. refl; kind-same = λ h. refl; opens-same = λ t b. refl }))
   booked (stage.Delete (del.SetMark a)) e k = mark-booked a e
+  booked (stage.Relaxed (rlx.ReadNext a)) e k = relaxed-next-booked a e
+  booked (stage.Relaxed (rlx.SetMark a)) e k = relaxed-mark-booked a e
   booked (stage.Removal job (rem.Search a)) e k =
       quiet-step (stage.Removal job (rem.Search a)) e k _
       (quiet-delete-searched job (view v (v .pr p) (key v (v .pr p .own)) a) a

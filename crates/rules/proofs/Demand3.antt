@@ -11,7 +11,8 @@ use Rattle.rules.specs.declared.calls.Call.the-variants as call
 use Rattle.rules.specs.Runs.{Turn, calls, backlog, markers, after, reply, afterAll}
 use Rattle.rules.proofs.Backlog.{backlog-agrees}
 use Rattle.rules.proofs.Markers.{markers-agrees}
-use Rattle.rules.proofs.Sound.{Sound, insert-agrees, delete-agrees, step-agrees}
+use Rattle.rules.proofs.Sound.{Sound, insert-agrees, delete-agrees, relaxed-agrees}
+use Rattle.rules.proofs.Sound.{step-agrees}
 use Rattle.rules.proofs.Fresh.{fresh-sound}
 use Rattle.rules.proofs.Untouched.{untouched-all}
 use Rattle.rules.proofs.Valid.{reached-valid}
@@ -25,6 +26,9 @@ pub record Turned (q : Queue) (b : Book) (c : Turn) : Type 0 where
 pub turned-by : (q : Queue) (b : Book) → Sound q b → (c : Turn) → Turned q b c
 turned-by q b S (calls (call.Insert p due item height)) = let A = insert-agrees q b S p due item height in record { book = A .book; fed = A .fed; sound = A .sound }
 turned-by q b S (calls (call.DeleteMin p)) = let A = delete-agrees q b S p in record { book = A .book; fed = A .fed; sound = A .sound }
+turned-by q b S (calls (call.Relaxed p)) =
+    let A = relaxed-agrees q b S p in
+    record { book = A .book; fed = A .fed; sound = A .sound }
 turned-by q b S (calls (call.Step p)) = let A = step-agrees q b S p in record { book = A .book; fed = A .fed; sound = A .sound }
 turned-by q b S backlog = record { book = b; fed = backlog-agrees q b S; sound = S }
 turned-by q b S (markers area) = record { book = b; fed = markers-agrees q b S area; sound = S }

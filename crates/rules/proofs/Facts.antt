@@ -10,6 +10,7 @@ use Rattle.record.specs.declared.stages.Delete.{Delete}
 use Rattle.record.specs.declared.stages.Delete.the-variants as del
 use Rattle.record.specs.declared.stages.Removal.{Removal}
 use Rattle.record.specs.declared.stages.Removal.the-variants as rem
+use Rattle.record.specs.declared.stages.Relaxed.the-variants as rlx
 use Rattle.record.specs.declared.stages.Stage.{Stage}
 use Rattle.record.specs.declared.stages.Stage.the-variants as stage
 use Rattle.rules.specs.Calls.{readingPlace}
@@ -51,6 +52,8 @@ facts h (stage.Insert ins.Stamp) = omega arith
 facts h (stage.Delete (del.ReadNext a)) = omega arith
 facts h (stage.Delete (del.TestStamp a)) = omega arith
 facts h (stage.Delete (del.SetMark a)) = omega arith
+facts h (stage.Relaxed (rlx.ReadNext a)) = omega arith
+facts h (stage.Relaxed (rlx.SetMark a)) = omega arith
 facts h (stage.Removal job (rem.Search a)) = omega arith
 facts h (stage.Removal job rem.HoldNode) = omega arith
 facts h (stage.Removal job (rem.Seek (seek.Approach a))) = omega arith
@@ -92,6 +95,8 @@ info-any h g (stage.Insert ins.Stamp) = like refl refl refl refl refl refl
 info-any h g (stage.Delete (del.ReadNext a)) = like refl refl refl refl refl refl
 info-any h g (stage.Delete (del.TestStamp a)) = like refl refl refl refl refl refl
 info-any h g (stage.Delete (del.SetMark a)) = like refl refl refl refl refl refl
+info-any h g (stage.Relaxed (rlx.ReadNext a)) = like refl refl refl refl refl refl
+info-any h g (stage.Relaxed (rlx.SetMark a)) = like refl refl refl refl refl refl
 info-any h g (stage.Removal job (rem.Search a)) = like refl refl refl refl refl refl
 info-any h g (stage.Removal job rem.HoldNode) = like refl refl refl refl refl refl
 info-any h g (stage.Removal job (rem.Seek (seek.Approach a))) = like refl refl refl refl refl refl
@@ -125,6 +130,8 @@ place-info h (stage.Insert ins.Stamp) = (refl, refl)
 place-info h (stage.Delete (del.ReadNext a)) = (refl, refl)
 place-info h (stage.Delete (del.TestStamp a)) = (refl, refl)
 place-info h (stage.Delete (del.SetMark a)) = (refl, refl)
+place-info h (stage.Relaxed (rlx.ReadNext a)) = (refl, refl)
+place-info h (stage.Relaxed (rlx.SetMark a)) = (refl, refl)
 place-info h (stage.Removal job (rem.Search a)) = (refl, refl)
 place-info h (stage.Removal job rem.HoldNode) = (refl, refl)
 place-info h (stage.Removal job (rem.Seek (seek.Approach a))) = (refl, refl)

@@ -16,6 +16,7 @@ use Rattle.record.specs.declared.stages.Delete.{Delete}
 use Rattle.record.specs.declared.stages.Delete.the-variants as del
 use Rattle.record.specs.declared.stages.Removal.{Removal}
 use Rattle.record.specs.declared.stages.Removal.the-variants as rem
+use Rattle.record.specs.declared.stages.Relaxed.the-variants as rlx
 use Rattle.record.specs.declared.stages.Stage.{Stage}
 use Rattle.record.specs.declared.stages.Job.{Job}
 use Rattle.record.specs.declared.stages.Stage.the-variants as stage
@@ -34,7 +35,7 @@ use Rattle.laws.proofs.Updating.{changed-same, changed-other}
 use Rattle.rules.proofs.Put.{put, put-at, Where, here, away}
 use Rattle.laws.proofs.Booleans.{cond-elim}
 use Rattle.record.specs.Stages.{seekPart}
-use Rattle.rules.proofs.View.{Pr, View, Info, info, claim, key, tail}
+use Rattle.rules.proofs.View.{Pr, View, Info, info, walkInfo, claim, key, tail}
 use Rattle.rules.proofs.Assemble.{ticked}
 use Rattle.rules.proofs.Machine.{effected, prAfter, carried, decision, view, relevel}
 use Rattle.rules.proofs.Facts.{info-any}
@@ -234,6 +235,15 @@ removal-seek job h s (seek.Confirm a) =
     (sght.Goes eff.Keep (seek.Release a (s .next))) (sght.Done a) (record { keeps = λ h l H. held-by (λ x e. inr (by-place refl e)) (λ x e. absurd (omega arith)) (λ x e. inr (by-node refl e)) H; gains = (λ h l t. absurd t) }) (record { keeps = λ h l H. held-by (λ x e. inr (by-place refl e)) (λ x e. absurd (omega arith)) (λ x e. inr (by-node refl e)) H; gains = (λ h l t. absurd t) })
 removal-seek job h s (seek.Release a b) = (record { keeps = λ h l H. held-by (λ x e. inl e) (λ x e. absurd (omega arith)) (λ x e. inr (by-node refl e)) H; gains = (λ h l t. absurd t) })
 
+-- a walk holds no lock, and a step of it that takes none passes nothing on
+walk-passes : (x y : ℕ) (a : Place) (own : ℕ) (d : Decision) →
+    ((l : Lock) → Takes (d .effect) l → ⊥) → Passes (walkInfo x y a) own d
+walk-passes x y a own d none = record {
+  keeps = λ h l H. held-by (λ z e. absurd (omega arith)) (λ z e. absurd (omega arith))
+      (λ z e. absurd (omega arith)) H;
+  gains = λ h l t. absurd (none l t);
+}
+
 -- every step passes its locks on
 pub passes : (v : View) (p h : ℕ) (s : Stage) → Passes (info h s) (v .pr p .own) (decision v p s)
 passes v p h stage.Idle = (record { keeps = λ h l H. held-by (λ x e. absurd (omega arith)) (λ x e. absurd (omega arith)) (λ x e. absurd (omega arith)) H; gains = (λ h l t. absurd t) })
@@ -247,9 +257,29 @@ passes v p h (stage.Insert (ins.Link a)) = (record { keeps = λ h l H. held-by (
 passes v p h (stage.Insert (ins.FreeLevel a)) = cond-elim (Passes (info h (stage.Insert (ins.FreeLevel a))) (v .pr p .own)) (ltb (a .level) (v .ht (v .pr p .own))) _ _ (record { keeps = λ h l H. held-by (λ x e. inl e) (λ x e. absurd (omega arith)) (λ x e. inr (by-node refl e)) H; gains = (λ h l t. absurd t) }) (record { keeps = λ h l H. held-by (λ x e. inl e) (λ x e. absurd (omega arith)) (λ x e. inr (by-node refl e)) H; gains = (λ h l t. absurd t) })
 passes v p h (stage.Insert ins.FreeNode) = (record { keeps = λ h l H. held-by (λ x e. absurd (omega arith)) (λ x e. absurd (omega arith)) (λ x e. inl e) H; gains = (λ h l t. absurd t) })
 passes v p h (stage.Insert ins.Stamp) = (record { keeps = λ h l H. held-by (λ x e. absurd (omega arith)) (λ x e. absurd (omega arith)) (λ x e. absurd (omega arith)) H; gains = (λ h l t. absurd t) })
-passes v p h (stage.Delete (del.ReadNext a)) = cond-elim (Passes (info h (stage.Delete (del.ReadNext a))) (v .pr p .own)) (eqb (v .fwd (a .node) 1) (tail v)) _ _ (record { keeps = λ h l H. held-by (λ x e. absurd (omega arith)) (λ x e. absurd (omega arith)) (λ x e. absurd (omega arith)) H; gains = (λ h l t. absurd t) }) (record { keeps = λ h l H. held-by (λ x e. absurd (omega arith)) (λ x e. absurd (omega arith)) (λ x e. absurd (omega arith)) H; gains = (λ h l t. absurd t) })
-passes v p h (stage.Delete (del.TestStamp a)) = cond-elim (Passes (info h (stage.Delete (del.TestStamp a))) (v .pr p .own)) (ltb (v .st (a .node)) (v .pr p .begin)) _ _ (record { keeps = λ h l H. held-by (λ x e. absurd (omega arith)) (λ x e. absurd (omega arith)) (λ x e. absurd (omega arith)) H; gains = (λ h l t. absurd t) }) (record { keeps = λ h l H. held-by (λ x e. absurd (omega arith)) (λ x e. absurd (omega arith)) (λ x e. absurd (omega arith)) H; gains = (λ h l t. absurd t) })
-passes v p h (stage.Delete (del.SetMark a)) = cond-elim (Passes (info h (stage.Delete (del.SetMark a))) (v .pr p .own)) (ltb 0 (v .mk (a .node))) _ _ (record { keeps = λ h l H. held-by (λ x e. absurd (omega arith)) (λ x e. absurd (omega arith)) (λ x e. absurd (omega arith)) H; gains = (λ h l t. absurd t) }) (record { keeps = λ h l H. held-by (λ x e. absurd (omega arith)) (λ x e. absurd (omega arith)) (λ x e. absurd (omega arith)) H; gains = (λ h l t. absurd t) })
+passes v p h (stage.Delete (del.ReadNext a)) =
+    let o = v .pr p .own in
+    cond-elim (Passes (walkInfo 2 0 a) o) (eqb (v .fwd (a .node) 1) (tail v)) _ _
+    (walk-passes 2 0 a o _ (λ l t. t)) (walk-passes 2 0 a o _ (λ l t. t))
+passes v p h (stage.Delete (del.TestStamp a)) =
+    let o = v .pr p .own in
+    cond-elim (Passes (walkInfo 1 0 a) o) (ltb (v .st (a .node)) (v .pr p .begin)) _ _
+    (walk-passes 1 0 a o _ (λ l t. t)) (walk-passes 1 0 a o _ (λ l t. t))
+passes v p h (stage.Delete (del.SetMark a)) =
+    let o = v .pr p .own in
+    cond-elim (Passes (walkInfo 1 2 a) o) (ltb 0 (v .mk (a .node))) _ _
+    (walk-passes 1 2 a o _ (λ l t. t)) (walk-passes 1 2 a o _ (λ l t. t))
+passes v p h (stage.Relaxed (rlx.ReadNext a)) =
+    let o = v .pr p .own in
+    let b = v .fwd (a .node) 1 in
+    cond-elim (Passes (walkInfo 2 0 a) o) (eqb b (tail v)) _ _
+    (walk-passes 2 0 a o _ (λ l t. t))
+    (cond-elim (Passes (walkInfo 2 0 a) o) (eqb b 0) _ _
+    (walk-passes 2 0 a o _ (λ l t. t)) (walk-passes 2 0 a o _ (λ l t. t)))
+passes v p h (stage.Relaxed (rlx.SetMark a)) =
+    let o = v .pr p .own in
+    cond-elim (Passes (walkInfo 1 1 a) o) (ltb 0 (v .mk (a .node))) _ _
+    (walk-passes 1 1 a o _ (λ l t. t)) (walk-passes 1 1 a o _ (λ l t. t))
 passes v p h (stage.Removal job (rem.Search a)) =
     removal-searched job h (view v (v .pr p) (key v (v .pr p .own)) a) a
     (searchStep (view v (v .pr p) (key v (v .pr p .own)) a) a)

@@ -30,6 +30,8 @@ use Rattle.record.specs.declared.stages.Delete.{Delete}
 use Rattle.record.specs.declared.stages.Delete.the-variants as del
 use Rattle.record.specs.declared.stages.Seek.{Seek}
 use Rattle.record.specs.declared.stages.Seek.the-variants as seek
+use Rattle.record.specs.declared.stages.Relaxed.{Relaxed}
+use Rattle.record.specs.declared.stages.Relaxed.the-variants as rlx
 use Rattle.record.specs.declared.stages.Stage.{Stage}
 use Rattle.record.specs.declared.stages.Stage.the-variants as stage
 use Rattle.record.specs.Limits.{maxNumber}
@@ -56,13 +58,15 @@ use Rattle.rules.specs.Choice.{chosen}
 use Rattle.rules.specs.Decide.{decide, searchStep, seekStep}
 use Rattle.rules.specs.Decide.{insertSearched, insertSought, insertStep}
 use Rattle.rules.specs.Decide.{removalSearched, removalSought, removalStep, deleteStep}
+use Rattle.rules.specs.Decide.{relaxedStep}
 use Rattle.rules.specs.Decide.{attempt, placeTried, nodeTried, ownTried}
 use Rattle.rules.specs.Effects.{changed, nodeOf, applied, accepted}
 use Rattle.rules.proofs.Slots.{map-set}
 use Rattle.rules.specs.Items.{Renaming, renamedNode, renamed, renamedEntry, renamedAnswer}
 use Rattle.rules.specs.Items.{renamedCall, itemOf}
 use Rattle.rules.specs.Items.{zeroFor, CheckSeesNoItem, NoRuleSeesAnItem, ItemZeroGoesOn}
-use Rattle.rules.specs.Runs.{calls, deleteMin, stepBy, backlog, markers, Reply, answered, counted}
+use Rattle.rules.specs.Runs.{calls, deleteMin, relaxed, stepBy, backlog, markers, Reply}
+use Rattle.rules.specs.Runs.{answered, counted}
 
 -- a choice of images is the image of the choice
 cond-pair :
@@ -213,10 +217,19 @@ module _ (f : ℕ → ℕ) where
   delete-decides s (del.TestStamp a) = cond-image renamedDecision (s .stamped) _ _
   delete-decides s (del.SetMark a) = cond-image renamedDecision (s .marked) _ _
 
+  relaxed-decides :
+      (s : StepView) (d : Relaxed) →
+      relaxedStep (renamedView s) d ≡ renamedDecision (relaxedStep s d)
+  relaxed-decides s (rlx.ReadNext a) =
+      cond-pair renamedDecision (s .nextIsTail) (s .nextIsTail) _ _ _ _ refl refl
+      (cond-image renamedDecision (eqb (s .next) 0) _ _)
+  relaxed-decides s (rlx.SetMark a) = cond-image renamedDecision (s .marked) _ _
+
   decides : (s : StepView) (g : Stage) → decide (renamedView s) g ≡ renamedDecision (decide s g)
   decides s stage.Idle = refl
   decides s (stage.Insert i) = insert-decides s i
   decides s (stage.Delete d) = delete-decides s d
+  decides s (stage.Relaxed d) = relaxed-decides s d
   decides s (stage.Removal job r) = removal-decides job s r
 
   -- what changes
@@ -355,6 +368,7 @@ module _ (f : ℕ → ℕ) where
         let large = ap (λ (b : Bool). ltb maxNumber due || b) (too-large item) in
         rw (large, no-item item h, chosen-same q) refl
     refusal-same q (call.DeleteMin p) h = refl
+    refusal-same q (call.Relaxed p) h = refl
     refusal-same q (call.Step p) h = refl
 
     decision-same :
@@ -363,6 +377,7 @@ module _ (f : ℕ → ℕ) where
     decision-same q (call.Insert p due item height) =
         ap (λ (x : ℕ). insertDecision q x due (f item) height) (chosen-same q)
     decision-same q (call.DeleteMin p) = refl
+    decision-same q (call.Relaxed p) = refl
     decision-same q (call.Step p) =
         let c = processorAt q p in
         let g = c .stage in
@@ -371,6 +386,7 @@ module _ (f : ℕ → ℕ) where
     processor-same : (c : Call) → processorOf (renamedCall f c) ≡ processorOf c
     processor-same (call.Insert p due item height) = refl
     processor-same (call.DeleteMin p) = refl
+    processor-same (call.Relaxed p) = refl
     processor-same (call.Step p) = refl
 
     call-same :
@@ -427,5 +443,6 @@ item-zero-goes-on k h q =
     record {
       taken = check-sees-no-item (zeroFor k) R q;
       begun = λ p. no-rule-sees-an-item (zeroFor k) R q (deleteMin p) (λ _. refl);
+      begun-relaxed = λ p. no-rule-sees-an-item (zeroFor k) R q (relaxed p) (λ _. refl);
       stepped = λ p. no-rule-sees-an-item (zeroFor k) R q (stepBy p) (λ _. refl);
     }

@@ -14,6 +14,7 @@ use Rattle.record.specs.declared.stages.Delete.{Delete}
 use Rattle.record.specs.declared.stages.Delete.the-variants as del
 use Rattle.record.specs.declared.stages.Removal.{Removal}
 use Rattle.record.specs.declared.stages.Removal.the-variants as rem
+use Rattle.record.specs.declared.stages.Relaxed.the-variants as rlx
 use Rattle.record.specs.declared.stages.Stage.{Stage}
 use Rattle.record.specs.declared.stages.Job.{Job}
 use Rattle.record.specs.declared.stages.Job.the-variants as jobs
@@ -46,6 +47,8 @@ untilAfter v u p (stage.Insert ins.Stamp) = u
 untilAfter v u p (stage.Delete (del.ReadNext a)) = u
 untilAfter v u p (stage.Delete (del.TestStamp a)) = u
 untilAfter v u p (stage.Delete (del.SetMark a)) = u
+untilAfter v u p (stage.Relaxed (rlx.ReadNext a)) = u
+untilAfter v u p (stage.Relaxed (rlx.SetMark a)) = u
 untilAfter v u p (stage.Removal job (rem.Search a)) = u
 untilAfter v u p (stage.Removal job rem.HoldNode) = u
 untilAfter v u p (stage.Removal job (rem.Seek k)) = u
@@ -185,6 +188,21 @@ module _ (v : View) (u : ℕ → ℕ → ℕ) (I : Inv v u) (H : NodeHeld v) (ro
       (eqb-false _ _ x) (stage.Delete (del.TestStamp _)) 0 (omega arith) (λ k. absurd (omega arith))
       refl)
 
+  -- W1 of a Relaxed one
+  relaxed-walk : (a : Place) → v .pr p .stage ≡ stage.Relaxed (rlx.ReadNext a) →
+      Kept (stage.Relaxed (rlx.ReadNext a))
+  relaxed-walk a e =
+      let s = stage.Relaxed (rlx.ReadNext a) in
+      let b = v .fwd (a .node) 1 in
+      cond-cases (λ d. Inv (carried v p d) u) (eqb b (tail v)) _ _
+      (λ x. WalkSteps.ownless-ends v u I room p s e refl refl)
+      (λ x. cond-cases (λ d. Inv (carried v p d) u) (eqb b 0) _ _
+      (λ y. WalkSteps.walk-head v u I room p s e 2 0 a refl (eqb-true _ _ y)
+      (stage.Relaxed (rlx.ReadNext _)) refl)
+      (λ y. WalkSteps.walk-on v u I room p s e 2 0 a refl H refl (eqb-false _ _ x)
+      (stage.Relaxed (rlx.SetMark _)) 1 (omega arith)
+      (λ k. let d : (b ≡ 0 → ⊥) = eqb-false b 0 y in omega arith) refl))
+
   stamp : (a : Place) → v .pr p .stage ≡ stage.Delete (del.TestStamp a) → Kept (stage.Delete (del.TestStamp a))
   stamp a e = cond-cases (λ d. Inv (carried v p d) u) (ltb (v .st (a .node)) (v .pr p .begin)) _ _
       (λ x. WalkSteps.stamp-early v u I room p (stage.Delete (del.TestStamp a)) e 1 0 a refl refl
@@ -244,6 +262,9 @@ module _ (v : View) (u : ℕ → ℕ → ℕ) (I : Inv v u) (H : NodeHeld v) (ro
   kept (stage.Delete (del.TestStamp a)) e b = stamp a e
   kept (stage.Delete (del.SetMark a)) e b = mark (stage.Delete (del.SetMark a)) e 2 a refl (omega arith)
       (stage.Delete (del.ReadNext a)) refl
+  kept (stage.Relaxed (rlx.ReadNext a)) e b = relaxed-walk a e
+  kept (stage.Relaxed (rlx.SetMark a)) e b = mark (stage.Relaxed (rlx.SetMark a)) e 1 a refl
+      (omega arith) (stage.Relaxed (rlx.ReadNext a)) refl
   kept (stage.Removal job (rem.Search a)) e b = delete-search job a e
   kept (stage.Removal job rem.HoldNode) e b = hold-node job e
   kept (stage.Removal job (rem.Seek k)) e b = delete-seek job k e

@@ -14,6 +14,7 @@ use Rattle.record.specs.declared.stages.Delete.{Delete}
 use Rattle.record.specs.declared.stages.Delete.the-variants as del
 use Rattle.record.specs.declared.stages.Removal.{Removal}
 use Rattle.record.specs.declared.stages.Removal.the-variants as rem
+use Rattle.record.specs.declared.stages.Relaxed.the-variants as rlx
 use Rattle.record.specs.declared.stages.Stage.{Stage}
 use Rattle.record.specs.declared.stages.Stage.the-variants as stage
 use Rattle.record.specs.Queues.{freshQueue, nodeAt, processorAt}
@@ -61,6 +62,8 @@ says h (stage.Insert ins.Stamp) = omega arith
 says h (stage.Delete (del.ReadNext a)) = omega arith
 says h (stage.Delete (del.TestStamp a)) = omega arith
 says h (stage.Delete (del.SetMark a)) = omega arith
+says h (stage.Relaxed (rlx.ReadNext a)) = omega arith
+says h (stage.Relaxed (rlx.SetMark a)) = omega arith
 says h (stage.Removal job (rem.Search a)) = omega arith
 says h (stage.Removal job rem.HoldNode) = omega arith
 says h (stage.Removal job (rem.Seek (seek.Approach a))) = omega arith
@@ -82,6 +85,8 @@ carried-read h (stage.Insert i) k = insert-reads i
 carried-read h (stage.Delete (del.ReadNext a)) k = absurd (k refl)
 carried-read h (stage.Delete (del.TestStamp a)) k = absurd (k refl)
 carried-read h (stage.Delete (del.SetMark a)) k = absurd (k refl)
+carried-read h (stage.Relaxed (rlx.ReadNext a)) k = absurd (k refl)
+carried-read h (stage.Relaxed (rlx.SetMark a)) k = absurd (k refl)
 carried-read h (stage.Removal job r) k = removal-reads job r
 
 -- a record with a book for which all of it holds

@@ -36,7 +36,7 @@ use Rattle.rules.proofs.Choose.{used-number}
 use Rattle.rules.proofs.Concrete.{viewOf}
 use Rattle.rules.proofs.Rel.{opens}
 use Rattle.rules.proofs.Sound.{Sound}
-use Rattle.rules.proofs.StageKinds.{insert-kind, walk-kind, removal-kind}
+use Rattle.rules.proofs.StageKinds.{insert-kind, walk-kind, relaxed-kind, removal-kind}
 use Rattle.rules.proofs.View.{View, info, claim}
 
 -- what a stage has open, and whether it is a remover's
@@ -45,12 +45,14 @@ pub opens-delivering : (h : ℕ) (s : Stage) (T t x : ℕ) → opens s T t ≡ u
 opens-delivering h stage.Idle T t x e = absurd (let z : _≡_ {A = ℕ} 0 1 = cc in omega arith)
 opens-delivering h (stage.Insert i) T t x e = absurd (let z : _≡_ {A = ℕ} 0 1 = cc in omega arith)
 opens-delivering h (stage.Delete d) T t x e = absurd (let z : _≡_ {A = ℕ} 0 1 = cc in omega arith)
+opens-delivering h (stage.Relaxed d) T t x e = absurd (let z : _≡_ {A = ℕ} 0 1 = cc in omega arith)
 opens-delivering h (stage.Removal jobs.Deliver r) T t x e = (removal-kind jobs.Deliver h r, cc)
 
 pub opens-kind : (h : ℕ) (s : Stage) (T t : ℕ) → info h s .kind ≡ 3 → opens s T t ≡ unlinking t
 opens-kind h stage.Idle T t k = absurd (omega arith)
 opens-kind h (stage.Insert i) T t k = absurd (omega (arith, insert-kind h i))
 opens-kind h (stage.Delete d) T t k = absurd (omega (arith, walk-kind h d))
+opens-kind h (stage.Relaxed d) T t k = absurd (omega (arith, relaxed-kind h d))
 opens-kind h (stage.Removal jobs.Deliver r) T t k = refl
 
 unlinking-kind : (h : ℕ) (s : Stage) (T t : ℕ) → isUnlinking (opens s T t) ≡ true →
@@ -58,6 +60,7 @@ unlinking-kind : (h : ℕ) (s : Stage) (T t : ℕ) → isUnlinking (opens s T t)
 unlinking-kind h stage.Idle T t e = absurd (true≢false (sym e))
 unlinking-kind h (stage.Insert i) T t e = absurd (true≢false (sym e))
 unlinking-kind h (stage.Delete d) T t e = absurd (true≢false (sym e))
+unlinking-kind h (stage.Relaxed d) T t e = absurd (true≢false (sym e))
 unlinking-kind h (stage.Removal jobs.Deliver r) T t e = removal-kind jobs.Deliver h r
 
 -- a processor's byte is that of its mark alone

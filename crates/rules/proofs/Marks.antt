@@ -33,6 +33,8 @@ use Rattle.record.specs.declared.stages.Delete.{Delete}
 use Rattle.record.specs.declared.stages.Delete.the-variants as del
 use Rattle.record.specs.declared.stages.Seek.{Seek}
 use Rattle.record.specs.declared.stages.Seek.the-variants as seek
+use Rattle.record.specs.declared.stages.Relaxed.{Relaxed}
+use Rattle.record.specs.declared.stages.Relaxed.the-variants as rlx
 use Rattle.record.specs.declared.stages.Stage.{Stage}
 use Rattle.record.specs.declared.stages.Stage.the-variants as stage
 use Rattle.record.specs.Nodes.{freshNode, isMarked, isInUse, withMark}
@@ -56,6 +58,7 @@ use Rattle.rules.specs.Choice.{stateOf, chosen}
 use Rattle.rules.specs.Decide.{decide, searchStep, seekStep}
 use Rattle.rules.specs.Decide.{insertSearched, insertSought, insertStep}
 use Rattle.rules.specs.Decide.{removalSearched, removalSought, removalStep, deleteStep}
+use Rattle.rules.specs.Decide.{relaxedStep}
 use Rattle.rules.specs.Decide.{placeTried, nodeTried, ownTried}
 use Rattle.rules.specs.Effects.{changed, nodeOf, applied, accepted}
 use Rattle.rules.specs.Marks.{Takes, SetMarkStays, NewMarkIsTheCallers, NoAnswerSeesWho}
@@ -164,10 +167,19 @@ module _ (q : Queue) where
       cond-cases Sparing (s .marked) _ _ (λ _. tt)
       (λ unset. no-mark (nodeAt q (a .node) .mark) (sym m ∙ unset))
 
+  relaxed-spares :
+      (s : StepView) (d : Relaxed) → Tells s (stage.Relaxed d) → Sparing (relaxedStep s d)
+  relaxed-spares s (rlx.ReadNext a) m =
+      cond-elim Sparing (s .nextIsTail) _ _ tt (cond-elim Sparing (eqb (s .next) 0) _ _ tt tt)
+  relaxed-spares s (rlx.SetMark a) m =
+      cond-cases Sparing (s .marked) _ _ (λ _. tt)
+      (λ unset. no-mark (nodeAt q (a .node) .mark) (sym m ∙ unset))
+
   decide-spares : (s : StepView) (g : Stage) → Tells s g → Sparing (decide s g)
   decide-spares s stage.Idle m = tt
   decide-spares s (stage.Insert i) m = insert-spares s i
   decide-spares s (stage.Delete d) m = delete-spares s d m
+  decide-spares s (stage.Relaxed d) m = relaxed-spares s d m
   decide-spares s (stage.Removal job r) m = removal-spares job s r
 
   step-spares : (c : Processor) → Sparing (stepDecision q c)
@@ -215,6 +227,7 @@ module _ (q : Queue) where
         node = refl;
       })
   written (call.DeleteMin p) made = stays
+  written (call.Relaxed p) made = stays
   written (call.Step p) made =
       let c = processorAt q p in
       step-marks p (q .levelCount) (q .nodeCount + 1) (q .clock + 1) (stepDecision q c .effect)
@@ -346,12 +359,14 @@ module _ (q : Queue) where
   refusal-same : (c : Call) → refusalOf q c ≡ refusalOf (anonymous q) c
   refusal-same (call.Insert p due item height) = rw chosen-same
   refusal-same (call.DeleteMin p) = refl
+  refusal-same (call.Relaxed p) = refl
   refusal-same (call.Step p) = refl
 
   decision-same : (c : Call) → decisionOf q c ≡ decisionOf (anonymous q) c
   decision-same (call.Insert p due item height) =
       ap (λ (x : ℕ). insertDecision q x due item height) chosen-same
   decision-same (call.DeleteMin p) = refl
+  decision-same (call.Relaxed p) = refl
   decision-same (call.Step p) =
       let c = processorAt q p in
       let g = c .stage in

@@ -2,12 +2,12 @@
 -- was marked, both happen once, Backlog counts what is answered and not marked, and a mark names the
 -- processor that delivers. Assumes nothing.
 use mathlib.Core.Path.{_≡_, refl, sym, ap, subst, _∙_}
-use mathlib.Core.Bool.{Bool, true, _&&_, not, true≢false}
+use mathlib.Core.Bool.{Bool, true, false, _&&_, _||_, not, true≢false}
 use mathlib.Core.List.{List, [], _∷_, _++_}
 use Prim.Native.Nat.{ℕ, _≤_, _<_}
 use native.Mathlib.Omega.{arith}
 use lib.Dec.{ltb, eqb}
-use borrow.Author.Tests.{ltb-true, eqb-true, le-ltb, not-true}
+use borrow.Author.Tests.{ltb-true, ltb-false, eqb-true, ne-eqb, le-ltb, not-true}
 use Rattle.laws.specs.HowMany.{howMany}
 use Rattle.laws.proofs.Counting.{and-left, and-right}
 use Rattle.laws.proofs.Updating.{changed-same}
@@ -18,9 +18,16 @@ use Rattle.rules.specs.declared.answers.Answer.{Answer}
 use Rattle.rules.specs.declared.answers.Answer.the-variants as ans
 use Rattle.rules.specs.declared.answers.Deed.the-variants as deed
 use Rattle.rules.specs.declared.answers.Entry.{Entry}
-use Rattle.rules.specs.Book.{BookEntry, Open, nothing, inserting, walking, unlinking, Book, agrees, pick, gives, withAnswer, withMarked, withHandOut, marks, empties, handsOut, feed, feedStep, judged}
-use Rattle.rules.specs.Demand3.{InRange, BookAfter, Left, Entered, Earliest, MarkedIsEarliest, NoneLeft, EmptyIsTrue, Delivered, HandedOutIsMarked, MarkedOnce, HandedOutOnce}
-use Rattle.rules.specs.Demand3.{BacklogIsPending, MarkerDelivers}
+use Rattle.rules.specs.Book.{BookEntry, Open, nothing, inserting, walking, relaxing}
+use Rattle.rules.specs.Book.{unlinking, Book, agrees, pick, earlier, relaxedMay, gives}
+use Rattle.rules.specs.Book.{withAnswer, withMarked, withHandOut, marks, empties, handsOut}
+use Rattle.rules.specs.Book.{feed, feedStep, judged}
+use Rattle.rules.specs.Demand3.{InRange, BookAfter, Left, Entered, Earliest, MarkedIsEarliest}
+use Rattle.rules.specs.Demand3.{NoneLeft, EmptyIsTrue, RelaxedFirst, RelaxedIsFirst}
+use Rattle.rules.specs.Demand3.{NoneLeftRelaxed, RelaxedEmptyIsTrue, WalkOpen, delete-min}
+use Rattle.rules.specs.Demand3.{relaxed, MarkedByAWalk, EmptyToAWalk, Delivered}
+use Rattle.rules.specs.Demand3.{HandedOutIsMarked, MarkedOnce, HandedOutOnce}
+use Rattle.rules.specs.Demand3.{stepReply, BacklogIsPending, MarkerDelivers}
 use Rattle.rules.specs.Runs.{Turn, stepBy, Reply, answered, after, reply, afterAll}
 use Rattle.rules.proofs.BookLaws.{Right, right-book, right-if, Given, given, Stays, stays}
 use Rattle.rules.proofs.Concrete.{viewOf}
@@ -36,6 +43,42 @@ use Rattle.rules.proofs.View.{View}
 
 entered : (b : Book) (e : Entry) (t : ℕ) → Given b e t → Entered b e
 entered b e t G = record { due = rw (G .ticket) (sym (G .due)); item = rw (G .ticket) (sym (G .item)) }
+
+-- what a mark and an EMPTY say, by what their processor has open
+abbrev MarkSays : Book → ℕ → Entry → Open → Type 0
+MarkSays b p e nothing = ⊥
+MarkSays b p e (inserting x) = ⊥
+MarkSays b p e (walking x) = Earliest b p e
+MarkSays b p e (relaxing x) = RelaxedFirst b p e
+MarkSays b p e (unlinking x) = ⊥
+
+abbrev EmptySays : Book → ℕ → Open → Type 0
+EmptySays b p nothing = ⊥
+EmptySays b p (inserting x) = ⊥
+EmptySays b p (walking x) = NoneLeft b p
+EmptySays b p (relaxing x) = NoneLeftRelaxed b p
+EmptySays b p (unlinking x) = ⊥
+
+-- a mark of the entry that e tells: what it says, and that the entry was unmarked and now is not
+record Marks (b : Book) (p : ℕ) (e : Entry) (o : Open) (after : Book) : Type 0 where
+  says : MarkSays b p e o
+  unmarked : b .entry (e .ticket) .marked ≡ false
+  stays : Stays (λ l. l .marked) (e .ticket) after
+
+mark-open : (b : Book) (p : ℕ) (e : Entry) (o : Open) → b .opened p ≡ o → MarkSays b p e o →
+    WalkOpen b p
+mark-open b p e nothing i m = absurd m
+mark-open b p e (inserting x) i m = absurd m
+mark-open b p e (walking x) i m = delete-min x i
+mark-open b p e (relaxing x) i m = relaxed x i
+mark-open b p e (unlinking x) i m = absurd m
+
+empty-open : (b : Book) (p : ℕ) (o : Open) → b .opened p ≡ o → EmptySays b p o → WalkOpen b p
+empty-open b p nothing i m = absurd m
+empty-open b p (inserting x) i m = absurd m
+empty-open b p (walking x) i m = delete-min x i
+empty-open b p (relaxing x) i m = relaxed x i
+empty-open b p (unlinking x) i m = absurd m
 
 -- a record with a book for which all of demand 3 holds
 module _ (q : Queue) (b : Book) (S : Sound q b) where
@@ -74,23 +117,84 @@ module _ (q : Queue) (b : Book) (S : Sound q b) where
         ahead : (t : ℕ) → Left b T t → order b (pick b T) ≤ order b t
         ahead t E = least t (S .rel .late t (E .written) .0) (left-by T t E) (candidate T t E)
 
-    marks-right : (e : Entry) (o : Open) → b .opened p ≡ o → Right (λ b′. Earliest b p e × Stays (λ l. l .marked) (e .ticket) b′) (marks b p e o)
+    -- a Relaxed one's mark
+    relaxed-first : (e : Entry) (T : ℕ) → b .opened p ≡ relaxing T →
+        relaxedMay b T (e .ticket) ≡ true → Given b e (e .ticket) → RelaxedFirst b p e
+    relaxed-first e T o may G =
+        let w = b .entry (e .ticket) .written in
+        let m = b .entry (e .ticket) .marked in
+        let f = eqb (pick b T) 0 || not (earlier b (pick b T) (e .ticket)) in
+        let r = and-right w (not m && f) may in
+        let written = and-left w (not m && f) may in
+        record {
+          begin = T;
+          opened = o;
+          written = written;
+          begun = omega (arith, S .rel .late (e .ticket) written .1);
+          unmarked = not-true m (and-left (not m) f r);
+          entered = entered b e (e .ticket) G;
+          none-earlier = λ t E. first written (and-right (not m) f r) t E (picked b T count-high);
+        }
+      where
+        first : b .entry (e .ticket) .written ≡ true →
+            (eqb (pick b T) 0 || not (earlier b (pick b T) (e .ticket))) ≡ true →
+            (t : ℕ) → Left b T t → Picked b T (b .count) (pick b T) →
+            earlier b t (e .ticket) ≡ false
+        first w f t E (none z h) =
+            absurd (h t (S .rel .late t (E .written) .0) (left-by T t E) (candidate T t E))
+        first w f t E (one r≥ r≤ C least) =
+            let low : e .ticket ≤ b .count = S .rel .late (e .ticket) w .1 in
+            let after : earlier b (pick b T) (e .ticket) ≡ false =
+            not-true _ (rw (ne-eqb (pick b T) 0 (λ z. omega arith)) at f) in
+            let back : order b (e .ticket) ≤ order b (pick b T) =
+            ltb-false (order b (pick b T)) (order b (e .ticket))
+            (sym (entries-before (b .entry (pick b T) .due) (pick b T) (b .entry (e .ticket) .due)
+            (e .ticket) (omega (arith, count-high)) (omega (arith, count-high))) ∙ after) in
+            let next = least t (S .rel .late t (E .written) .0) (left-by T t E) (candidate T t E) in
+            entries-before (b .entry t .due) t (b .entry (e .ticket) .due) (e .ticket)
+            (omega (arith, left-by T t E, count-high)) (omega (arith, count-high))
+            ∙ le-ltb (order b t) (order b (e .ticket)) (omega arith)
+
+    marks-right : (e : Entry) (o : Open) → b .opened p ≡ o → Right (Marks b p e o) (marks b p e o)
     marks-right e nothing i = tt
     marks-right e (inserting x) i = tt
     marks-right e (walking T) i = right-if _ (ltb 0 (pick b T) && gives b e (pick b T)) _ (λ h.
         let G = given b e (pick b T) (and-right (ltb 0 (pick b T)) (gives b e (pick b T)) h) in
         let E = earliest e T i (and-left (ltb 0 (pick b T)) (gives b e (pick b T)) h) G (picked b T count-high) in
-        (E, record { low = omega (arith, left-by (E .begin) (e .ticket) (E .left)); up = rw (G .ticket, changed-same) }))
+        record {
+          says = E;
+          unmarked = E .left .unmarked;
+          stays = record {
+            low = omega (arith, left-by (E .begin) (e .ticket) (E .left));
+            up = rw (G .ticket, changed-same);
+          };
+        })
+    marks-right e (relaxing T) i =
+        right-if _ (relaxedMay b T (e .ticket) && gives b e (e .ticket)) _ (λ h.
+        let may = relaxedMay b T (e .ticket) in
+        let G = given b e (e .ticket) (and-right may (gives b e (e .ticket)) h) in
+        let E = relaxed-first e T i (and-left may (gives b e (e .ticket)) h) G in
+        record {
+          says = E;
+          unmarked = E .unmarked;
+          stays = record { low = omega (arith, E .begun); up = rw changed-same };
+        })
     marks-right e (unlinking x) i = tt
 
-    empties-right : (o : Open) → b .opened p ≡ o → Right (λ b′. NoneLeft b p) (empties b p o)
+    none-left : (T : ℕ) → eqb (pick b T) 0 ≡ true → (t : ℕ) → Left b T t → ⊥
+    none-left T z t E = go (eqb-true (pick b T) 0 z) (picked b T count-high)
+      where
+        go : pick b T ≡ 0 → Picked b T (b .count) (pick b T) → ⊥
+        go z (none _ h) = h t (S .rel .late t (E .written) .0) (left-by T t E) (candidate T t E)
+        go z (one r≥ r≤ C least) = omega arith
+
+    empties-right : (o : Open) → b .opened p ≡ o → Right (λ b′. EmptySays b p o) (empties b p o)
     empties-right nothing i = tt
     empties-right (inserting x) i = tt
-    empties-right (walking T) i = right-if _ (eqb (pick b T) 0) _ (λ h. go (eqb-true (pick b T) 0 h) (picked b T count-high))
-      where
-        go : pick b T ≡ 0 → Picked b T (b .count) (pick b T) → NoneLeft b p
-        go z (none _ h) = record { begin = T; opened = i; none = λ t E. h t (S .rel .late t (E .written) .0) (left-by T t E) (candidate T t E) }
-        go z (one r≥ r≤ C least) = absurd (omega arith)
+    empties-right (walking T) i = right-if _ (eqb (pick b T) 0) _
+        (λ z. record { begin = T; opened = i; none = none-left T z })
+    empties-right (relaxing T) i = right-if _ (eqb (pick b T) 0) _
+        (λ z. record { begin = T; opened = i; none = none-left T z })
     empties-right (unlinking x) i = tt
 
     -- the ticket of an open Delete_Min's mark
@@ -105,6 +209,7 @@ module _ (q : Queue) (b : Book) (S : Sound q b) where
     hands-out-right e nothing i = tt
     hands-out-right e (inserting x) i = tt
     hands-out-right e (walking x) i = tt
+    hands-out-right e (relaxing x) i = tt
     hands-out-right e (unlinking t) i = right-if _ (gives b e t && not (b .entry t .handedOut)) _ (λ h.
         let G = given b e t (and-left (gives b e t) (not (b .entry t .handedOut)) h) in (
           record { opened = rw (G .ticket) i; entered = entered b e t G; not-before = rw (G .ticket) (not-true (b .entry t .handedOut) (and-right (gives b e t) (not (b .entry t .handedOut)) h)) },
@@ -112,11 +217,15 @@ module _ (q : Queue) (b : Book) (S : Sound q b) where
         ))
 
     -- the steps that mark, find nothing and hand out
-    marking : (e : Entry) → reply q (stepBy p) ≡ answered (ans.Did deed.Marked e) → Earliest b p e × Stays (λ l. l .marked) (e .ticket) (turned-by q b S (stepBy p) .book)
-    marking e r = stepped (λ b′. Earliest b p e × Stays (λ l. l .marked) (e .ticket) b′) p (ans.Did deed.Marked e) r (marks-right e (b .opened p) refl)
+    marking : (e : Entry) → reply q (stepBy p) ≡ answered (ans.Did deed.Marked e) →
+        Marks b p e (b .opened p) (turned-by q b S (stepBy p) .book)
+    marking e r =
+        stepped (Marks b p e (b .opened p)) p (ans.Did deed.Marked e) r
+        (marks-right e (b .opened p) refl)
 
-    emptying : reply q (stepBy p) ≡ answered ans.Empty → NoneLeft b p
-    emptying r = stepped (λ b′. NoneLeft b p) p ans.Empty r (empties-right (b .opened p) refl)
+    emptying : reply q (stepBy p) ≡ answered ans.Empty → EmptySays b p (b .opened p)
+    emptying r =
+        stepped (λ b′. EmptySays b p (b .opened p)) p ans.Empty r (empties-right (b .opened p) refl)
 
     handing-out : (e : Entry) → reply q (stepBy p) ≡ answered (ans.Did deed.HandedOut e) → Delivered b p e × Stays (λ l. l .handedOut) (e .ticket) (turned-by q b S (stepBy p) .book)
     handing-out e r = stepped (λ b′. Delivered b p e × Stays (λ l. l .handedOut) (e .ticket) b′) p (ans.Did deed.HandedOut e) r (hands-out-right e (b .opened p) refl)
@@ -125,11 +234,40 @@ module _ (q : Queue) (b : Book) (S : Sound q b) where
 pub sound-after : (P N L : ℕ) → InRange P N L → (cs : List Turn) (b : Book) → BookAfter P N L cs b → Sound (afterAll (freshQueue P N L) cs) b
 sound-after P N L R cs b h = let J = reached P N L R cs in let same : J .book ≡ b = cc (J .judges) in subst (Sound (afterAll (freshQueue P N L) cs)) same (J .sound)
 
+-- the mark of a step after a list of calls, and its EMPTY
+mark-after : (P N L : ℕ) → InRange P N L → (cs : List Turn) (b : Book) → BookAfter P N L cs b →
+    (p : ℕ) (e : Entry) → stepReply P N L cs p ≡ answered (ans.Did deed.Marked e) →
+    MarkSays b p e (b .opened p)
+mark-after P N L R cs b h p e r =
+    marking (afterAll (freshQueue P N L) cs) b (sound-after P N L R cs b h) p e r .says
+
+empty-after : (P N L : ℕ) → InRange P N L → (cs : List Turn) (b : Book) → BookAfter P N L cs b →
+    (p : ℕ) → stepReply P N L cs p ≡ answered ans.Empty → EmptySays b p (b .opened p)
+empty-after P N L R cs b h p r =
+    emptying (afterAll (freshQueue P N L) cs) b (sound-after P N L R cs b h) p r
+
 pub marked-is-earliest : MarkedIsEarliest
-marked-is-earliest P N L R cs b h p e r = marking (afterAll (freshQueue P N L) cs) b (sound-after P N L R cs b h) p e r .0
+marked-is-earliest P N L R cs b h p T e o r =
+    subst (MarkSays b p e) o (mark-after P N L R cs b h p e r)
 
 pub empty-is-true : EmptyIsTrue
-empty-is-true P N L R cs b h p r = emptying (afterAll (freshQueue P N L) cs) b (sound-after P N L R cs b h) p r
+empty-is-true P N L R cs b h p T o r = subst (EmptySays b p) o (empty-after P N L R cs b h p r)
+
+pub relaxed-is-first : RelaxedIsFirst
+relaxed-is-first P N L R cs b h p T e o r =
+    subst (MarkSays b p e) o (mark-after P N L R cs b h p e r)
+
+pub relaxed-empty-is-true : RelaxedEmptyIsTrue
+relaxed-empty-is-true P N L R cs b h p T o r =
+    subst (EmptySays b p) o (empty-after P N L R cs b h p r)
+
+pub marked-by-a-walk : MarkedByAWalk
+marked-by-a-walk P N L R cs b h p e r =
+    mark-open b p e (b .opened p) refl (mark-after P N L R cs b h p e r)
+
+pub empty-to-a-walk : EmptyToAWalk
+empty-to-a-walk P N L R cs b h p r =
+    empty-open b p (b .opened p) refl (empty-after P N L R cs b h p r)
 
 pub handed-out-is-marked : HandedOutIsMarked
 handed-out-is-marked P N L R cs b h p e r = handing-out (afterAll (freshQueue P N L) cs) b (sound-after P N L R cs b h) p e r .0
@@ -176,9 +314,11 @@ pub marked-once : MarkedOnce
 marked-once P N L R cs ds p r e f x y same =
     let J = reached P N L R cs in
     let M = marking (afterAll (freshQueue P N L) cs) (J .book) (J .sound) p e x in
-    let W = later (λ l. l .marked) (e .ticket) (λ l n h. h) (λ l h. refl) (λ l h. h) (freshQueue P N L) cs ds p (J .book) (J .sound) (M .1) in
-    let E = marking (afterAll (freshQueue P N L) (cs ++ (stepBy p ∷ ds))) (W .book) (W .sound) r f y .0 in
-    true≢false (sym (W .up) ∙ ap (λ (t : ℕ). W .book .entry t .marked) same ∙ E .left .unmarked)
+    let W = later (λ l. l .marked) (e .ticket) (λ l n h. h) (λ l h. refl) (λ l h. h)
+    (freshQueue P N L) cs ds p (J .book) (J .sound) (M .stays) in
+    let E = marking (afterAll (freshQueue P N L) (cs ++ (stepBy p ∷ ds))) (W .book) (W .sound) r f
+    y in
+    true≢false (sym (W .up) ∙ ap (λ (t : ℕ). W .book .entry t .marked) same ∙ E .unmarked)
 
 pub handed-out-once : HandedOutOnce
 handed-out-once P N L R cs ds p r e f x y same =

@@ -76,6 +76,7 @@ pub ranked-for : (s : Stage) (k : Key) (r : ℕ) → Ranked k r → Ranked (keyF
 ranked-for stage.Idle k r h = h
 ranked-for (stage.Insert i) k r h = h
 ranked-for (stage.Delete d) k r h = h
+ranked-for (stage.Relaxed d) k r h = h
 ranked-for (stage.Removal job d) k r h = h
 
 pub rank-at : (n : ℕ) (due tick : ℕ → ℕ) (x : ℕ) → rank n due tick x ≡ rankAt n x (due x) (tick x)

@@ -24,6 +24,7 @@ use Rattle.record.specs.declared.stages.Delete.{Delete}
 use Rattle.record.specs.declared.stages.Delete.the-variants as del
 use Rattle.record.specs.declared.stages.Removal.{Removal}
 use Rattle.record.specs.declared.stages.Removal.the-variants as rem
+use Rattle.record.specs.declared.stages.Relaxed.the-variants as rlx
 use Rattle.record.specs.declared.stages.Stage.{Stage}
 use Rattle.record.specs.declared.stages.Job.{Job}
 use Rattle.record.specs.declared.stages.Stage.the-variants as stage
@@ -267,6 +268,17 @@ module _ (v : View) (u : ℕ → ℕ → ℕ) (I : Inv v u) (p : ℕ) where
   reaches (stage.Delete (del.ReadNext a)) e k = cond-elim (Reach N) (eqb (v .fwd (a .node) 1) (tail v)) _ _ (record { effect = tt; saves = tt; due-small = tt }) (record { effect = tt; saves = tt; due-small = tt })
   reaches (stage.Delete (del.TestStamp a)) e k = cond-elim (Reach N) (ltb (v .st (a .node)) (v .pr p .begin)) _ _ (record { effect = tt; saves = tt; due-small = tt }) (record { effect = tt; saves = tt; due-small = tt })
   reaches (stage.Delete (del.SetMark a)) e k = let A = at-place _ e k in cond-elim (Reach N) (ltb 0 (v .mk (a .node))) _ _ (record { effect = tt; saves = tt; due-small = tt }) (record { effect = A .0; saves = tt; due-small = tt })
+  reaches (stage.Relaxed (rlx.ReadNext a)) e k =
+      cond-elim (Reach N) (eqb (v .fwd (a .node) 1) (tail v)) _ _
+      (record { effect = tt; saves = tt; due-small = tt })
+      (cond-elim (Reach N) (eqb (v .fwd (a .node) 1) 0) _ _
+      (record { effect = tt; saves = tt; due-small = tt })
+      (record { effect = tt; saves = tt; due-small = tt }))
+  reaches (stage.Relaxed (rlx.SetMark a)) e k =
+      let A = at-place _ e k in
+      cond-elim (Reach N) (ltb 0 (v .mk (a .node))) _ _
+      (record { effect = tt; saves = tt; due-small = tt })
+      (record { effect = A .0; saves = tt; due-small = tt })
   reaches (stage.Removal job (rem.Search a)) e k = let A = at-place _ e k in
       reach-delete-searched job N (view v (v .pr p) (key v (v .pr p .own)) a) a
       (searchStep (view v (v .pr p) (key v (v .pr p .own)) a) a) (A .1) (A .2)

@@ -22,7 +22,8 @@ use Rattle.rules.proofs.Facts.{kind-any}
 use Rattle.rules.proofs.StageKinds.{kind-busy}
 use Rattle.rules.proofs.Assemble.{ticked}
 use Rattle.rules.proofs.Machine.{effected, prAfter, carried}
-use Rattle.rules.specs.Book.{BookEntry, Open, nothing, inserting, walking, unlinking, Book, agrees, moves, feedStep}
+use Rattle.rules.specs.Book.{BookEntry, Open, nothing, inserting, walking, relaxing}
+use Rattle.rules.specs.Book.{unlinking, Book, agrees, moves, feedStep}
 
 -- B1: what a processor has open, by its stage, its begin and its own node's ticket
 abbrev pub opensFor : Job → ℕ → Open
@@ -32,12 +33,14 @@ abbrev pub opens : Stage → ℕ → ℕ → Open
 opens stage.Idle T t = nothing
 opens (stage.Insert i) T t = inserting t
 opens (stage.Delete d) T t = walking T
+opens (stage.Relaxed d) T t = relaxing T
 opens (stage.Removal job r) T t = opensFor job t
 
 pub opens-idle : (h : ℕ) (s : Stage) → info h s .kind ≡ 0 → (T t : ℕ) → opens s T t ≡ nothing
 opens-idle h stage.Idle k T t = refl
 opens-idle h (stage.Insert i) k T t = absurd (omega (arith, kind-busy h (stage.Insert i) refl))
 opens-idle h (stage.Delete d) k T t = absurd (omega (arith, kind-busy h (stage.Delete d) refl))
+opens-idle h (stage.Relaxed d) k T t = absurd (omega (arith, kind-busy h (stage.Relaxed d) refl))
 opens-idle h (stage.Removal job r) k T t =
     absurd (omega (arith, kind-busy h (stage.Removal job r) refl))
 
@@ -185,6 +188,7 @@ moves-busy : (b : Book) (h : ℕ) (k : Stage) (T t : ℕ) → 1 ≤ info h k .ki
 moves-busy b h stage.Idle T t k≥ = absurd (omega arith)
 moves-busy b h (stage.Insert i) T t k≥ = refl
 moves-busy b h (stage.Delete d) T t k≥ = refl
+moves-busy b h (stage.Relaxed d) T t k≥ = refl
 moves-busy b h (stage.Removal jobs.Deliver r) T t k≥ = refl
 
 fed-moving : (b : Book) (p h : ℕ) (k : Stage) (T t : ℕ) → 1 ≤ info h k .kind →

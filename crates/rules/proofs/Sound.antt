@@ -13,21 +13,21 @@ use Rattle.record.specs.declared.queues.Queue.{Queue}
 use Rattle.record.specs.Queues.{processorAt, freshProcessor}
 use Rattle.record.specs.Stages.{place, isIdle}
 use Rattle.record.specs.declared.stages.Delete.the-variants as del
+use Rattle.record.specs.declared.stages.Relaxed.the-variants as rlx
 use Rattle.record.specs.declared.stages.Stage.{Stage}
 use Rattle.record.specs.declared.stages.Stage.the-variants as stage
-use Rattle.rules.specs.declared.decisions.Effect.the-variants as eff
-use Rattle.rules.specs.declared.decisions.ProcessorChange.the-variants as change
 use Rattle.rules.specs.declared.answers.Answer.{Answer}
 use Rattle.rules.specs.declared.answers.Answer.the-variants as ans
 use Rattle.rules.specs.declared.answers.Outcome.{Outcome}
 use Rattle.rules.specs.declared.decisions.Decision.{Decision}
 use Rattle.rules.specs.Answers.{refused}
-use Rattle.rules.specs.Book.{Book, Open, nothing, inserting, walking, Verdict, agrees}
-use Rattle.rules.specs.Book.{afterCall, feedInsert, feedDelete, feedStep}
+use Rattle.rules.specs.Book.{Book, Open, nothing, inserting, walking, relaxing, Verdict}
+use Rattle.rules.specs.Book.{agrees, afterCall, feedInsert, feedDelete, feedRelaxed, feedStep}
 use Rattle.rules.specs.declared.calls.Call.{Call}
 use Rattle.rules.specs.declared.calls.Call.the-variants as call
 use Rattle.rules.specs.Calls.{stepDecision, insertDecision, decisionOf, processorOf}
-use Rattle.rules.specs.Calls.{called, beginInsert, beginDeleteMin, step}
+use Rattle.rules.specs.Calls.{walkBegins, called, beginInsert, beginDeleteMin, beginRelaxed}
+use Rattle.rules.specs.Calls.{step}
 use Rattle.rules.proofs.Allowed.{Allowed, of-call, idle-begins, busy-steps, Numbers, numbers}
 use Rattle.rules.specs.Choice.{chosen}
 use Rattle.rules.specs.Effects.{accepted, processorAfter}
@@ -136,10 +136,10 @@ module _ (q : Queue) (b : Book) (S : Sound q b) where
         (b .opened p ≡ nothing → b .count ≡ q .clock →
         feeds (ans.Began (q .clock + 1)) ≡ agrees (afterCall b (b .entry) p o)) →
         q .clock + 1 ≤ 999999 → p < q .processorCount → isIdle (processorAt q p .stage) ≡ true →
-        Agrees feeds (accepted q p (record { effect = eff.Keep; stage = s; own = 0; change = change.Begin; answer = ans.Began (q .clock + 1) }))
+        Agrees feeds (accepted q p (walkBegins (q .clock + 1) s))
     walk-begun feeds s o is same fed t≤ p< i =
         let K = kind-idle (v .ht (v .pr p .own)) (processorAt q p .stage) i in
-        let d : Decision = record { effect = eff.Keep; stage = s; own = 0; change = change.Begin; answer = ans.Began (q .clock + 1) } in
+        let d : Decision = walkBegins (q .clock + 1) s in
         accepted-agrees feeds p d (afterCall b (b .entry) p o) (S .until) p< t≤
         (record { effect = tt; saves = tt; due-small = tt })
         (idle-passes p K d (λ h l t. absurd t))
@@ -152,6 +152,13 @@ module _ (q : Queue) (b : Book) (S : Sound q b) where
     delete-agrees = of (call.DeleteMin p) (feedDelete b p) (λ n. refl)
         (λ A. walk-begun (feedDelete b p) (stage.Delete (del.ReadNext (place 0 1)))
         (walking (q .clock + 1)) refl refl
+        (λ i c. rw (i, eq-eqb (q .clock + 1) (b .count + 1) (omega arith)))
+        (omega (arith, A .ticks)) (A .here) (idle-begins _ (A .turn)))
+
+    pub relaxed-agrees : Agrees (feedRelaxed b p) (beginRelaxed q p)
+    relaxed-agrees = of (call.Relaxed p) (feedRelaxed b p) (λ n. refl)
+        (λ A. walk-begun (feedRelaxed b p) (stage.Relaxed (rlx.ReadNext (place 0 1)))
+        (relaxing (q .clock + 1)) refl refl
         (λ i c. rw (i, eq-eqb (q .clock + 1) (b .count + 1) (omega arith)))
         (omega (arith, A .ticks)) (A .here) (idle-begins _ (A .turn)))
 

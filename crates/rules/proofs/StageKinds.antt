@@ -12,6 +12,8 @@ use Rattle.record.specs.declared.stages.Removal.the-variants as rem
 use Rattle.record.specs.declared.stages.Delete.{Delete}
 use Rattle.record.specs.declared.stages.Delete.the-variants as del
 use Rattle.record.specs.declared.stages.Job.{Job}
+use Rattle.record.specs.declared.stages.Relaxed.{Relaxed}
+use Rattle.record.specs.declared.stages.Relaxed.the-variants as rlx
 use Rattle.record.specs.declared.stages.Stage.{Stage}
 use Rattle.record.specs.declared.stages.Stage.the-variants as stage
 use Rattle.record.specs.Stages.{isIdle}
@@ -21,6 +23,7 @@ pub kind-idle : (h : ℕ) (s : Stage) → isIdle s ≡ true → info h s .kind �
 kind-idle h stage.Idle e = refl
 kind-idle h (stage.Insert i) e = let z : _≡_ {A = ℕ} 0 1 = cc in absurd (omega arith)
 kind-idle h (stage.Delete i) e = let z : _≡_ {A = ℕ} 0 1 = cc in absurd (omega arith)
+kind-idle h (stage.Relaxed i) e = let z : _≡_ {A = ℕ} 0 1 = cc in absurd (omega arith)
 kind-idle h (stage.Removal job r) e = let z : _≡_ {A = ℕ} 0 1 = cc in absurd (omega arith)
 
 pub insert-kind : (h : ℕ) (i : Insert) → info h (stage.Insert i) .kind ≡ 1
@@ -39,6 +42,10 @@ pub walk-kind : (h : ℕ) (d : Delete) → info h (stage.Delete d) .kind ≡ 2
 walk-kind h (del.ReadNext a) = refl
 walk-kind h (del.TestStamp a) = refl
 walk-kind h (del.SetMark a) = refl
+
+pub relaxed-kind : (h : ℕ) (d : Relaxed) → info h (stage.Relaxed d) .kind ≡ 2
+relaxed-kind h (rlx.ReadNext a) = refl
+relaxed-kind h (rlx.SetMark a) = refl
 
 pub removal-kind : (job : Job) (h : ℕ) (r : Removal) → info h (stage.Removal job r) .kind ≡ 3
 removal-kind job h (rem.Search a) = refl
@@ -59,10 +66,12 @@ pub kind-busy : (h : ℕ) (s : Stage) → isIdle s ≡ false → 1 ≤ info h s 
 kind-busy h stage.Idle e = let z : _≡_ {A = ℕ} 0 1 = cc in absurd (omega arith)
 kind-busy h (stage.Insert i) e = omega (arith, insert-kind h i)
 kind-busy h (stage.Delete i) e = omega (arith, walk-kind h i)
+kind-busy h (stage.Relaxed i) e = omega (arith, relaxed-kind h i)
 kind-busy h (stage.Removal job r) e = omega (arith, removal-kind job h r)
 
 pub idle-false : (h : ℕ) (s : Stage) → 1 ≤ info h s .kind → isIdle s ≡ false
 idle-false h stage.Idle e = absurd (omega arith)
 idle-false h (stage.Insert i) e = refl
 idle-false h (stage.Delete i) e = refl
+idle-false h (stage.Relaxed i) e = refl
 idle-false h (stage.Removal job r) e = refl

@@ -1,5 +1,5 @@
 -- On a record that passes check 21 every call leaves the record as it is, or it applies a decision whose numbers are in range. Assumes nothing.
-use mathlib.Core.Path.{_≡_, refl, subst}
+use mathlib.Core.Path.{_≡_, refl, sym, subst}
 use mathlib.Core.Bool.{Bool, true, false, _&&_, _||_, true≢false, false≢true}
 use Prim.Native.Nat.{ℕ, zero, suc, _+_, _-_, _≤_, _<_}
 use native.Mathlib.Omega.{arith}
@@ -21,6 +21,8 @@ use Rattle.record.specs.declared.stages.Removal.{Removal}
 use Rattle.record.specs.declared.stages.Removal.the-variants as rem
 use Rattle.record.specs.declared.stages.Delete.{Delete}
 use Rattle.record.specs.declared.stages.Delete.the-variants as del
+use Rattle.record.specs.declared.stages.Relaxed.{Relaxed}
+use Rattle.record.specs.declared.stages.Relaxed.the-variants as rlx
 use Rattle.record.specs.declared.stages.Stage.{Stage}
 use Rattle.record.specs.declared.stages.Job.{Job}
 use Rattle.record.specs.declared.stages.Job.the-variants as jobs
@@ -49,10 +51,10 @@ use Rattle.rules.specs.Effects.{applied}
 use Rattle.rules.specs.declared.calls.Call.{Call}
 use Rattle.rules.specs.declared.calls.Call.the-variants as call
 use Rattle.rules.specs.Calls.{readingPlace, stepViewOf, stepDecision, insertDecision}
-use Rattle.rules.specs.Calls.{deleteDecision, decisionOf, processorOf}
+use Rattle.rules.specs.Calls.{nextOf, walkBegins, decisionOf, processorOf}
 use Rattle.rules.proofs.Allowed.{Allowed, of-call, numbers}
 use Rattle.rules.specs.Runs.{Turn, calls, backlog, markers, after}
-use Rattle.laws.proofs.Booleans.{cond-cases}
+use Rattle.laws.proofs.Booleans.{cond-cases, no}
 use Rattle.rules.proofs.ValidFacts.{Within, ValidPlace, ValidCarried, ValidProcessor, ValidQueue, valid-facts}
 
 -- the node x that an Insert takes, and its numbers
@@ -94,6 +96,7 @@ pub record ValidDecision (s : Sizes) (d : Decision) : Type 0 where
 pub record ValidView (s : Sizes) (a : Place) (v : StepView) : Type 0 where
   pub height : Within (v .height) (s .levelCount)
   pub next : v .next ≤ s .nodeCount + 1
+  pub inside : v .nextIsTail ≡ false → v .next ≤ s .nodeCount
   pub ownNext : v .ownNext ≤ s .nodeCount + 1
   pub levelCount : v .levelCount ≡ s .levelCount
   pub stamped : v .stamped ≡ true → Within (a .node) (s .nodeCount)
@@ -114,6 +117,10 @@ step-view-valid q c a Q C P =
     record {
       height = H;
       next = N .forward (a .level - 1) (omega arith);
+      inside = λ h.
+          let ne : (nextOf q a ≡ q .nodeCount + 1 → ⊥) =
+          eqb-false (nextOf q a) (q .nodeCount + 1) h in
+          omega (arith, N .forward (a .level - 1) (omega arith));
       ownNext = O .forward (a .level - 1) (omega arith);
       levelCount = refl;
       stamped = λ h. let k = stamped-before (nodeAt q (a .node) .stamp) (c .begin) h in N .stamped (k .0) (k .1);
@@ -326,10 +333,39 @@ module _ (s : Sizes) (levels : 1 ≤ s .levelCount) where
       (ownless (v .own) a (G .own-high) (G .place)))
       (λ x. marking-valid jobs.Deliver v a (W .levelCount) (G .marks refl))
 
+  relaxed-valid :
+      (v : StepView) (d : Relaxed) → ValidView s (readingPlace (stage.Relaxed d)) v →
+      ValidCarried s (carried (stage.Relaxed d)) (v .own) → ValidDecision s (Decide.relaxedStep v d)
+  relaxed-valid v (rlx.ReadNext a) W G =
+      let b = place (v .next) 1 in
+      let at : ValidPlace s b = record { node = W .next; level = level-one } in
+      cond-cases (λ d. ValidDecision s d) (v .nextIsTail) _ _
+      (λ x. answers-valid eff.Keep _ tt)
+      (λ x. cond-cases (λ d. ValidDecision s d) (eqb (v .next) 0) _ _
+      (λ y. moved-valid v eff.Keep (stage.Relaxed (rlx.ReadNext b)) tt
+      (ownless (v .own) b (G .own-high) at))
+      (λ y. moved-valid v eff.Keep (stage.Relaxed (rlx.SetMark b)) tt
+      (record {
+        own-high = G .own-high;
+        has-own = λ e. no e;
+        place = at;
+        ahead = W .next;
+        marks = λ e. record {
+          low = let ne : (v .next ≡ 0 → ⊥) = eqb-false (v .next) 0 y in omega arith;
+          high = W .inside x;
+        };
+      })))
+  relaxed-valid v (rlx.SetMark a) W G =
+      cond-cases (λ d. ValidDecision s d) (v .marked) _ _
+      (λ x. moved-valid v eff.Keep (stage.Relaxed (rlx.ReadNext a)) tt
+      (ownless (v .own) a (G .own-high) (G .place)))
+      (λ x. marking-valid jobs.Deliver v a (W .levelCount) (G .marks refl))
+
   pub decide-valid : (v : StepView) (g : Stage) → ValidView s (readingPlace g) v → ValidCarried s (carried g) (v .own) → ValidDecision s (Decide.decide v g)
   decide-valid v stage.Idle W G = moved-valid v eff.Keep stage.Idle tt G
   decide-valid v (stage.Insert i) W G = insert-valid v i W G
   decide-valid v (stage.Delete d) W G = delete-valid v d W G
+  decide-valid v (stage.Relaxed d) W G = relaxed-valid v d W G
   decide-valid v (stage.Removal job r) W G = removal-valid job v r W G
 
   pub reading-valid : (g : Stage) (own : ℕ) → ValidCarried s (carried g) own → ValidPlace s (readingPlace g)
@@ -338,6 +374,10 @@ module _ (s : Sizes) (levels : 1 ≤ s .levelCount) where
   reading-valid (stage.Delete (del.ReadNext a)) own G = record { node = G .place .node; level = level-one }
   reading-valid (stage.Delete (del.TestStamp a)) own G = record { node = G .place .node; level = level-one }
   reading-valid (stage.Delete (del.SetMark a)) own G = record { node = G .place .node; level = level-one }
+  reading-valid (stage.Relaxed (rlx.ReadNext a)) own G =
+      record { node = G .place .node; level = level-one }
+  reading-valid (stage.Relaxed (rlx.SetMark a)) own G =
+      record { node = G .place .node; level = level-one }
   reading-valid (stage.Removal job r) own G = subst (ValidPlace s) (removal-reads job r) (G .place)
 
 -- both halves of a test that fails
@@ -381,10 +421,19 @@ insert-begins-valid q x due item height Q F =
     let levels = Q .sizes .levelCount .low in
     record { effect = F; change = tt; carries = owning (sizesOf q) levels x (place 0 (q .levelCount)) (F .node) (head-place (sizesOf q) levels (q .levelCount) (omega arith)) }
 
-pub delete-begins-valid : (q : Queue) → ValidQueue q → ValidDecision (sizesOf q) (deleteDecision q)
-delete-begins-valid q Q =
+-- a Delete_Min's or a Relaxed one's
+walk-begins-valid : (q : Queue) → ValidQueue q → (g : Stage) →
+    carried g ≡ record { own = false; place = place 0 1; ahead = 0; marking = false } →
+    ValidDecision (sizesOf q) (walkBegins (q .clock + 1) g)
+walk-begins-valid q Q g is =
     let levels = Q .sizes .levelCount .low in
-    record { effect = tt; change = tt; carries = ownless (sizesOf q) levels 0 (place 0 1) (omega arith) (head-place (sizesOf q) levels 1 (omega arith)) }
+    record {
+      effect = tt;
+      change = tt;
+      carries = subst (λ (c : Carried). ValidCarried (sizesOf q) c 0) (sym is)
+          (ownless (sizesOf q) levels 0 (place 0 1) (omega arith)
+          (head-place (sizesOf q) levels 1 (omega arith)));
+    }
 
 -- what a call does to the record q: nothing, or it applies a decision in range, made on a record that passes check 21
 pub data Does (q : Queue) : Queue → Type 0 where
@@ -413,7 +462,10 @@ insert-does q p due item height A Q =
 pub decides-valid : (q : Queue) (c : Call) → Allowed q c → ValidQueue q →
     ValidDecision (sizesOf q) (decisionOf q c)
 decides-valid q (call.Insert p due item height) A Q = insert-does q p due item height A Q
-decides-valid q (call.DeleteMin p) A Q = delete-begins-valid q Q
+decides-valid q (call.DeleteMin p) A Q =
+    walk-begins-valid q Q (stage.Delete (del.ReadNext (place 0 1))) refl
+decides-valid q (call.Relaxed p) A Q =
+    walk-begins-valid q Q (stage.Relaxed (rlx.ReadNext (place 0 1))) refl
 decides-valid q (call.Step p) A Q = step-valid q (processorAt q p) Q (Q .processors p (A .here))
 
 pub does : (q : Queue) (c : Turn) → Does q (after q c)

@@ -12,6 +12,8 @@ use Rattle.record.specs.declared.stages.Delete.{Delete}
 use Rattle.record.specs.declared.stages.Delete.the-variants as del
 use Rattle.record.specs.declared.stages.Removal.{Removal}
 use Rattle.record.specs.declared.stages.Removal.the-variants as rem
+use Rattle.record.specs.declared.stages.Relaxed.{Relaxed}
+use Rattle.record.specs.declared.stages.Relaxed.the-variants as rlx
 use Rattle.record.specs.declared.stages.Stage.{Stage}
 use Rattle.record.specs.declared.stages.Stage.the-variants as stage
 
@@ -114,6 +116,11 @@ walks (del.ReadNext a) = walkInfo 2 0 a
 walks (del.TestStamp a) = walkInfo 1 0 a
 walks (del.SetMark a) = walkInfo 1 2 a
 
+-- of a Relaxed Delete_Min (02, W3): at its W3 nothing is known of the stamp
+abbrev pub relaxes : Relaxed → Info
+relaxes (rlx.ReadNext a) = walkInfo 2 0 a
+relaxes (rlx.SetMark a) = walkInfo 1 1 a
+
 abbrev pub removals : ℕ → Removal → Info
 removals h (rem.Search a) = record { kind = 3; node = a .node; level = a .level; b = a .node; hp = 0; ho = 0; hn = 0; nx = 0; lo = h; from = a .level + 1; strict = 0; early = 0; past = 0; goal = 0; found = 0 }
 removals h rem.HoldNode = record { kind = 3; node = 0; level = 1; b = 0; hp = 0; ho = 0; hn = 0; nx = 0; lo = h; from = 1; strict = 0; early = 0; past = 0; goal = 0; found = 0 }
@@ -130,6 +137,7 @@ abbrev pub info : ℕ → Stage → Info
 info h stage.Idle = record { kind = 0; node = 0; level = 1; b = 0; hp = 0; ho = 0; hn = 0; nx = 0; lo = 0; from = 9; strict = 0; early = 0; past = 0; goal = 0; found = 0 }
 info h (stage.Insert i) = inserts h i
 info h (stage.Delete d) = walks d
+info h (stage.Relaxed x) = relaxes x
 info h (stage.Removal job r) = removals h r
 
 -- the key of the operation, k being the own node's
@@ -137,6 +145,7 @@ abbrev pub rankFor : Stage → ℕ → ℕ
 rankFor stage.Idle k = k
 rankFor (stage.Insert i) k = k
 rankFor (stage.Delete d) k = k
+rankFor (stage.Relaxed x) k = k
 rankFor (stage.Removal job r) k = k
 
 -- what processor q claims in v

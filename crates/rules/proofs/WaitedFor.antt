@@ -14,7 +14,7 @@ use Rattle.record.specs.declared.stages.Stage.{Stage}
 use Rattle.record.specs.declared.stages.Stage.the-variants as stage
 use Rattle.record.specs.Queues.{freshQueue, processorAt}
 use Rattle.record.specs.Stages.{carried, isIdle}
-use Rattle.rules.specs.Book.{Book, Open, nothing, inserting, walking, unlinking}
+use Rattle.rules.specs.Book.{Book, Open, nothing, inserting, walking, relaxing, unlinking}
 use Rattle.rules.specs.Calls.{idleAt}
 use Rattle.rules.specs.Demand3.{WaitedFor, WaitsForABusyHolder}
 use Rattle.rules.specs.Locks.{Lock, level, node, holderOf, holdsPlace, holdsOwn, holdsNode}
@@ -49,6 +49,7 @@ busy-by : (holds : Stage → Bool) → holds stage.Idle ≡ false → (g : Stage
 busy-by holds none stage.Idle h = no (sym none ∙ h)
 busy-by holds none (stage.Insert i) h = refl
 busy-by holds none (stage.Delete d) h = refl
+busy-by holds none (stage.Relaxed d) h = refl
 busy-by holds none (stage.Removal job r) h = refl
 
 claims-busy : (c : Processor) (l : Lock) → Claims c l → isIdle (c .stage) ≡ false
@@ -61,12 +62,14 @@ abbrev isOpen : Open → Bool
 isOpen nothing = false
 isOpen (inserting t) = true
 isOpen (walking t) = true
+isOpen (relaxing t) = true
 isOpen (unlinking t) = true
 
 open-busy : (g : Stage) (T t : ℕ) → isIdle g ≡ false → isOpen (opens g T t) ≡ true
 open-busy stage.Idle T t i = no (sym i)
 open-busy (stage.Insert i) T t e = refl
 open-busy (stage.Delete d) T t e = refl
+open-busy (stage.Relaxed d) T t e = refl
 open-busy (stage.Removal jobs.Deliver r) T t e = refl
 
 abbrev isNode : Lock → Bool

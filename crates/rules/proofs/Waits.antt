@@ -20,6 +20,8 @@ use Rattle.record.specs.declared.stages.Job.{Job}
 use Rattle.record.specs.declared.stages.Job.the-variants as jobs
 use Rattle.record.specs.declared.stages.Delete.{Delete}
 use Rattle.record.specs.declared.stages.Delete.the-variants as del
+use Rattle.record.specs.declared.stages.Relaxed.{Relaxed}
+use Rattle.record.specs.declared.stages.Relaxed.the-variants as rlx
 use Rattle.record.specs.declared.stages.Stage.{Stage}
 use Rattle.record.specs.declared.stages.Stage.the-variants as stage
 use Rattle.record.specs.Queues.{processorAt}
@@ -39,7 +41,7 @@ use Rattle.rules.specs.Calls.{readingPlace, stepViewOf, stepDecision, ca
 use Rattle.rules.specs.Decide.{attempt, waits, searchStep, seekStep, placeTried}
 use Rattle.rules.specs.Decide.{insertSearched, insertSought, insertStep}
 use Rattle.rules.specs.Decide.{removing, removalSearched, removalSought, nodeTried, ownTried}
-use Rattle.rules.specs.Decide.{removalStep, deleteStep, decide}
+use Rattle.rules.specs.Decide.{removalStep, deleteStep, relaxedStep, decide}
 use Rattle.rules.specs.Locks.{Lock, level, node, holderOf}
 use Rattle.rules.specs.Locks.{Asks, insert-place, removal-place, own-node, own-level}
 use Rattle.rules.specs.Runs.{Reply, answered, counted, listed}
@@ -159,10 +161,18 @@ module _ (s : StepView) where
   delete-waits (del.SetMark a) =
       cond-elim (Waiting (stage.Delete (del.SetMark a))) (s .marked) _ _ no no
 
+  relaxed-waits : (d : Relaxed) → Waiting (stage.Relaxed d) (relaxedStep s d)
+  relaxed-waits (rlx.ReadNext a) =
+      cond-elim (Waiting (stage.Relaxed (rlx.ReadNext a))) (s .nextIsTail) _ _ no
+      (cond-elim (Waiting (stage.Relaxed (rlx.ReadNext a))) (eqb (s .next) 0) _ _ no no)
+  relaxed-waits (rlx.SetMark a) =
+      cond-elim (Waiting (stage.Relaxed (rlx.SetMark a))) (s .marked) _ _ no no
+
   pub stands : (g : Stage) → Waiting g (decide s g)
   stands stage.Idle = no
   stands (stage.Insert i) = insert-waits i
   stands (stage.Delete d) = delete-waits d
+  stands (stage.Relaxed d) = relaxed-waits d
   stands (stage.Removal j r) = removal-waits j r
 
 -- the lock that a step has read is the one that its stage asks for

@@ -177,6 +177,24 @@ module _ (v : View) (u : ℕ → ℕ → ℕ) (I : Inv v u) (room : v .clock + 1
         walk-to s′ 1 y′ (place (v .fwd (a .node) 1) 1) to (next-readable nt)
         (record { ownless = walk-busy .walks refl .ownless; entry = entry; named = λ k. absurd (omega arith); stamped = λ k. absurd (omega arith); ahead = λ l n L. omega (arith, next-ahead H two n L) })
 
+    -- W1, led back to the head: nothing eligible is at or before it
+    pub walk-head : v .fwd (a .node) 1 ≡ 0 → (s′ : Stage) →
+        info h s′ ≡ walkInfo 2 0 (place (v .fwd (a .node) 1) 1) →
+        Inv (ticked v p (staged (v .pr p) s′)) u
+    walk-head z s′ to =
+        walk-to s′ 2 0 (place (v .fwd (a .node) 1) 1) to (next-readable (λ t. omega arith))
+        (record {
+          ownless = walk-busy .walks refl .ownless;
+          entry = λ k. absurd (omega arith);
+          named = λ k. absurd (omega arith);
+          stamped = λ k. absurd (omega arith);
+          ahead = λ l n L. rw z (omega (
+            arith,
+            I .core .ends .head-key,
+            I .core .ends .keys n (L .low) (omega (arith, L .high)) .0,
+          ));
+        })
+
     -- the place is not eligible: back to W1
     pub walk-past : 1 ≤ x → (Able (a .node) → ⊥) → (s′ : Stage) → info h s′ ≡ walkInfo 2 0 a →
         Inv (ticked v p (staged (v .pr p) s′)) u

@@ -39,11 +39,13 @@ pub record BookEntry : Type 0 where
   pub handedOut : Bool
 
 -- what a processor has open: nothing, the Insert of the entry with this ticket, a Delete_Min begun
--- at this time with nothing marked, or a Delete_Min that marked the entry with this ticket
+-- at this time with nothing marked, a Relaxed one (02, W3) begun then with nothing marked, or a
+-- Delete_Min of either kind that marked the entry with this ticket
 pub data Open : Type 0 where
   nothing : Open
   inserting : ℕ → Open
   walking : ℕ → Open
+  relaxing : ℕ → Open
   unlinking : ℕ → Open
 
 -- the entries stand under their tickets
@@ -105,6 +107,13 @@ pickTo b begin (suc n) = better b begin (suc n) (pickTo b begin n)
 abbrev pub pick : Book → ℕ → ℕ
 pick b begin = pickTo b begin (b .count)
 
+-- which entries a Relaxed Delete_Min that began at a time may mark (02, W3): any whose Insert has
+-- begun and that no step has marked, unless a candidate is earlier, that is, unless the pick is
+abbrev pub relaxedMay : Book → ℕ → ℕ → Bool
+relaxedMay b begin t =
+    b .entry t .written && (not (b .entry t .marked)
+    && (eqb (pick b begin) 0 || not (earlier b (pick b begin) t)))
+
 -- the entry t is answered, at whatever time; and it is answered and not marked
 abbrev pub answeredIn : Book → ℕ → Bool
 answeredIn b t = answeredBefore b never t
@@ -163,24 +172,29 @@ abbrev pub ifNothing : Verdict → Open → Verdict
 ifNothing v nothing = v
 ifNothing v (inserting t) = differs
 ifNothing v (walking t) = differs
+ifNothing v (relaxing t) = differs
 ifNothing v (unlinking t) = differs
 
 abbrev pub ifInserting : (ℕ → Verdict) → Open → Verdict
 ifInserting v nothing = differs
 ifInserting v (inserting t) = v t
 ifInserting v (walking t) = differs
+ifInserting v (relaxing t) = differs
 ifInserting v (unlinking t) = differs
 
-abbrev pub ifWalking : (ℕ → Verdict) → Open → Verdict
-ifWalking v nothing = differs
-ifWalking v (inserting t) = differs
-ifWalking v (walking t) = v t
-ifWalking v (unlinking t) = differs
+-- of a Delete_Min with nothing marked, and of a Relaxed one
+abbrev pub ifWalking : (ℕ → Verdict) → (ℕ → Verdict) → Open → Verdict
+ifWalking v w nothing = differs
+ifWalking v w (inserting t) = differs
+ifWalking v w (walking t) = v t
+ifWalking v w (relaxing t) = w t
+ifWalking v w (unlinking t) = differs
 
 abbrev pub ifUnlinking : (ℕ → Verdict) → Open → Verdict
 ifUnlinking v nothing = differs
 ifUnlinking v (inserting t) = differs
 ifUnlinking v (walking t) = differs
+ifUnlinking v (relaxing t) = differs
 ifUnlinking v (unlinking t) = v t
 
 -- the begin of an operation at the time t, where nothing is open and the time is right: the entries
@@ -193,9 +207,12 @@ abbrev pub beginsInsert : Book → ℕ → ℕ → ℕ → ℕ → Open → Verd
 beginsInsert b p due item t o =
     begins b p t (changedAt (b .entry) t (justFiled due item)) (inserting t) o
 
--- of a Delete_Min
+-- of a Delete_Min, and of a Relaxed one
 abbrev pub beginsDelete : Book → ℕ → ℕ → Open → Verdict
 beginsDelete b p t o = begins b p t (b .entry) (walking t) o
+
+abbrev pub beginsRelaxed : Book → ℕ → ℕ → Open → Verdict
+beginsRelaxed b p t o = begins b p t (b .entry) (relaxing t) o
 
 -- the answer of the Insert that is open: it tells what the entry holds, and ends the Insert
 abbrev pub inserted : Book → ℕ → Entry → Open → Verdict
@@ -203,17 +220,29 @@ inserted b p e o =
     ifInserting (λ t. agreesIf (gives b e t)
     (afterCall b (changedAt (b .entry) t (withAnswer (b .entry t) (now b))) p nothing)) o
 
--- a mark, by a Delete_Min that has none yet: it tells what the pick holds, and there has to be one
-abbrev pub marks : Book → ℕ → Entry → Open → Verdict
-marks b p e o =
-    ifWalking (λ begin. agreesIf (ltb 0 (pick b begin) && gives b e (pick b begin))
-    (afterCall b (changedAt (b .entry) (pick b begin) (withMarked (b .entry (pick b begin)))) p
-    (unlinking (pick b begin)))) o
+-- the entry t is marked, by processor p
+abbrev pub afterMark : Book → ℕ → ℕ → Book
+afterMark b p t = afterCall b (changedAt (b .entry) t (withMarked (b .entry t))) p (unlinking t)
 
--- EMPTY, where there is no pick: it ends the Delete_Min
+-- a mark by a Delete_Min that has none yet: it tells what the pick holds, and there has to be one
+abbrev pub marksPick : Book → ℕ → Entry → ℕ → Verdict
+marksPick b p e begin =
+    agreesIf (ltb 0 (pick b begin) && gives b e (pick b begin)) (afterMark b p (pick b begin))
+
+-- and by a Relaxed one: it tells what an entry holds that it may mark
+abbrev pub marksRelaxed : Book → ℕ → Entry → ℕ → Verdict
+marksRelaxed b p e begin =
+    agreesIf (relaxedMay b begin (e .ticket) && gives b e (e .ticket)) (afterMark b p (e .ticket))
+
+abbrev pub marks : Book → ℕ → Entry → Open → Verdict
+marks b p e o = ifWalking (marksPick b p e) (marksRelaxed b p e) o
+
+-- EMPTY, of either kind, where there is no pick: it ends the operation
+abbrev pub emptyAt : Book → ℕ → ℕ → Verdict
+emptyAt b p begin = agreesIf (eqb (pick b begin) 0) (afterCall b (b .entry) p nothing)
+
 abbrev pub empties : Book → ℕ → Open → Verdict
-empties b p o =
-    ifWalking (λ begin. agreesIf (eqb (pick b begin) 0) (afterCall b (b .entry) p nothing)) o
+empties b p o = ifWalking (emptyAt b p) (emptyAt b p) o
 
 -- the hand-out of the entry that the Delete_Min marked, if it was not handed out already: it tells
 -- what the entry holds, and ends the Delete_Min
@@ -230,6 +259,7 @@ abbrev pub moves : Book → Open → Verdict
 moves b nothing = differs
 moves b (inserting t) = agrees (ticked b)
 moves b (walking t) = agrees (ticked b)
+moves b (relaxing t) = agrees (ticked b)
 moves b (unlinking t) = agrees (ticked b)
 
 -- the book after the answer of a begin: a refusal changes nothing, the time is right where `begun`
@@ -247,6 +277,9 @@ feedInsert b p due item a = feedBegin b (λ t. beginsInsert b p due item t (b .o
 
 abbrev pub feedDelete : Book → ℕ → Answer → Verdict
 feedDelete b p a = feedBegin b (λ t. beginsDelete b p t (b .opened p)) a
+
+abbrev pub feedRelaxed : Book → ℕ → Answer → Verdict
+feedRelaxed b p a = feedBegin b (λ t. beginsRelaxed b p t (b .opened p)) a
 
 -- after the answer of a step that tells of an entry, and of any step
 abbrev pub feedDeed : Book → ℕ → Entry → Deed → Verdict
@@ -277,6 +310,7 @@ abbrev pub isUnlinking : Open → Bool
 isUnlinking nothing = false
 isUnlinking (inserting t) = false
 isUnlinking (walking t) = false
+isUnlinking (relaxing t) = false
 isUnlinking (unlinking t) = true
 
 -- how often p stands as the marker among the first k pairs of the area
@@ -299,6 +333,7 @@ feedMarkers b (listing.Nodes k) area =
 abbrev pub feedCall : Book → Call → Answer → Verdict
 feedCall b (call.Insert p due item height) a = feedInsert b p due item a
 feedCall b (call.DeleteMin p) a = feedDelete b p a
+feedCall b (call.Relaxed p) a = feedRelaxed b p a
 feedCall b (call.Step p) a = feedStep b p a
 
 -- a turn and what it gave back

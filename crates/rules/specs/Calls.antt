@@ -9,6 +9,7 @@ use Rattle.record.specs.declared.stages.Insert.the-variants as ins
 use Rattle.record.specs.declared.stages.Removal.{Removal}
 use Rattle.record.specs.declared.stages.Delete.{Delete}
 use Rattle.record.specs.declared.stages.Delete.the-variants as del
+use Rattle.record.specs.declared.stages.Relaxed.the-variants as rlx
 use Rattle.record.specs.declared.stages.Stage.{Stage}
 use Rattle.record.specs.declared.stages.Stage.the-variants as stage
 use Rattle.record.specs.declared.nodes.Node.{Node}
@@ -45,6 +46,7 @@ abbrev pub keyFor : Stage → Key → Key
 keyFor stage.Idle k = k
 keyFor (stage.Insert i) k = k
 keyFor (stage.Delete d) k = k
+keyFor (stage.Relaxed x) k = k
 keyFor (stage.Removal job r) k = k
 
 abbrev pub entryOf : Node → Entry
@@ -97,15 +99,22 @@ insertBegins levels t x due item height = record {
   answer = ans.Began t;
 }
 
--- a Delete_Min walks from the head
-abbrev pub deleteBegins : ℕ → Decision
-deleteBegins t = record {
+-- a walk begins with this stage
+abbrev pub walkBegins : ℕ → Stage → Decision
+walkBegins t g = record {
   effect = eff.Keep;
-  stage = stage.Delete (del.ReadNext (place 0 1));
+  stage = g;
   own = 0;
   change = change.Begin;
   answer = ans.Began t;
 }
+
+-- a Delete_Min and a Relaxed one (02, W3) walk from the head
+abbrev pub deleteBegins : ℕ → Decision
+deleteBegins t = walkBegins t (stage.Delete (del.ReadNext (place 0 1)))
+
+abbrev pub relaxedBegins : ℕ → Decision
+relaxedBegins t = walkBegins t (stage.Relaxed (rlx.ReadNext (place 0 1)))
 
 abbrev pub insertDecision : Queue → ℕ → ℕ → ℕ → ℕ → Decision
 insertDecision q x due item height = insertBegins (q .levelCount) (q .clock + 1) x due item height
@@ -113,27 +122,34 @@ insertDecision q x due item height = insertBegins (q .levelCount) (q .clock + 1)
 abbrev pub deleteDecision : Queue → Decision
 deleteDecision q = deleteBegins (q .clock + 1)
 
+abbrev pub relaxedDecision : Queue → Decision
+relaxedDecision q = relaxedBegins (q .clock + 1)
+
 -- the node that a call takes: an Insert's, 0 if there is none for it; of the other calls 0
 abbrev pub taken : Queue → Call → ℕ
 taken q (call.Insert p due item height) = chosen q
 taken q (call.DeleteMin p) = 0
+taken q (call.Relaxed p) = 0
 taken q (call.Step p) = 0
 
 -- the decision of a call that is not refused
 abbrev pub decisionOf : Queue → Call → Decision
 decisionOf q (call.Insert p due item height) = insertDecision q (chosen q) due item height
 decisionOf q (call.DeleteMin p) = deleteDecision q
+decisionOf q (call.Relaxed p) = relaxedDecision q
 decisionOf q (call.Step p) = stepDecision q (processorAt q p)
 
 abbrev pub processorOf : Call → ℕ
 processorOf (call.Insert p due item height) = p
 processorOf (call.DeleteMin p) = p
+processorOf (call.Relaxed p) = p
 processorOf (call.Step p) = p
 
 -- 33 is for a begin of a busy processor, 34 for a step of an idle one
 abbrev pub turnRefusal : Call → Bool → ℕ
 turnRefusal (call.Insert p due item height) idle = cond idle 0 33
 turnRefusal (call.DeleteMin p) idle = cond idle 0 33
+turnRefusal (call.Relaxed p) idle = cond idle 0 33
 turnRefusal (call.Step p) idle = cond idle 34 0
 
 -- 35, 36 and, directly after 35, document 02's 39 (W10): an Insert's numbers, on l levels
@@ -146,12 +162,14 @@ insertRefusal due item height l =
 abbrev pub numbersRefusal : Call → ℕ → ℕ
 numbersRefusal (call.Insert p due item height) l = insertRefusal due item height l
 numbersRefusal (call.DeleteMin p) l = 0
+numbersRefusal (call.Relaxed p) l = 0
 numbersRefusal (call.Step p) l = 0
 
 -- 37 is for an Insert that finds no node; x is the one that it would take, or 0
 abbrev pub nodeRefusal : Call → ℕ → ℕ
 nodeRefusal (call.Insert p due item height) x = cond (eqb x 0) 37 0
 nodeRefusal (call.DeleteMin p) x = 0
+nodeRefusal (call.Relaxed p) x = 0
 nodeRefusal (call.Step p) x = 0
 
 -- the first of two refusals, or 0
@@ -189,6 +207,9 @@ beginInsert q p due item height = called q (call.Insert p due item height)
 
 abbrev pub beginDeleteMin : Queue → ℕ → Outcome
 beginDeleteMin q p = called q (call.DeleteMin p)
+
+abbrev pub beginRelaxed : Queue → ℕ → Outcome
+beginRelaxed q p = called q (call.Relaxed p)
 
 abbrev pub step : Queue → ℕ → Outcome
 step q p = called q (call.Step p)

@@ -14,6 +14,8 @@ use Rattle.record.specs.declared.stages.Job.{Job}
 use Rattle.record.specs.declared.stages.Job.the-variants as jobs
 use Rattle.record.specs.declared.stages.Delete.{Delete}
 use Rattle.record.specs.declared.stages.Delete.the-variants as del
+use Rattle.record.specs.declared.stages.Relaxed.{Relaxed}
+use Rattle.record.specs.declared.stages.Relaxed.the-variants as rlx
 use Rattle.record.specs.declared.stages.Stage.{Stage}
 use Rattle.record.specs.declared.stages.Stage.the-variants as stage
 use Rattle.record.specs.Stages.{place}
@@ -207,19 +209,31 @@ marking job s a = record {
   answer = ans.Did deed.Marked (s .placeEntry);
 }
 
--- 01, W3
-abbrev pub markTest : StepView → Place → Decision
-markTest s a =
-    cond (s .marked) (moved s eff.Keep (stage.Delete (del.ReadNext a))) (marking jobs.Deliver s a)
+-- 01, W3: a node that is marked already is walked past, to this stage
+abbrev pub markTest : StepView → Place → Stage → Decision
+markTest s a past = cond (s .marked) (moved s eff.Keep past) (marking jobs.Deliver s a)
 
 abbrev pub deleteStep : StepView → Delete → Decision
 deleteStep s (del.ReadNext a) = walkOn s
 deleteStep s (del.TestStamp a) = stampTest s a
-deleteStep s (del.SetMark a) = markTest s a
+deleteStep s (del.SetMark a) = markTest s a (stage.Delete (del.ReadNext a))
+
+-- W1 of a Relaxed Delete_Min (02, W3): straight on to the mark, but on the head, which has none and
+-- where a walk that was led back may come, W1 again
+abbrev pub relaxedOn : StepView → Decision
+relaxedOn s =
+    cond (s .nextIsTail) (answers eff.Keep ans.Empty)
+    (cond (eqb (s .next) 0) (moved s eff.Keep (stage.Relaxed (rlx.ReadNext (place (s .next) 1))))
+    (moved s eff.Keep (stage.Relaxed (rlx.SetMark (place (s .next) 1)))))
+
+abbrev pub relaxedStep : StepView → Relaxed → Decision
+relaxedStep s (rlx.ReadNext a) = relaxedOn s
+relaxedStep s (rlx.SetMark a) = markTest s a (stage.Relaxed (rlx.ReadNext a))
 
 -- an idle processor has no step: the call is refused before this
 abbrev pub decide : StepView → Stage → Decision
 decide s stage.Idle = moved s eff.Keep stage.Idle
 decide s (stage.Insert i) = insertStep s i
 decide s (stage.Delete d) = deleteStep s d
+decide s (stage.Relaxed x) = relaxedStep s x
 decide s (stage.Removal job r) = removalStep job s r

@@ -15,8 +15,8 @@ use Rattle.record_markers.specs.Markers.{inUseAt}
 use Rattle.rules.specs.declared.answers.Answer.the-variants as ans
 use Rattle.rules.specs.declared.answers.Deed.the-variants as deed
 use Rattle.rules.specs.declared.answers.Entry.{Entry}
-use Rattle.rules.specs.Book.{Book, nothing, walking, unlinking, emptyBook, agrees, judged}
-use Rattle.rules.specs.Book.{earlier, answeredIn, pendingIn}
+use Rattle.rules.specs.Book.{Book, nothing, walking, relaxing, unlinking, emptyBook, agrees}
+use Rattle.rules.specs.Book.{judged, now, earlier, answeredIn, pendingIn}
 use Rattle.rules.specs.Calls.{idleAt}
 use Rattle.rules.specs.Locks.{Lock, level, node, holderOf, Claims}
 use Rattle.rules.specs.Runs.{Turn, stepBy, backlog, Reply, answered, counted, reply, afterAll}
@@ -69,7 +69,8 @@ pub record Earliest (b : Book) (p : ℕ) (e : Entry) : Type 0 where
 abbrev pub MarkedIsEarliest : Type 0
 MarkedIsEarliest =
     (P N L : ℕ) → InRange P N L → (cs : List Turn) (b : Book) → BookAfter P N L cs b
-    → (p : ℕ) (e : Entry) → stepReply P N L cs p ≡ answered (ans.Did deed.Marked e) → Earliest b p e
+    → (p begin : ℕ) (e : Entry) → b .opened p ≡ walking begin → stepReply P N L cs p
+    ≡ answered (ans.Did deed.Marked e) → Earliest b p e
 
 -- EMPTY: there is none.
 pub record NoneLeft (b : Book) (p : ℕ) : Type 0 where
@@ -79,10 +80,56 @@ pub record NoneLeft (b : Book) (p : ℕ) : Type 0 where
 
 abbrev pub EmptyIsTrue : Type 0
 EmptyIsTrue =
-    (P N L : ℕ) → InRange P N L → (cs : List Turn) (b : Book) → BookAfter P N L cs b → (p : ℕ)
-    → stepReply P N L cs p ≡ answered ans.Empty → NoneLeft b p
+    (P N L : ℕ) → InRange P N L → (cs : List Turn) (b : Book) → BookAfter P N L cs b
+    → (p begin : ℕ) → b .opened p ≡ walking begin → stepReply P N L cs p
+    ≡ answered ans.Empty → NoneLeft b p
 
--- What is handed out is what this Delete_Min marked.
+-- Beside these, a Relaxed Delete_Min (02, W3). The Insert of what it marks began at an earlier call
+-- than the mark, and may have answered or not; nobody has marked the entry; and of those that a
+-- Delete_Min begun at the same time might take, none comes before it.
+pub record RelaxedFirst (b : Book) (p : ℕ) (e : Entry) : Type 0 where
+  pub begin : ℕ
+  pub opened : b .opened p ≡ relaxing begin
+  pub written : b .entry (e .ticket) .written ≡ true
+  pub begun : e .ticket < now b
+  pub unmarked : b .entry (e .ticket) .marked ≡ false
+  pub entered : Entered b e
+  pub none-earlier : (t : ℕ) → Left b begin t → earlier b t (e .ticket) ≡ false
+
+abbrev pub RelaxedIsFirst : Type 0
+RelaxedIsFirst =
+    (P N L : ℕ) → InRange P N L → (cs : List Turn) (b : Book) → BookAfter P N L cs b
+    → (p begin : ℕ) (e : Entry) → b .opened p ≡ relaxing begin → stepReply P N L cs p
+    ≡ answered (ans.Did deed.Marked e) → RelaxedFirst b p e
+
+-- Its EMPTY: there is none of these.
+pub record NoneLeftRelaxed (b : Book) (p : ℕ) : Type 0 where
+  pub begin : ℕ
+  pub opened : b .opened p ≡ relaxing begin
+  pub none : (t : ℕ) → Left b begin t → ⊥
+
+abbrev pub RelaxedEmptyIsTrue : Type 0
+RelaxedEmptyIsTrue =
+    (P N L : ℕ) → InRange P N L → (cs : List Turn) (b : Book) → BookAfter P N L cs b
+    → (p begin : ℕ) → b .opened p ≡ relaxing begin → stepReply P N L cs p
+    ≡ answered ans.Empty → NoneLeftRelaxed b p
+
+-- And there is no third: whoever marks, or is told EMPTY, has one of the two open.
+pub data WalkOpen (b : Book) (p : ℕ) : Type 0 where
+  delete-min : (begin : ℕ) → b .opened p ≡ walking begin → WalkOpen b p
+  relaxed : (begin : ℕ) → b .opened p ≡ relaxing begin → WalkOpen b p
+
+abbrev pub MarkedByAWalk : Type 0
+MarkedByAWalk =
+    (P N L : ℕ) → InRange P N L → (cs : List Turn) (b : Book) → BookAfter P N L cs b
+    → (p : ℕ) (e : Entry) → stepReply P N L cs p ≡ answered (ans.Did deed.Marked e) → WalkOpen b p
+
+abbrev pub EmptyToAWalk : Type 0
+EmptyToAWalk =
+    (P N L : ℕ) → InRange P N L → (cs : List Turn) (b : Book) → BookAfter P N L cs b → (p : ℕ)
+    → stepReply P N L cs p ≡ answered ans.Empty → WalkOpen b p
+
+-- What is handed out is what this Delete_Min, of either kind, marked.
 pub record Delivered (b : Book) (p : ℕ) (e : Entry) : Type 0 where
   pub opened : b .opened p ≡ unlinking (e .ticket)
   pub entered : Entered b e

@@ -16,7 +16,7 @@ use Rattle.rules.specs.declared.answers.Answer.the-variants as ans
 use Rattle.rules.specs.declared.answers.Entry.{Entry}
 use Rattle.rules.specs.declared.calls.Call.{Call}
 use Rattle.rules.specs.declared.calls.Call.the-variants as call
-use Rattle.rules.specs.Runs.{Turn, calls, deleteMin, stepBy, backlog, markers, after}
+use Rattle.rules.specs.Runs.{Turn, calls, deleteMin, relaxed, stepBy, backlog, markers, after}
 use Rattle.rules.specs.Runs.{Reply, answered, counted, listed, reply}
 
 -- f gives new numbers to items: what was in its range and nothing else comes to be in it. 0 stays,
@@ -69,6 +69,7 @@ renamedReply f (listed k area) = listed k area
 abbrev pub renamedCall : (ℕ → ℕ) → Call → Call
 renamedCall f (call.Insert p due item height) = call.Insert p due (f item) height
 renamedCall f (call.DeleteMin p) = call.DeleteMin p
+renamedCall f (call.Relaxed p) = call.Relaxed p
 renamedCall f (call.Step p) = call.Step p
 
 abbrev pub renamedTurn : (ℕ → ℕ) → Turn → Turn
@@ -80,6 +81,7 @@ renamedTurn f (markers area) = markers area
 abbrev pub itemOf : Call → ℕ
 itemOf (call.Insert p due item height) = item
 itemOf (call.DeleteMin p) = 0
+itemOf (call.Relaxed p) = 0
 itemOf (call.Step p) = 0
 
 abbrev pub itemIn : Turn → ℕ
@@ -111,6 +113,7 @@ zeroFor k n = cond (eqb n k) 0 n
 pub record GoesOnWithZero (k : ℕ) (q : Queue) : Type 0 where
   pub taken : valid (renamed (zeroFor k) q) ≡ valid q
   pub begun : (p : ℕ) → SameButItems (zeroFor k) q (deleteMin p)
+  pub begun-relaxed : (p : ℕ) → SameButItems (zeroFor k) q (relaxed p)
   pub stepped : (p : ℕ) → SameButItems (zeroFor k) q (stepBy p)
 
 abbrev pub ItemZeroGoesOn : Type 0

@@ -25,6 +25,9 @@ insert p due item height = calls (call.Insert p due item height)
 abbrev pub deleteMin : ℕ → Turn
 deleteMin p = calls (call.DeleteMin p)
 
+abbrev pub relaxed : ℕ → Turn
+relaxed p = calls (call.Relaxed p)
+
 abbrev pub stepBy : ℕ → Turn
 stepBy p = calls (call.Step p)
 

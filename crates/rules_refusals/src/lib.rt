@@ -16,6 +16,7 @@ pub fn processor_of(c: Call) -> u32
     match c {
         Call::Insert(p, _, _, _) => p,
         Call::DeleteMin(p) => p,
+        Call::Relaxed(p) => p,
         Call::Step(p) => p,
     }
 }
@@ -27,6 +28,7 @@ fn turn_refusal(c: Call, idle: bool) -> u8
     match c {
         Call::Insert(_, _, _, _) => if idle { 0 } else { 33 },
         Call::DeleteMin(_) => if idle { 0 } else { 33 },
+        Call::Relaxed(_) => if idle { 0 } else { 33 },
         Call::Step(_) => if idle { 34 } else { 0 },
     }
 }
@@ -63,6 +65,7 @@ fn numbers_refusal(c: Call, levels: u8) -> u8
     match c {
         Call::Insert(_, due, item, height) => insert_refusal(due, item, height, levels),
         Call::DeleteMin(_) => 0,
+        Call::Relaxed(_) => 0,
         Call::Step(_) => 0,
     }
 }
@@ -92,6 +95,7 @@ pub fn node_refusal(c: Call, x: u8) -> u8
     match c {
         Call::Insert(_, _, _, _) => if x == 0 { 37 } else { 0 },
         Call::DeleteMin(_) => 0,
+        Call::Relaxed(_) => 0,
         Call::Step(_) => 0,
     }
 }

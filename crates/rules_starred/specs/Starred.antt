@@ -1,8 +1,9 @@
 -- The starred runs of document 01 (runs at the edges) in one table: what is asked of the
 -- definitions, and what document 01 expects. Run 2 is as document 02 changes it (W8), with its
 -- examples and the last count that is taken; the backlog along the printed run is document 02's
--- (W2), and so are markers (W6), asked along that run and run 5, and the holders of locks that are
--- waited for (W1). proofs/Starred.antt has the one fact that covers the table.
+-- (W2), and so are markers (W6), asked along that run and run 5, the holders of locks that are
+-- waited for (W1), and the Relaxed Delete_Min (W3). proofs/Starred.antt has the one fact that
+-- covers the table.
 use Prim.Native.Nat.{ℕ, zero, suc, _-_}
 use mathlib.Core.Path.{_≡_}
 use mathlib.Core.List.{List, [], _∷_, _++_}
@@ -16,8 +17,8 @@ use Rattle.record_check.specs.Making.{made}
 use Rattle.record.specs.Queues.{freshQueue, processorAt}
 use Rattle.rules.specs.Answers.{reported}
 use Rattle.record_markers.specs.Markers.{reportedMarkers}
-use Rattle.rules.specs.Runs.{Turn, insert, deleteMin, stepBy, backlog, markers, after, afterAll}
-use Rattle.rules.specs.Runs.{Reply, answered, counted, listed, reply}
+use Rattle.rules.specs.Runs.{Turn, insert, deleteMin, relaxed, stepBy, backlog, markers, after}
+use Rattle.rules.specs.Runs.{afterAll, Reply, answered, counted, listed, reply}
 
 -- what is asked
 pub data Question : Type 0 where
@@ -66,7 +67,8 @@ pub record StarredRun : Type 0 where
 abbrev pub run : Question → List ℕ → StarredRun
 run question expected = record { asked = question; expected = expected }
 
--- the numbers that `reported` gives a begin, a move, a wait, EMPTY, and an Insert's answer
+-- the numbers that `reported` gives a begin, a move, a wait, EMPTY, a mark, an Insert's answer and
+-- a hand-out
 abbrev began : ℕ
 began = 0
 
@@ -79,8 +81,14 @@ waiting = 2
 abbrev empty : ℕ
 empty = 3
 
+abbrev marked : ℕ
+marked = 4
+
 abbrev insertAnswered : ℕ
 insertAnswered = 5
+
+abbrev handedOut : ℕ
+handedOut = 6
 
 -- the queue of the printed sheet, the queue of runs 4 to 6, and one of three processors and two
 -- nodes
@@ -130,6 +138,35 @@ removalMeets =
 abbrev pub ownMeets : List Turn
 ownMeets =
     filed ++ (insert 1 9 8 1 ∷ (replicate 4 (stepBy 1) ++ (deleteMin 2 ∷ replicate 8 (stepBy 2))))
+
+-- an Insert's entry is linked, and the Insert has three steps to go to its answer
+abbrev pub unanswered : List Turn
+unanswered = insert 0 7 42 1 ∷ replicate 6 (stepBy 0)
+
+-- a Relaxed Delete_Min is at its W3 there; it has marked the entry, and is at its L1
+abbrev pub relaxedReads : List Turn
+relaxedReads = unanswered ++ (relaxed 1 ∷ stepBy 1 ∷ [])
+
+abbrev pub relaxedMeets : List Turn
+relaxedMeets = relaxedReads ++ (stepBy 1 ∷ stepBy 1 ∷ [])
+
+-- it has waited once, the Insert has freed its node lock, and the next step hands out; behind that
+-- step the Insert is still to answer; and it has
+abbrev pub relaxedGoes : List Turn
+relaxedGoes = relaxedMeets ++ (stepBy 1 ∷ (replicate 2 (stepBy 0) ++ replicate 10 (stepBy 1)))
+
+abbrev pub relaxedHands : List Turn
+relaxedHands = relaxedGoes ++ (stepBy 1 ∷ [])
+
+abbrev pub relaxedEnds : List Turn
+relaxedEnds = relaxedHands ++ (stepBy 0 ∷ [])
+
+-- a Relaxed one finds the mark of a Delete_Min, whose removal then leads it back to the head
+abbrev pub relaxedLedBack : List Turn
+relaxedLedBack =
+    filed
+    ++ (deleteMin 0 ∷ stepBy 0 ∷ stepBy 0 ∷ relaxed 1 ∷ stepBy 1 ∷ stepBy 0 ∷ stepBy 1
+    ∷ (replicate 8 (stepBy 0) ++ (stepBy 1 ∷ [])))
 
 -- so many times from one on, at each of them 0 and this count; and the times from one to another
 abbrev counts : ℕ → ℕ → ℕ → List ℕ
@@ -192,6 +229,26 @@ starred =
     (13 ∷ moved ∷ [])
     ∷ run (answer triple removalMeets (stepBy 2)) (22 ∷ waiting ∷ 1 ∷ [])
     ∷ run (answer triple ownMeets (stepBy 2)) (25 ∷ waiting ∷ 1 ∷ [])
+    -- 02, W3: an entry whose Insert has not answered is passed by a Delete_Min, and marked by a
+    -- Relaxed one, which then waits at L1 for the Insert's processor and hands out; and the Insert
+    -- answers after that
+    ∷ run (answer pair (unanswered ++ (deleteMin 1 ∷ stepBy 1 ∷ stepBy 1 ∷ [])) (stepBy 1))
+    (11 ∷ empty ∷ [])
+    ∷ run (answer pair relaxedReads (stepBy 1)) (10 ∷ marked ∷ 7 ∷ 42 ∷ 1 ∷ [])
+    ∷ run (answer pair relaxedMeets (stepBy 1)) (12 ∷ waiting ∷ 0 ∷ [])
+    ∷ run (answer pair relaxedGoes (stepBy 1)) (25 ∷ handedOut ∷ 7 ∷ 42 ∷ 1 ∷ [])
+    ∷ run (answer pair relaxedHands (stepBy 0)) (26 ∷ insertAnswered ∷ 7 ∷ 42 ∷ 1 ∷ [])
+    -- its node is not to be had before that answer, and then it is
+    ∷ run (answer pair relaxedHands (insert 1 8 43 1)) (25 ∷ 37 ∷ [])
+    ∷ run (own pair relaxedEnds (insert 1 8 43 1) 1) (1 ∷ began ∷ 27 ∷ [])
+    -- an entry that is marked before it is answered is in no backlog, and its marker is told
+    ∷ run (answer pair (relaxedMeets ++ replicate 3 (stepBy 0)) backlog) (14 ∷ 0 ∷ 0 ∷ [])
+    ∷ run (answer pair relaxedMeets (markers (9 ∷ 9 ∷ []))) (11 ∷ 0 ∷ 1 ∷ 1 ∷ 1 ∷ [])
+    -- on the head a Relaxed one reads on; it is told EMPTY; 32 and 33
+    ∷ run (answer pair relaxedLedBack (stepBy 1)) (27 ∷ empty ∷ [])
+    ∷ run (answer single (relaxed 0 ∷ []) (stepBy 0)) (2 ∷ empty ∷ [])
+    ∷ run (answer pair [] (relaxed 2)) (0 ∷ 32 ∷ [])
+    ∷ run (answer pair (relaxed 0 ∷ []) (relaxed 0)) (1 ∷ 33 ∷ [])
     ∷ []
 
 -- every row's question has the expected result

@@ -21,7 +21,7 @@ use Rattle.sheet_format.specs.Lines.{fieldsKeep, numbersKeep, keepsForm,
 use Rattle.sheet_format.specs.Lines.{lineInForm, line, lineOf, readLine, firstFailing, lineCount}
 use Rattle.sheet_format.specs.Lines.{rightLetter, firstMisplaced}
 use Rattle.sheet_format.specs.Lines.{formReport, lineNumbers, reportedReading}
-use Rattle.sheet_format.proofs.Table.{field-kept, fields-right}
+use Rattle.sheet_format.proofs.Table.{letterCount, field-kept, fields-right}
 
 -- what the tests of a line say of its reading
 reads-bad :
@@ -77,7 +77,9 @@ four-keep r a b c d n =
 pub read-short : (s : List ℕ) → length s < 30 → reading.Bad ≡ readLine s
 read-short s h =
     let i = ruleIndex letterRules (letterOf s) in
-    reads-bad s i refl (first-fails (leb 30 (length s)) (leb (suc i) 4) (fieldsKeep (getD letterRules i noRule) s) (eqb (getD s 29 0) 10) (lt-leb 30 (length s) h))
+    reads-bad s i refl
+    (first-fails (leb 30 (length s)) (leb (suc i) letterCount)
+    (fieldsKeep (getD letterRules i noRule) s) (eqb (getD s 29 0) 10) (lt-leb 30 (length s) h))
 
 -- what is said of four numbers is said of the fields that they were read from
 module _
@@ -106,16 +108,22 @@ pub line-short : (s : List ℕ) → length s < 30 → line-by s false ≡ lineOf
 line-short s h = ap (line-by s) (sym (lt-leb 30 (length s) h))
 
 module _ (s : List ℕ) (i : ℕ) (at-letter : i ≡ ruleIndex letterRules (letterOf s)) where
-  pub read-letter : 4 ≤ i → reading.Bad ≡ readLine s
+  pub read-letter : letterCount ≤ i → reading.Bad ≡ readLine s
   read-letter h =
-      reads-bad s i at-letter (second-fails (leb 30 (length s)) (leb (suc i) 4) (fieldsKeep (getD letterRules i noRule) s) (eqb (getD s 29 0) 10) (lt-leb (suc i) 4 (omega arith)))
+      reads-bad s i at-letter
+      (second-fails (leb 30 (length s)) (leb (suc i) letterCount)
+      (fieldsKeep (getD letterRules i noRule) s) (eqb (getD s 29 0) 10)
+      (lt-leb (suc i) letterCount (omega arith)))
 
   pub read-feed : (getD s 29 0 ≡ 10 → ⊥) → reading.Bad ≡ readLine s
   read-feed h =
-      reads-bad s i at-letter (fourth-fails (leb 30 (length s)) (leb (suc i) 4) (fieldsKeep (getD letterRules i noRule) s) (eqb (getD s 29 0) 10) (ne-eqb (getD s 29 0) 10 h))
+      reads-bad s i at-letter
+      (fourth-fails (leb 30 (length s)) (leb (suc i) letterCount)
+      (fieldsKeep (getD letterRules i noRule) s) (eqb (getD s 29 0) 10)
+      (ne-eqb (getD s 29 0) 10 h))
 
   keep-same :
-      i < 4
+      i < letterCount
       → numbersKeep (getD letterRules i noRule) (fieldNumbers s 4)
       ≡ fieldsKeep (getD letterRules i noRule) s
   keep-same h =
@@ -128,13 +136,14 @@ module _ (s : List ℕ) (i : ℕ) (at-letter : i ≡ ruleIndex letterRules (lett
       (field-kept i 3 s h (omega arith))
       ∙ sym (ap (everyBelow (fieldKeeps r s)) (fields-right i h))
 
-  module _ (known : i < 4) where
+  module _ (known : i < letterCount) where
     pub read-fields :
         numbersKeep (getD letterRules i noRule) (fieldNumbers s 4) ≡ false
         → reading.Bad ≡ readLine s
     read-fields h =
         reads-bad s i at-letter
-        (third-fails (leb 30 (length s)) (leb (suc i) 4) (fieldsKeep (getD letterRules i noRule) s)
+        (third-fails (leb 30 (length s)) (leb (suc i) letterCount)
+        (fieldsKeep (getD letterRules i noRule) s)
         (eqb (getD s 29 0) 10) (sym (keep-same known) ∙ h))
 
     pub read-form :
@@ -146,8 +155,10 @@ module _ (s : List ℕ) (i : ℕ) (at-letter : i ≡ ruleIndex letterRules (lett
     read-form long keep feed =
         ap reading.Form (line-whole s long)
         ∙ reads-form s i at-letter
-        (all-hold (leb 30 (length s)) (leb (suc i) 4) (fieldsKeep (getD letterRules i noRule) s) (eqb (getD s 29 0) 10)
-        (le-leb 30 (length s) long) (le-leb (suc i) 4 (omega arith)) (sym (keep-same known) ∙ keep)
+        (all-hold (leb 30 (length s)) (leb (suc i) letterCount)
+        (fieldsKeep (getD letterRules i noRule) s) (eqb (getD s 29 0) 10)
+        (le-leb 30 (length s) long) (le-leb (suc i) letterCount (omega arith))
+        (sym (keep-same known) ∙ keep)
         (eq-eqb (getD s 29 0) 10 feed))
 
 -- a line in form has all of its bytes
@@ -155,7 +166,7 @@ form-long : (s : List ℕ) → lineInForm s ≡ true → 30 ≤ length s
 form-long s h =
     let i = ruleIndex letterRules (letterOf s) in
     let a = leb 30 (length s) in
-    let b = leb (suc i) 4 in
+    let b = leb (suc i) letterCount in
     let c = fieldsKeep (getD letterRules i noRule) s in
     leb-true 30 (length s)
     (and-left a b (and-left (a && b) c (and-left (a && b && c) (eqb (getD s 29 0) 10) h)))

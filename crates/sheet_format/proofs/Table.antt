@@ -19,6 +19,10 @@ use Rattle.sheet_format.specs.Columns.{inForm, noNumber}
 use Rattle.sheet_format.specs.Lines.{noRule, ruleIndex, fieldPart, fieldAt, withinRule, fieldKeeps}
 use Rattle.sheet_format.specs.Lines.{sheetFields}
 
+-- how many letters the table has
+abbrev pub letterCount : ℕ
+letterCount = length letterRules
+
 -- the rule of field k: its bounds are in order and within seven columns, and both 0 where it is not used
 abbrev pub fieldRight : LetterRule → ℕ → Bool
 fieldRight r k =
@@ -33,19 +37,20 @@ fieldsRight i = eqb (length (getD letterRules i noRule .used)) sheetFields
 abbrev pub ruleRight : ℕ → Bool
 ruleRight i = fieldsRight i && everyBelow (fieldRight (getD letterRules i noRule)) 4
 
-pub table-right : everyBelow ruleRight 4 ≡ true
+pub table-right : everyBelow ruleRight letterCount ≡ true
 table-right = refl
 
-pub entry-right : (i k : ℕ) → i < 4 → k < 4 → fieldRight (getD letterRules i noRule) k ≡ true
+pub entry-right :
+    (i k : ℕ) → i < letterCount → k < 4 → fieldRight (getD letterRules i noRule) k ≡ true
 entry-right i k hi hk =
     every-at (fieldRight (getD letterRules i noRule)) 4 k
-    (and-right (fieldsRight i) _ (every-at ruleRight 4 i table-right hi)) hk
+    (and-right (fieldsRight i) _ (every-at ruleRight letterCount i table-right hi)) hk
 
-pub fields-right : (i : ℕ) → i < 4 → length (getD letterRules i noRule .used) ≡ 4
+pub fields-right : (i : ℕ) → i < letterCount → length (getD letterRules i noRule .used) ≡ 4
 fields-right i hi =
     eqb-true (length (getD letterRules i noRule .used)) 4
     (and-left (fieldsRight i) (everyBelow (fieldRight (getD letterRules i noRule)) 4)
-    (every-at ruleRight 4 i table-right hi))
+    (every-at ruleRight letterCount i table-right hi))
 
 -- what the rule says of the upper bound
 within-columns :
@@ -66,7 +71,7 @@ none-within r k h =
 -- field k keeps the form exactly if its number is in bounds
 pub field-kept :
     (i k : ℕ) (s : List ℕ)
-    → i < 4
+    → i < letterCount
     → k < 4
     → withinRule (getD letterRules i noRule) k (fieldAt s k)
     ≡ fieldKeeps (getD letterRules i noRule) s k

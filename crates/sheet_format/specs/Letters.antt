@@ -32,6 +32,9 @@ letterE = 69
 abbrev pub letterI : ℕ
 letterI = 73
 
+abbrev pub letterL : ℕ
+letterL = 76
+
 abbrev pub letterM : ℕ
 letterM = 77
 
@@ -62,6 +65,8 @@ letterRules =
     ∷ rule letterI (true ∷ true ∷ true ∷ true ∷ []) (0 ∷ 0 ∷ 0 ∷ 0 ∷ [])
     (maxField ∷ maxField ∷ maxField ∷ maxField ∷ [])
     ∷ rule letterD (true ∷ false ∷ false ∷ false ∷ []) (0 ∷ 0 ∷ 0 ∷ 0 ∷ [])
+    (maxField ∷ 0 ∷ 0 ∷ 0 ∷ [])
+    ∷ rule letterL (true ∷ false ∷ false ∷ false ∷ []) (0 ∷ 0 ∷ 0 ∷ 0 ∷ [])
     (maxField ∷ 0 ∷ 0 ∷ 0 ∷ [])
     ∷ rule letterS (true ∷ true ∷ false ∷ false ∷ []) (0 ∷ 1 ∷ 0 ∷ 0 ∷ [])
     (maxField ∷ 999 ∷ 0 ∷ 0 ∷ [])

@@ -15,6 +15,8 @@ pub const LETTER_E: u8 = 69;
 
 pub const LETTER_I: u8 = 73;
 
+pub const LETTER_L: u8 = 76;
+
 pub const LETTER_M: u8 = 77;
 
 pub const LETTER_Q: u8 = 81;

@@ -12,6 +12,7 @@ use crate::columns::byte_at;
 use crate::columns::number_at;
 use crate::letters::LETTER_D;
 use crate::letters::LETTER_I;
+use crate::letters::LETTER_L;
 use crate::letters::LETTER_Q;
 use crate::letters::LETTER_S;
 use crate::letters::LINE;
@@ -42,7 +43,7 @@ pub enum Reading {
 }
 
 // How many letters a sheet has.
-const LETTERS: usize = 4;
+const LETTERS: usize = 5;
 
 // Where the fields of a line start.
 const FIRST: usize = 1;
@@ -57,7 +58,7 @@ const FOURTH: usize = THIRD + WIDTH;
 const END: usize = LINE - 1;
 
 // The letters of a sheet: `letterRules` of specs/Letters.antt.
-const RULES: [LetterRule; 4] = [
+const RULES: [LetterRule; 5] = [
     LetterRule {
         letter: LETTER_Q,
         used: [true, true, true, false],
@@ -72,6 +73,12 @@ const RULES: [LetterRule; 4] = [
     },
     LetterRule {
         letter: LETTER_D,
+        used: [true, false, false, false],
+        low: [0, 0, 0, 0],
+        high: [MAX_FIELD, 0, 0, 0],
+    },
+    LetterRule {
+        letter: LETTER_L,
         used: [true, false, false, false],
         low: [0, 0, 0, 0],
         high: [MAX_FIELD, 0, 0, 0],
@@ -133,7 +140,7 @@ fn keeps_rule(rule: LetterRule, a: u32, b: u32, c: u32, d: u32) -> bool
 // The same of the rule at this place of the table. Each rule is named by itself, so that the
 // compiler puts its bounds into the tests; a rule at any place it would copy for each line.
 fn numbers_keep(index: usize, a: u32, b: u32, c: u32, d: u32) -> bool
-    requires { ⌜ index < 4 ⌝ }
+    requires { ⌜ index < 5 ⌝ }
     ensures { λ r. ⌜ r ≡ numbersKeep (getD letterRules index noRule) (a ∷ b ∷ c ∷ d ∷ []) ⌝ }
 {
     if index == 0 {
@@ -148,7 +155,11 @@ fn numbers_keep(index: usize, a: u32, b: u32, c: u32, d: u32) -> bool
         let rule = RULES[2];
         return keeps_rule(rule, a, b, c, d);
     }
-    let rule = RULES[3];
+    if index == 3 {
+        let rule = RULES[3];
+        return keeps_rule(rule, a, b, c, d);
+    }
+    let rule = RULES[4];
     keeps_rule(rule, a, b, c, d)
 }
 

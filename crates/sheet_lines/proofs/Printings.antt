@@ -15,7 +15,7 @@ use Rattle.sheet_format.specs.declared.events.HistoryLine.{HistoryLine}
 use Rattle.sheet_format.specs.declared.lines.SheetLine.{SheetLine}
 use Rattle.sheet_format.specs.Calls.{callOf}
 use Rattle.sheet_format.specs.Events.{callLetter, callValues, letterFor, valuesFor, event, eventFor}
-use Rattle.sheet_format.specs.Letters.{letterD, letterI, letterR}
+use Rattle.sheet_format.specs.Letters.{letterD, letterI, letterL, letterR}
 
 -- the letters, with that of a begin first
 abbrev pub letters : ℕ → List ℕ
@@ -38,15 +38,18 @@ module _ (l : SheetLine) where
 
   -- its call is of the line's processor
   line-processor : processorOf c ≡ l .first
-  line-processor = by (eqb (l .letter) letterI) (eqb (l .letter) letterD)
+  line-processor =
+      by (eqb (l .letter) letterI) (eqb (l .letter) letterD) (eqb (l .letter) letterL)
     where
-      by : (i d : Bool) →
+      by : (i d x : Bool) →
           processorOf
           (cond i (call.Insert (l .first) (l .second) (l .third) (l .fourth))
-          (cond d (call.DeleteMin (l .first)) (call.Step (l .first)))) ≡ l .first
-      by true d = refl
-      by false true = refl
-      by false false = refl
+          (cond d (call.DeleteMin (l .first))
+          (cond x (call.Relaxed (l .first)) (call.Step (l .first))))) ≡ l .first
+      by true d x = refl
+      by false true x = refl
+      by false false true = refl
+      by false false false = refl
 
   module _ (time : ℕ) where
     -- with these numbers behind the processor
@@ -65,16 +68,22 @@ module _ (l : SheetLine) where
     insert-line e = rw (eq-eqb (l .letter) letterI e) refl
 
     no-values : (l .letter ≡ letterI → ⊥) → callValues c ≡ []
-    no-values n = rw (ne-eqb (l .letter) letterI n) (by (eqb (l .letter) letterD))
+    no-values n =
+        rw (ne-eqb (l .letter) letterI n)
+        (by (eqb (l .letter) letterD) (eqb (l .letter) letterL))
       where
-        by : (d : Bool) → callValues (cond d (call.DeleteMin (l .first)) (call.Step (l .first))) ≡ []
-        by true = refl
-        by false = refl
+        by : (d x : Bool) →
+            callValues
+            (cond d (call.DeleteMin (l .first))
+            (cond x (call.Relaxed (l .first)) (call.Step (l .first)))) ≡ []
+        by true x = refl
+        by false true = refl
+        by false false = refl
 
-    pub delete-line :
+    pub walk-line :
         (letter : ℕ) → letter ≡ callLetter c → (l .letter ≡ letterI → ⊥) →
         event letter time (l .first) 0 0 0 ≡ eventFor c time (report 0 [])
-    delete-line letter e n =
+    walk-line letter e n =
         ap (λ (x : ℕ). event x time (l .first) 0 0 0) e
         ∙ with-processor (callLetter c) []
         ∙ ap (lineWith (callLetter c) (processorOf c)) (sym (no-values n))

@@ -37,7 +37,7 @@ use Rattle.sheet_format.specs.declared.events.HistoryLine.{HistoryLine}
 use Rattle.sheet_format.specs.declared.lines.SheetLine.{SheetLine}
 use Rattle.sheet_format.specs.Calls.{callOf, callsPrint}
 use Rattle.sheet_format.specs.Events.{isSilent, callEvents}
-use Rattle.sheet_format.specs.Letters.{letterD, letterI}
+use Rattle.sheet_format.specs.Letters.{letterD, letterI, letterL}
 use Rattle.image.specs.Image.{imageOf, queueIn, lengthOf, Sound}
 use Rattle.image.specs.Numbers.{number32}
 use Rattle.image.specs.OneToOne.{Trim}
@@ -83,12 +83,20 @@ nothing-changes q p h a =
 pub record Waiting (l : SheetLine) (q : Queue) : Type 0 where
   pub no-insert : eqb (l .letter) letterI ≡ false
   pub no-delete : eqb (l .letter) letterD ≡ false
+  pub no-relaxed : eqb (l .letter) letterL ≡ false
   pub known : leb (q .processorCount) (l .first) ≡ false
   pub busy : isIdle (processorAt q (l .first) .stage) ≡ false
   pub stands : isWaits (stepDecision q (processorAt q (l .first)) .answer) ≡ true
 
 still : (l : SheetLine) (q : Queue) (m : ℕ) → Waiting l q → Waiting l (later q m)
-still l q m w = record { no-insert = w .no-insert; no-delete = w .no-delete; known = w .known; busy = w .busy; stands = w .stands }
+still l q m w = record {
+  no-insert = w .no-insert;
+  no-delete = w .no-delete;
+  no-relaxed = w .no-relaxed;
+  known = w .known;
+  busy = w .busy;
+  stands = w .stands;
+}
 
 -- for whom it waits
 abbrev holding : (l : SheetLine) (q : Queue) → Waiting l q → ℕ
@@ -104,11 +112,12 @@ once l q w h =
     let same = stands (stepViewOf q c a) (c .stage) (w .stands) .same in
     rw (w .no-insert)
     (rw (w .no-delete)
+    (rw (w .no-relaxed)
     (rw (lt-leb maxNumber (q .clock) h)
     (rw (w .known)
     (rw (w .busy)
     (ap (λ (d : Decision). accepted q (l .first) d) same
-    ∙ nothing-changes q (l .first) (holding l q w) a)))))
+    ∙ nothing-changes q (l .first) (holding l q w) a))))))
 
 later-none : (q : Queue) → q ≡ later q 0
 later-none q =
@@ -191,6 +200,9 @@ module _ (q : Queue) where
   delete-moves : (p : ℕ) → Moves (calledValid q (call.DeleteMin p))
   delete-moves p = cond-elim Moves (eqb (refusalOf q (call.DeleteMin p)) 0) _ _ refl refl
 
+  relaxed-moves : (p : ℕ) → Moves (calledValid q (call.Relaxed p))
+  relaxed-moves p = cond-elim Moves (eqb (refusalOf q (call.Relaxed p)) 0) _ _ refl refl
+
   waited-step :
       (p : ℕ) → isWaits (calledValid q (call.Step p) .answer) ≡ true →
       Allowed q (call.Step p)
@@ -209,21 +221,28 @@ module _ (q : Queue) where
 
 module _ (l : SheetLine) (q : Queue) where
   waiting-by :
-      (i d : Bool) → eqb (l .letter) letterI ≡ i → eqb (l .letter) letterD ≡ d →
+      (i d x : Bool) →
+      eqb (l .letter) letterI ≡ i →
+      eqb (l .letter) letterD ≡ d →
+      eqb (l .letter) letterL ≡ x →
       isWaits
       (calledValid q (cond i (call.Insert (l .first) (l .second) (l .third) (l .fourth))
-      (cond d (call.DeleteMin (l .first)) (call.Step (l .first)))) .answer)
+      (cond d (call.DeleteMin (l .first))
+      (cond x (call.Relaxed (l .first)) (call.Step (l .first))))) .answer)
       ≡ true →
       (q .clock < maxNumber) × Waiting l q
-  waiting-by true d e f h = no (sym (insert-moves q (l .first) (l .second) (l .third) (l .fourth)) ∙ h)
-  waiting-by false true e f h = no (sym (delete-moves q (l .first)) ∙ h)
-  waiting-by false false e f h =
+  waiting-by true d x e f g h =
+      no (sym (insert-moves q (l .first) (l .second) (l .third) (l .fourth)) ∙ h)
+  waiting-by false true x e f g h = no (sym (delete-moves q (l .first)) ∙ h)
+  waiting-by false false true e f g h = no (sym (relaxed-moves q (l .first)) ∙ h)
+  waiting-by false false false e f g h =
       let p = waited-step q (l .first) h in
       let A = p .0 in (
         A .ticks,
         record {
           no-insert = e;
           no-delete = f;
+          no-relaxed = g;
           known = lt-leb _ _ (A .here);
           busy = busy-steps _ (A .turn);
           stands = p .1;
@@ -231,7 +250,9 @@ module _ (l : SheetLine) (q : Queue) where
       )
 
   waiting : isWaits (callOn l q .answer) ≡ true → (q .clock < maxNumber) × Waiting l q
-  waiting = waiting-by (eqb (l .letter) letterI) (eqb (l .letter) letterD) refl refl
+  waiting =
+      waiting-by (eqb (l .letter) letterI) (eqb (l .letter) letterD) (eqb (l .letter) letterL) refl
+      refl refl
 
   -- it prints nothing, and does not end its line
   waits-silent : (a : Answer) → isWaits a ≡ true → isSilent (callOf l) a ≡ true

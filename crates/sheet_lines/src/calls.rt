@@ -7,21 +7,26 @@ ghost use Rattle.rules.specs.Answers.{isRefused};
 ghost use Rattle.sheet_format.specs.Calls.{callOf, callsOf};
 use image_begin::begin_delete_min_at;
 use image_begin::begin_insert_at;
+use image_begin::begin_relaxed_at;
 use image_step::step_at;
 use rules::Answer;
 use rules::answers::is_refused;
 use sheet_format::SheetLine;
 use sheet_format::letters::LETTER_D;
 use sheet_format::letters::LETTER_I;
+use sheet_format::letters::LETTER_L;
 
-// How many calls a line makes, if none is refused: an S line its steps, an I and a D line one.
+// How many calls a line makes, if none is refused: an S line its steps, any other one.
 pub fn calls_of(l: SheetLine) -> u32
     ensures { λ r. ⌜ r ≡ callsOf l ⌝ }
 {
-    if l.letter == LETTER_I {
-        return 1;
+    let letter = l.letter;
+    match letter {
+        LETTER_I => 1,
+        LETTER_D => 1,
+        LETTER_L => 1,
+        _ => l.second,
     }
-    if l.letter == LETTER_D { 1 } else { l.second }
 }
 
 // The call of a line, in place on the image of a record that passes check 21. No `Call` is made of
@@ -35,6 +40,9 @@ pub fn call_line(image: &mut [u8], l: SheetLine) -> Answer
     }
     if l.letter == LETTER_D {
         return begin_delete_min_at(image, l.first);
+    }
+    if l.letter == LETTER_L {
+        return begin_relaxed_at(image, l.first);
     }
     step_at(image, l.first)
 }

@@ -14,6 +14,7 @@ use sheet_format::letters::LETTER_A;
 use sheet_format::letters::LETTER_D;
 use sheet_format::letters::LETTER_E;
 use sheet_format::letters::LETTER_I;
+use sheet_format::letters::LETTER_L;
 use sheet_format::letters::LETTER_M;
 use sheet_format::letters::LETTER_R;
 use sheet_format::letters::LETTER_S;
@@ -36,13 +37,12 @@ const KNOWN: u32 = 7;
 fn own_letter(l: SheetLine) -> u8
     ensures { λ r. ⌜ r ≡ callLetter (callOf l) ⌝ }
 {
-    if l.letter == LETTER_I {
-        return LETTER_I;
-    }
-    if l.letter == LETTER_D {
-        LETTER_D
-    } else {
-        LETTER_S
+    let letter = l.letter;
+    match letter {
+        LETTER_I => LETTER_I,
+        LETTER_D => LETTER_D,
+        LETTER_L => LETTER_L,
+        _ => LETTER_S,
     }
 }
 

@@ -1,5 +1,7 @@
 //! Workers of one process share a queue. They are woken in a random order that
-//! follows from a seed, and each makes one call when it is woken.
+//! follows from a seed, and each makes one call when it is woken. The last of
+//! them warms a cache: it takes withdrawals by Relaxed Delete_Mins, which need
+//! not wait until the filing is answered.
 //!
 //!     darthog-workers SEED [SHEET]
 //!
@@ -56,7 +58,7 @@ impl Run {
         } else if random.one_in(2) {
             self.insert(worker, random.below(50), 1 + random.below(999_999), random);
         } else {
-            self.delete_min(worker);
+            self.take(worker);
         }
     }
 
@@ -66,7 +68,7 @@ impl Run {
         match random.below(7) {
             0 => self.step(unknown),
             1 => self.step(worker),
-            2 => self.delete_min(worker),
+            2 => self.take(worker),
             3 => self.insert(worker, 1_000_000 + random.below(2), 5, random),
             4 => self.insert(worker, 5, 9_999_999, random),
             5 => self.insert(worker, 5, 0, random),
@@ -93,12 +95,18 @@ impl Run {
         }
     }
 
-    fn delete_min(&mut self, worker: u32) {
-        self.sheet.line('D', [worker, 0, 0, 0]);
-        match self.queue.begin_delete_min(worker) {
+    fn take(&mut self, worker: u32) {
+        let warms = worker as usize + 1 == self.busy.len();
+        let (letter, begun) = if warms {
+            ('L', self.queue.begin_relaxed(worker))
+        } else {
+            ('D', self.queue.begin_delete_min(worker))
+        };
+        self.sheet.line(letter, [worker, 0, 0, 0]);
+        match begun {
             Ok(time) => {
                 self.busy[worker as usize] = true;
-                self.history.line('D', time, worker, [0; 3]);
+                self.history.line(letter, time, worker, [0; 3]);
             }
             Err(refusal) => self.refused(worker, refusal),
         }

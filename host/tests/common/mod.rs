@@ -39,10 +39,20 @@ pub enum Call {
     Backlog,
     /// Markers, with an area of so many bytes.
     Markers(u32),
+    /// The begin of a Relaxed Delete_Min.
+    Relaxed(u32),
 }
 
 /// The entries that are lent bytes, as counts name them.
-pub const ENTRIES: [&str; 6] = ["make", "insert", "delete_min", "step", "backlog", "markers"];
+pub const ENTRIES: [&str; 7] = [
+    "make",
+    "insert",
+    "delete_min",
+    "step",
+    "backlog",
+    "markers",
+    "relaxed",
+];
 
 impl Call {
     /// The entry, as counts name it.
@@ -54,6 +64,7 @@ impl Call {
             Call::Step(_) => ENTRIES[3],
             Call::Backlog => ENTRIES[4],
             Call::Markers(_) => ENTRIES[5],
+            Call::Relaxed(_) => ENTRIES[6],
         }
     }
 
@@ -74,6 +85,7 @@ impl Call {
                 height,
             } => Call::Insert(cut(processor), cut(due), cut(item), cut(height)),
             ReferenceCall::DeleteMin { processor } => Call::DeleteMin(cut(processor)),
+            ReferenceCall::Relaxed { processor } => Call::Relaxed(cut(processor)),
             ReferenceCall::Step { processor } => Call::Step(cut(processor)),
             ReferenceCall::Backlog => Call::Backlog,
             ReferenceCall::Markers { room } => Call::Markers(cut(room as u64)),
@@ -89,6 +101,7 @@ impl Call {
                 Some([raw::CALL_INSERT, processor, due, item, height])
             }
             Call::DeleteMin(processor) => Some([raw::CALL_DELETE_MIN, processor, 0, 0, 0]),
+            Call::Relaxed(processor) => Some([raw::CALL_RELAXED, processor, 0, 0, 0]),
             Call::Step(processor) => Some([raw::CALL_STEP, processor, 0, 0, 0]),
         }
     }
@@ -104,6 +117,9 @@ impl Call {
                 height: u64::from(height),
             },
             Call::DeleteMin(processor) => ReferenceCall::DeleteMin {
+                processor: u64::from(processor),
+            },
+            Call::Relaxed(processor) => ReferenceCall::Relaxed {
                 processor: u64::from(processor),
             },
             Call::Step(processor) => ReferenceCall::Step {
@@ -165,6 +181,7 @@ impl Lent {
                     raw::darthog_begin_insert(image, length, p, due, item, height)
                 }
                 Call::DeleteMin(p) => raw::darthog_begin_delete_min(image, length, p),
+                Call::Relaxed(p) => raw::darthog_begin_relaxed(image, length, p),
                 Call::Step(p) => raw::darthog_step(image, length, p),
                 Call::Backlog => raw::darthog_backlog(image, length),
                 Call::Markers(room) => {
@@ -398,13 +415,14 @@ impl Counts {
 }
 
 /// Every code that an entry on lent bytes can give back.
-pub const ALL_CODES: [(&str, &[u32]); 6] = [
+pub const ALL_CODES: [(&str, &[u32]); 7] = [
     ("make", &[0, 11, 12, 13, 21]),
     ("insert", &[0, 21, 31, 32, 33, 35, 39, 36, 37]),
     ("delete_min", &[0, 21, 31, 32, 33]),
     ("step", &[1, 2, 3, 4, 5, 6, 21, 31, 32, 34]),
     ("backlog", &[0, 21]),
     ("markers", &[0, 21, 43]),
+    ("relaxed", &[0, 21, 31, 32, 33]),
 ];
 
 /// A number at or past an edge: of processors, sizes, dues, items, heights.
@@ -480,8 +498,9 @@ pub fn any_call(random: &mut Random, queue: &Queue) -> Call {
         sizes.0 = u32::from(queue.processor_count);
         sizes.1 = u32::from(queue.node_count);
     }
-    match random.below(17) {
+    match random.below(20) {
         0 => Call::Backlog,
+        18 | 19 => Call::Relaxed(processor),
         16 => Call::Markers(any_room(random, queue)),
         1 | 2 => Call::DeleteMin(processor),
         3..=6 => Call::Insert(processor, due, item, height),

@@ -3,9 +3,13 @@
 use super::{Conjunct, View};
 use crate::book::Open;
 use crate::claims::Role;
-use crate::queue::Use;
+use crate::queue::{Stage, Use};
 
-pub(super) const CONJUNCTS: &[Conjunct] = &[("BookOpen", book_open), ("BookEntries", book_entries)];
+pub(super) const CONJUNCTS: &[Conjunct] = &[
+    ("BookOpen", book_open),
+    ("BookEntries", book_entries),
+    ("BookRetired", book_retired),
+];
 
 /// The book's count is the clock, and what each processor has open is what its
 /// stage says.
@@ -19,6 +23,7 @@ fn book_open(view: &View) -> bool {
                     begin: p.begin,
                     marked: None,
                 },
+                Role::Relaxed => Open::Relaxed(p.begin),
                 Role::Delete => Open::DeleteMin {
                     begin: p.begin,
                     marked: Some(view.node(p.own).ticket),
@@ -30,7 +35,7 @@ fn book_open(view: &View) -> bool {
 
 /// Entries not handed out and nodes in use correspond one to one, with equal
 /// due, item, ticket, answer time and mark. (A handed-out entry is struck from
-/// the book.)
+/// the book once it is answered; until then it is `BookRetired`'s.)
 fn book_entries(view: &View) -> bool {
     let mut in_use = 0;
     for n in view.entry_nodes() {
@@ -46,9 +51,33 @@ fn book_entries(view: &View) -> bool {
         if written.entry != view.queue.entry(n)
             || written.answered != node.stamp
             || written.marked != node.is_marked()
+            || written.handed_out
         {
             return false;
         }
     }
-    in_use == view.book.entries.len()
+    in_use == view.book.held()
+}
+
+/// An Insert at I5 whose own node is retired has its entry in the book, with
+/// equal due, item and ticket: handed out, marked and unanswered (document 02,
+/// W3). No other handed-out entry is left there.
+fn book_retired(view: &View) -> bool {
+    let mut retired = 0;
+    for (_, processor, p) in view.of_role(Role::Insert) {
+        let late = matches!(view.node(p.own).state, Use::Retired(_));
+        if processor.stage != Stage::I5Stamp || !late {
+            continue;
+        }
+        retired += 1;
+        let Some(i) = view.book.find(view.node(p.own).ticket) else {
+            return false;
+        };
+        let written = &view.book.entries[i];
+        let settled = written.handed_out && written.marked && written.answered.is_none();
+        if !settled || written.entry != view.queue.entry(p.own) {
+            return false;
+        }
+    }
+    retired + view.book.held() == view.book.entries.len()
 }

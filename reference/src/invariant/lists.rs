@@ -69,7 +69,7 @@ fn g4_before(view: &View) -> bool {
     })
 }
 
-/// The place at W3 is stamped before the begin.
+/// The place at W3 is stamped before the begin. (A Relaxed walk asks no stamp.)
 fn w3_stamp(view: &View) -> bool {
     view.busy().all(|(_, processor, p)| match processor.stage {
         Stage::W3Mark(a) => view.node(a.node).stamp.is_some_and(|t| t < p.begin),

@@ -45,7 +45,7 @@ fn own_nodes_differ(view: &View, role: Role) -> bool {
 /// then not before the Insert began.
 fn own_use(view: &View) -> bool {
     view.busy().all(|(_, processor, p)| {
-        p.role == Role::Walk
+        matches!(p.role, Role::Walk | Role::Relaxed)
             || match view.node(p.own).state {
                 Use::InUse => true,
                 Use::Retired(time) => processor.stage == Stage::I5Stamp && p.begin <= time,

@@ -9,10 +9,10 @@ pub(super) const CONJUNCTS: &[Conjunct] = &[
     ("WalkW3", walk_w3),
 ];
 
-/// At W1 every eligible node is after the place.
+/// At W1, of a Relaxed walk too, every eligible node is after the place.
 fn walk_w1(view: &View) -> bool {
     view.busy().all(|(_, processor, p)| match processor.stage {
-        Stage::W1Read(a) => view
+        Stage::W1Read(a) | Stage::RW1Read(a) => view
             .entry_nodes()
             .all(|n| view.key(n) > view.key(a.node) || !view.eligible(n, p.begin)),
         _ => true,
@@ -27,10 +27,10 @@ fn walk_w2(view: &View) -> bool {
     })
 }
 
-/// At W3 no eligible node is before the place.
+/// At W3, of a Relaxed walk too, no eligible node is before the place.
 fn walk_w3(view: &View) -> bool {
     view.busy().all(|(_, processor, p)| match processor.stage {
-        Stage::W3Mark(a) => none_before(view, a.node, p.begin),
+        Stage::W3Mark(a) | Stage::RW3Mark(a) => none_before(view, a.node, p.begin),
         _ => true,
     })
 }

@@ -138,6 +138,7 @@ fn stage_breaking(queue: &Queue, p: usize) -> Vec<Change> {
     for node in [HEAD, tail] {
         let end = Place { node, level: 1 };
         changes.push(stage_change(p, Stage::W3Mark(end), 1));
+        changes.push(stage_change(p, Stage::RW3Mark(end), 1));
     }
     for own in [0, tail, tail + 1] {
         let with_place = stages_at(good, 1).into_iter();

@@ -13,12 +13,13 @@ pub use breaking::breaking;
 
 /// Calls of every kind by processor 0, and calls that would be refused for
 /// their numbers: check 21 comes before these.
-pub const CALLS: [Call; 8] = [
+pub const CALLS: [Call; 10] = [
     Call::Backlog,
     Call::Markers { room: 400 },
     Call::Markers { room: 0 },
     Call::Step { processor: 0 },
     Call::DeleteMin { processor: 0 },
+    Call::Relaxed { processor: 0 },
     Call::Insert {
         processor: 0,
         due: 0,
@@ -28,6 +29,7 @@ pub const CALLS: [Call; 8] = [
     Call::Step {
         processor: u64::MAX,
     },
+    Call::Relaxed { processor: 99 },
     Call::Insert {
         processor: 99,
         due: u64::MAX,
@@ -115,9 +117,15 @@ pub fn stages_at(a: Place, b: u8) -> Vec<Stage> {
     stages
 }
 
-/// Every stage of a walk at this place.
+/// Every stage of a walk at this place, ordinary or Relaxed.
 pub fn walk_stages_at(a: Place) -> Vec<Stage> {
-    vec![Stage::W1Read(a), Stage::W2Compare(a), Stage::W3Mark(a)]
+    vec![
+        Stage::W1Read(a),
+        Stage::W2Compare(a),
+        Stage::W3Mark(a),
+        Stage::RW1Read(a),
+        Stage::RW3Mark(a),
+    ]
 }
 
 /// Every stage with an own node and no place.
@@ -183,6 +191,7 @@ pub fn to_the_edge(queue: &Queue) -> Vec<Change> {
             }
             changes.push(stage_change(p, Stage::W1Read(end), tail));
             changes.push(stage_change(p, Stage::W2Compare(end), 0));
+            changes.push(stage_change(p, Stage::RW1Read(end), tail));
             changes.push(stage_change(p, Stage::Idle, node));
         }
         for stage in stages_without_place() {
@@ -194,6 +203,7 @@ pub fn to_the_edge(queue: &Queue) -> Vec<Change> {
                 level: levels,
             };
             changes.push(stage_change(p, Stage::W3Mark(entry), tail));
+            changes.push(stage_change(p, Stage::RW3Mark(entry), tail));
         }
     }
     changes

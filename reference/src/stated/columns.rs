@@ -77,10 +77,17 @@ fn with(line: &str, field: usize, columns: &[u8; 7]) -> Vec<u8> {
     line
 }
 
+/// What a call of the processor of these columns prints, which the queue has not.
+fn stranger(columns: &[u8; 7]) -> Vec<u8> {
+    let mut line = b"R      0      0     32      0      0\n".to_vec();
+    line[8..15].copy_from_slice(columns);
+    line
+}
+
 /// What an Insert by processor 0 prints with these columns in one of its
 /// fields (processor, due, item, height).
 fn inserted(field: usize, columns: &[u8; 7], number: u32) -> Vec<u8> {
-    let begun = "I      1      0      7     42      1\n".as_bytes().to_vec();
+    let begun = b"I      1      0      7     42      1\n".to_vec();
     let refused = |refusal: u32| format!("R      0      0{refusal:7}      0      0\n").into_bytes();
     let printed = |at: usize| {
         let mut line = begun.clone();
@@ -89,11 +96,7 @@ fn inserted(field: usize, columns: &[u8; 7], number: u32) -> Vec<u8> {
     };
     match (field, number) {
         (0, 0) | (3, 1) => begun,
-        (0, _) => {
-            let mut line = refused(32);
-            line[8..15].copy_from_slice(columns);
-            line
-        }
+        (0, _) => stranger(columns),
         (1, 0..=999_999) => printed(15),
         (2, 1..=999_999) => printed(22),
         (1 | 2, 1_000_000..) => refused(35),
@@ -102,8 +105,18 @@ fn inserted(field: usize, columns: &[u8; 7], number: u32) -> Vec<u8> {
     }
 }
 
+/// What the begin of a Delete_Min by processor 0, ordinary (D) or Relaxed (L),
+/// prints with these columns in one of its fields; it uses the first alone.
+fn begun(letter: u8, field: usize, columns: &[u8; 7], number: u32) -> Option<Vec<u8>> {
+    match (field, number) {
+        (_, 0) => Some([&[letter], &b"      1      0      0      0      0\n"[..]].concat()),
+        (0, _) => Some(stranger(columns)),
+        _ => None,
+    }
+}
+
 /// Each of the columns in each field of an Insert's line; as the step count of
-/// an S line; and in each of the fields that a D line does not use.
+/// an S line; and in each field of a D and of an L line, which use the first.
 pub fn fields() -> Vec<Field> {
     let mut fields = Vec::new();
     let mut add = |line: Vec<u8>, history| {
@@ -119,10 +132,12 @@ pub fn fields() -> Vec<Field> {
         let steps = number.filter(|steps| (1..=999).contains(steps));
         let line = with("S      0      1      0      0\n", 1, columns);
         add(line, steps.map(|_| idle));
-        for field in 1..4 {
-            let begun = b"D      1      0      0      0      0\n".to_vec();
-            let line = with("D      0      0      0      0\n", field, columns);
-            add(line, number.filter(|&number| number == 0).map(|_| begun));
+        for letter in [b'D', b'L'] {
+            for field in 0..4 {
+                let line = with("D      0      0      0      0\n", field, columns);
+                let history = number.and_then(|number| begun(letter, field, columns, number));
+                add([&[letter], &line[1..]].concat(), history);
+            }
         }
     }
     fields

@@ -198,15 +198,75 @@ pub const BEGUN: [([u8; 3], [ByteAt; 4]); 5] = [
     ([16, 200, 8], [(3, 1), (262, 1), (267, 11), (269, 1)]),
 ];
 
+/// The same with the begin of a Relaxed Delete_Min.
+pub const BEGUN_RELAXED: [([u8; 3], [ByteAt; 4]); 5] = [
+    ([1, 1, 1], [(3, 1), (7, 1), (12, 27), (14, 1)]),
+    ([2, 3, 2], [(3, 1), (24, 1), (29, 27), (31, 1)]),
+    ([16, 1, 8], [(3, 1), (262, 1), (267, 27), (269, 1)]),
+    ([1, 200, 1], [(3, 1), (7, 1), (12, 27), (14, 1)]),
+    ([16, 200, 8], [(3, 1), (262, 1), (267, 27), (269, 1)]),
+];
+
+/// Four bytes of a fresh queue's image replaced: sizes, where the stage of the
+/// last processor stands, its tag, node, level and node of G3, and whether the
+/// calls take it. The walks, ordinary (11 to 13) and Relaxed (27, 28); from 29 on
+/// there is no stage.
+pub const STAGES: [([u8; 3], usize, [u8; 4], bool); 42] = [
+    ([1, 1, 1], 12, [11, 0, 1, 0], true),
+    ([1, 1, 1], 12, [13, 0, 1, 0], false),
+    ([1, 1, 1], 12, [13, 1, 1, 0], true),
+    ([1, 1, 1], 12, [27, 0, 1, 0], true),
+    ([1, 1, 1], 12, [27, 1, 1, 0], true),
+    ([1, 1, 1], 12, [27, 2, 1, 0], true),
+    ([1, 1, 1], 12, [27, 3, 1, 0], false),
+    ([1, 1, 1], 12, [27, 0, 0, 0], false),
+    ([1, 1, 1], 12, [27, 0, 2, 0], false),
+    ([1, 1, 1], 12, [27, 0, 1, 1], false),
+    ([1, 1, 1], 12, [28, 1, 1, 0], true),
+    ([1, 1, 1], 12, [28, 0, 1, 0], false),
+    ([1, 1, 1], 12, [28, 2, 1, 0], false),
+    ([1, 1, 1], 12, [28, 3, 1, 0], false),
+    ([1, 1, 1], 12, [28, 1, 0, 0], false),
+    ([1, 1, 1], 12, [28, 1, 2, 0], false),
+    ([1, 1, 1], 12, [28, 1, 1, 1], false),
+    ([1, 1, 1], 12, [29, 1, 1, 0], false),
+    ([1, 1, 1], 12, [30, 1, 1, 0], false),
+    ([1, 1, 1], 12, [255, 1, 1, 0], false),
+    ([2, 3, 2], 29, [27, 0, 2, 0], true),
+    ([2, 3, 2], 29, [27, 4, 2, 0], true),
+    ([2, 3, 2], 29, [27, 5, 2, 0], false),
+    ([2, 3, 2], 29, [27, 4, 3, 0], false),
+    ([2, 3, 2], 29, [28, 1, 2, 0], true),
+    ([2, 3, 2], 29, [28, 3, 1, 0], true),
+    ([2, 3, 2], 29, [28, 0, 1, 0], false),
+    ([2, 3, 2], 29, [28, 4, 1, 0], false),
+    ([2, 3, 2], 29, [28, 3, 3, 0], false),
+    ([2, 3, 2], 29, [29, 3, 1, 0], false),
+    ([16, 200, 8], 267, [11, 201, 8, 0], true),
+    ([16, 200, 8], 267, [13, 200, 8, 0], true),
+    ([16, 200, 8], 267, [13, 201, 8, 0], false),
+    ([16, 200, 8], 267, [27, 0, 8, 0], true),
+    ([16, 200, 8], 267, [27, 201, 8, 0], true),
+    ([16, 200, 8], 267, [27, 202, 8, 0], false),
+    ([16, 200, 8], 267, [27, 0, 9, 0], false),
+    ([16, 200, 8], 267, [28, 1, 1, 0], true),
+    ([16, 200, 8], 267, [28, 200, 8, 0], true),
+    ([16, 200, 8], 267, [28, 0, 8, 0], false),
+    ([16, 200, 8], 267, [28, 201, 8, 0], false),
+    ([16, 200, 8], 267, [29, 1, 1, 0], false),
+];
+
 /// One byte of a fresh queue's image replaced: sizes, place, byte, and whether
 /// the calls take it. The last processor's own node (its fifth byte) and stage,
 /// the head's first forward number, the tail's height and last byte, and the
 /// marks of the head, of the last entry and of the tail: a mark is nobody's, or
 /// one more than the processor that set it.
-pub const EDITS: [([u8; 3], usize, u8, bool); 41] = [
+pub const EDITS: [([u8; 3], usize, u8, bool); 45] = [
     ([1, 1, 1], 11, 2, true),
     ([1, 1, 1], 11, 3, false),
     ([1, 1, 1], 12, 27, false),
+    ([1, 1, 1], 12, 28, false),
+    ([1, 1, 1], 12, 29, false),
     ([1, 1, 1], 24, 2, true),
     ([1, 1, 1], 24, 3, false),
     ([1, 1, 1], 41, 1, true),
@@ -219,7 +279,8 @@ pub const EDITS: [([u8; 3], usize, u8, bool); 41] = [
     ([1, 1, 1], 146, 1, false),
     ([2, 3, 2], 28, 4, true),
     ([2, 3, 2], 28, 5, false),
-    ([2, 3, 2], 29, 27, false),
+    ([2, 3, 2], 29, 29, false),
+    ([2, 3, 2], 29, 255, false),
     ([2, 3, 2], 41, 4, true),
     ([2, 3, 2], 41, 5, false),
     ([2, 3, 2], 58, 2, true),
@@ -233,7 +294,8 @@ pub const EDITS: [([u8; 3], usize, u8, bool); 41] = [
     ([2, 3, 2], 245, 1, false),
     ([16, 200, 8], 266, 201, true),
     ([16, 200, 8], 266, 202, false),
-    ([16, 200, 8], 267, 27, false),
+    ([16, 200, 8], 267, 29, false),
+    ([16, 200, 8], 267, 255, false),
     ([16, 200, 8], 279, 202, false),
     ([16, 200, 8], 296, 16, true),
     ([16, 200, 8], 296, 17, false),

@@ -28,7 +28,8 @@ pub(super) fn steps(processor: u32, reply: [u32; 4], first: u32, last: u32) -> V
 
 /// The printed run as one list, on a fresh queue for one processor, one entry
 /// and one level. A call that is refused leaves the clock, and the list goes
-/// on; numbers that a call has not, and a kind above 3, are looked over.
+/// on; numbers that a call has not are not looked at, and a kind that begins
+/// nothing is a step.
 pub fn printed() -> Vec<Turn> {
     let mut turns: Vec<Turn> = vec![
         ([0, 0, 0, 0, 0], [34, 0, 0, 0, 0]),
@@ -56,7 +57,7 @@ pub fn printed() -> Vec<Turn> {
         ([1, 0, 1_000_000, 1, 1], [35, 0, 0, 0, 26]),
         ([1, 0, 1, 1, 2], [36, 0, 0, 0, 26]),
         ([2, 0, 0, 0, 0], [0, 27, 0, 0, 27]),
-        ([4, 0, 0, 0, 0], [3, 0, 0, 0, 28]),
+        ([5, 0, 0, 0, 0], [3, 0, 0, 0, 28]),
     ]);
     turns
 }

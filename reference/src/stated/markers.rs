@@ -190,9 +190,10 @@ pub struct Run {
     pub spans: &'static [Span],
 }
 
-/// The printed run by its only processor, the same by the last of sixteen, and
-/// one with two processors, in which the node is marked by each in turn.
-pub fn runs() -> [Run; 3] {
+/// The printed run by its only processor, the same by the last of sixteen, one
+/// with two processors, in which the node is marked by each in turn, and one in
+/// which Relaxed Delete_Mins mark it.
+pub fn runs() -> [Run; 4] {
     [
         Run {
             what: "the printed run",
@@ -230,7 +231,25 @@ pub fn runs() -> [Run; 3] {
                 (57, 57, &[], 1),
             ],
         },
+        relaxed(),
     ]
+}
+
+fn relaxed() -> Run {
+    Run {
+        what: "marked by 1 before 0 answers, filled in by 1 and marked by 0",
+        processors: 2,
+        calls: marked_before_its_answer(),
+        spans: &[
+            (0, 0, &[], 0),
+            (1, 9, &[1, 255], 0),
+            (10, 25, &[1, 1], 2),
+            (26, 27, &[], 2),
+            (28, 39, &[1, 255], 0),
+            (40, 51, &[1, 0], 1),
+            (52, 54, &[], 1),
+        ],
+    }
 }
 
 fn insert(processor: u64) -> Call {
@@ -278,5 +297,29 @@ fn marked_in_turn() -> Vec<Call> {
     calls.extend(steps(0, 9));
     calls.push(delete(0));
     calls.extend(steps(0, 15));
+    calls
+}
+
+/// Insert by 0 at 1, linked at 7; Relaxed Delete_Min by 1 at 8, marked at 10,
+/// which waits at 12 and 14 for the node lock and hands out at 26; the Insert
+/// answers at 27. Insert by 1 at 28, answered at 37; Relaxed Delete_Min by 0 at
+/// 38, marked at 40, handed out at 52; another at 53, EMPTY at 54.
+fn marked_before_its_answer() -> Vec<Call> {
+    let relaxed = |processor: u64| Call::Relaxed { processor };
+    let mut calls = vec![insert(0)];
+    calls.extend(steps(0, 6));
+    calls.push(relaxed(1));
+    calls.extend(steps(1, 4));
+    calls.extend(steps(0, 1));
+    calls.extend(steps(1, 1));
+    calls.extend(steps(0, 1));
+    calls.extend(steps(1, 11));
+    calls.extend(steps(0, 1));
+    calls.push(insert(1));
+    calls.extend(steps(1, 9));
+    calls.push(relaxed(0));
+    calls.extend(steps(0, 14));
+    calls.push(relaxed(0));
+    calls.extend(steps(0, 1));
     calls
 }

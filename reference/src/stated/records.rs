@@ -195,10 +195,10 @@ fn spots_of(field: Field, nodes: &[usize], processors: &[usize], levels: &[usize
 fn stage_count(field: Field) -> usize {
     match field {
         Field::Own => 23,
-        Field::OwnOfNoStage => 4,
-        Field::PlaceNode => 20,
-        Field::MarkedNode => 1,
-        Field::PlaceLevel => 21,
+        Field::OwnOfNoStage => 6,
+        Field::PlaceNode => 21,
+        Field::MarkedNode => 2,
+        Field::PlaceLevel => 23,
         Field::ReadNode => 2,
         _ => 0,
     }
@@ -209,13 +209,15 @@ fn stages_of(field: Field, a: Place, read: u8) -> Vec<Stage> {
     let mut stages = stages_at(a, read);
     match field {
         Field::Own => stages.extend(stages_without_place()),
-        Field::PlaceNode => stages.extend([Stage::W1Read(a), Stage::W2Compare(a)]),
+        Field::PlaceNode => {
+            stages.extend([Stage::W1Read(a), Stage::W2Compare(a), Stage::RW1Read(a)]);
+        }
         Field::PlaceLevel => stages.extend(walk_stages_at(a)),
         Field::OwnOfNoStage => {
             stages = walk_stages_at(a);
             stages.push(Stage::Idle);
         }
-        Field::MarkedNode => stages = vec![Stage::W3Mark(a)],
+        Field::MarkedNode => stages = vec![Stage::W3Mark(a), Stage::RW3Mark(a)],
         _ => {
             let [insert, removal] = [Operation::Insert, Operation::DeleteMin];
             stages = vec![

@@ -43,13 +43,13 @@ pub enum Field {
     Begin,
     /// The own node where the stage has one.
     Own,
-    /// The own node where the stage has none: idle, W1 to W3.
+    /// The own node where the stage has none: idle, and the walks.
     OwnOfNoStage,
     /// A saved node.
     Saved,
-    /// The node of a stage's place, but at W3.
+    /// The node of a stage's place, but at W3 and RW3.
     PlaceNode,
-    /// The node of the place at W3.
+    /// The node of the place at W3 and RW3.
     MarkedNode,
     /// The level of a stage's place.
     PlaceLevel,

@@ -1,10 +1,12 @@
 //! Sheets with what they print or why they are refused.
 
+use super::relaxed;
+
 /// A Q line for the smallest queue.
 pub const Q: &str = "Q      1      1      1      0\n";
 
 /// Lines that are not in form.
-pub const OUT_OF_FORM: [&str; 24] = [
+pub const OUT_OF_FORM: [&str; 32] = [
     "D     00      0      0      0\n", // leading zero
     "D             0      0      0\n", // a field of spaces
     "D0            0      0      0\n", // spaces after digits
@@ -23,6 +25,14 @@ pub const OUT_OF_FORM: [&str; 24] = [
     "D      0      0      1      0\n",
     "D      0      0      0      1\n",
     "D      0      1      1      1\n",
+    "L      0      1      0      0\n",
+    "L      0      0      1      0\n",
+    "L      0      0      0      1\n",
+    "L      0      7     42      1\n",
+    "L     00      0      0      0\n",
+    "L             0      0      0\n",
+    "l      0      0      0      0\n",
+    "L      0      0      0      0 ",
     "S      0      1      1      0\n",
     "S      0      1      0      1\n",
     "S      0      0      0      0\n", // step counts
@@ -92,8 +102,8 @@ pub fn numbered_history(lines: usize) -> Vec<u8> {
 }
 
 /// A sheet whose processor 1 waits for the head's lock until the clock is
-/// 999,999: 7 calls, 1000 lines of 999 steps, 992 steps. Then come a step, a
-/// begin, and an Insert with item 0.
+/// 999,999: 7 calls, 1000 lines of 999 steps, 992 steps. Then come a step, two
+/// begins, and an Insert with item 0.
 pub fn spent_clock() -> Vec<u8> {
     let mut sheet = "\
 Q      2      2      1      0
@@ -107,6 +117,7 @@ S      1      2      0      0
     sheet += "S      1    992      0      0\n";
     sheet += "S      1      1      0      0\n";
     sheet += "D      9      0      0      0\n";
+    sheet += "L      9      0      0      0\n";
     sheet += "I      0      7      0      1\n";
     sheet.into_bytes()
 }
@@ -116,6 +127,7 @@ pub const SPENT_CLOCK_HISTORY: &str = "\
 I      1      0      0      1      1
 I      5      1      0      1      1
 R 999999      1     31      0      0
+R 999999      9     31      0      0
 R 999999      9     31      0      0
 R 999999      0     31      0      0
 ";
@@ -183,19 +195,55 @@ pub struct Areas {
     pub too_short: &'static [usize],
 }
 
+/// Areas for a sheet and its history, which is so long.
+fn of(
+    name: &'static str,
+    sheet: Vec<u8>,
+    history: Vec<u8>,
+    length: usize,
+    fits: &'static [usize],
+    too_short: &'static [usize],
+) -> Areas {
+    assert_eq!(history.len(), length, "{name}");
+    Areas {
+        name,
+        sheet,
+        history,
+        fits,
+        too_short,
+    }
+}
+
 /// Areas as long as a history, one byte less and one more, below and above
 /// 65,536 bytes, with the lengths in numbers.
 pub fn areas() -> Vec<Areas> {
-    let of = |name, sheet, history: Vec<u8>, length, fits, too_short| {
-        assert_eq!(history.len(), length, "{name}");
-        Areas {
-            name,
-            sheet,
-            history,
-            fits,
-            too_short,
-        }
-    };
+    let mut all = runs_and_refusals();
+    all.extend(relaxed_areas());
+    all
+}
+
+fn relaxed_areas() -> [Areas; 2] {
+    [
+        of(
+            "an entry handed out before its Insert answers",
+            relaxed::SHEET.into(),
+            relaxed::HISTORY.into(),
+            592,
+            &[592, 593, 65_536, 65_537],
+            &[0, 37, 555, 591],
+        ),
+        of(
+            "refused L lines",
+            relaxed::REFUSED.into(),
+            relaxed::REFUSED_HISTORY.into(),
+            444,
+            &[444, 445, 65_537],
+            &[0, 407, 443],
+        ),
+    ]
+}
+
+fn runs_and_refusals() -> Vec<Areas> {
     let runs = |times| (printed_runs(times), printed_histories(times));
     let (q, none) = runs(0);
     let (one, one_history) = runs(1);
@@ -297,9 +345,9 @@ pub fn areas() -> Vec<Areas> {
             "a spent clock",
             spent_clock(),
             SPENT_CLOCK_HISTORY.into(),
-            185,
-            &[185, 186, 65_536, 65_537],
-            &[0, 148, 184],
+            222,
+            &[222, 223, 65_536, 65_537],
+            &[0, 185, 221],
         ),
     ]
 }

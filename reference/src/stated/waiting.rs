@@ -2,6 +2,7 @@
 //! the numbers of a list, with the processor that each wait names.
 
 use super::lists::{moves, steps, Turn};
+use super::relaxed;
 
 /// A run on a fresh queue.
 pub struct Run {
@@ -13,7 +14,7 @@ pub struct Run {
     pub turns: Vec<Turn>,
 }
 
-/// Every run.
+/// Every run; at L1 steps wait in those with Relaxed Delete_Mins alone.
 pub fn runs() -> Vec<Run> {
     let mut all = Vec::new();
     for (processors, p, q) in [(2, 0, 1), (2, 1, 0), (4, 3, 1), (16, 15, 7), (16, 0, 15)] {
@@ -42,6 +43,7 @@ pub fn runs() -> Vec<Run> {
         sizes: [16, 4, 2],
         turns: [on_two_levels(), on_two_levels_later()].concat(),
     });
+    all.extend(relaxed::runs().into_iter().map(|(run, _)| run));
     all
 }
 

@@ -29,14 +29,30 @@ returns-2 c = rw (c .before .before .before .before .before .c2 .given .1) (c .b
 enum-known-c-3 : tie.Need-enum-known-c-3
 enum-known-c-3 c = search needs
 
-step-at-requires : tie.Need-step-at-requires
-step-at-requires c κs = search needs
+begin-relaxed-at-requires : tie.Need-begin-relaxed-at-requires
+begin-relaxed-at-requires c κs = search needs
 
 same-length-3 : tie.Need-same-length-3
 same-length-3 c = search needs
 
 returns-3 : tie.Need-returns-3
-returns-3 c = rw (c .before .before .before .before .before .c3 .given .1) (c .before .before .step-at .ensures)
+returns-3 c =
+    rw (c .before .before .before .before .before .c3 .given .1)
+    (c .before .before .begin-relaxed-at .ensures)
+
+enum-known-c-4 : tie.Need-enum-known-c-4
+enum-known-c-4 c = search needs
+
+step-at-requires : tie.Need-step-at-requires
+step-at-requires c κs = search needs
+
+same-length-4 : tie.Need-same-length-4
+same-length-4 c = search needs
+
+returns-4 : tie.Need-returns-4
+returns-4 c =
+    rw (c .before .before .before .before .before .c4 .given .1)
+    (c .before .before .step-at .ensures)
 
 pub call-at-spec : {M : Type 1} → statement M
 call-at-spec =
@@ -51,6 +67,10 @@ call-at-spec =
     same-length-2
     returns-2
     enum-known-c-3
-    step-at-requires
+    begin-relaxed-at-requires
     same-length-3
-    returns-3)
+    returns-3
+    enum-known-c-4
+    step-at-requires
+    same-length-4
+    returns-4)

@@ -9,7 +9,12 @@ returns : tie.Need-returns
 returns c = ap (λ (t : ℕ). rowAt t .marks) (sym (c .match .keys1))
 
 returns-2 : tie.Need-returns-2
-returns-2 c = sym (marks-rest (c .before .args .tag) (c .before .pre) (c .match .rest .1))
+returns-2 c = ap (λ (t : ℕ). rowAt t .marks) (sym (c .match .keys2))
+
+returns-3 : tie.Need-returns-3
+returns-3 c =
+    let r = c .match .rest in
+    sym (marks-rest (c .before .args .tag) (c .before .pre) (r .0 .1) (r .1))
 
 pub marks-spec : {M : Type 1} → statement M
-marks-spec = tie.close (tie.spec returns returns-2)
+marks-spec = tie.close (tie.spec returns returns-2 returns-3)

@@ -18,10 +18,17 @@ returns-4 : tie.Need-returns-4
 returns-4 c = ap (λ (t : ℕ). rowAt t .owns) (sym (c .match .keys4))
 
 returns-5 : tie.Need-returns-5
-returns-5 c =
+returns-5 c = ap (λ (t : ℕ). rowAt t .owns) (sym (c .match .keys5))
+
+returns-6 : tie.Need-returns-6
+returns-6 c = ap (λ (t : ℕ). rowAt t .owns) (sym (c .match .keys6))
+
+returns-7 : tie.Need-returns-7
+returns-7 c =
     let r = c .match .rest in
-    sym (owned-rest (c .before .args .tag) (c .before .pre) (r .0 .0 .0 .1)
-    (r .0 .0 .1) (r .0 .1) (r .1))
+    sym (owned-rest (c .before .args .tag) (c .before .pre) (r .0 .0 .0 .0 .0 .1)
+    (r .0 .0 .0 .0 .1) (r .0 .0 .0 .1) (r .0 .0 .1) (r .0 .1) (r .1))
 
 pub owns-spec : {M : Type 1} → statement M
-owns-spec = tie.close (tie.spec returns returns-2 returns-3 returns-4 returns-5)
+owns-spec =
+    tie.close (tie.spec returns returns-2 returns-3 returns-4 returns-5 returns-6 returns-7)

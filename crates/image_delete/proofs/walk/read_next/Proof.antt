@@ -57,12 +57,15 @@ same-length c = search needs
 returns : tie.Need-returns
 returns c =
     let s = c .before .before .before .before .before .before .before .before .before .before .before .before .before .before in
-    walks-empty (s .args .image .now) (s .args .base) (s .args .p) (s .pre) _ _
+    walks-empty (s .args .relaxed) (s .args .image .now) (s .args .base) (s .args .p) (s .pre) _ _
     (c .before .before .before .before .if1 .taken)
     (simp (
       c .before .before .clear .ensures,
       c .before .before .before .before .before .before .before .tick .ensures,
     )) refl
+
+next-tag-requires : tie.Need-next-tag-requires
+next-tag-requires c κs = search needs
 
 add-image : tie.Need-add-image
 add-image c = search needs
@@ -87,9 +90,11 @@ same-length-2 c = search needs
 
 returns-2 : tie.Need-returns-2
 returns-2 c =
-    let s = c .before .before .before .before .before .before .before .before .before .before in
-    walks-on (s .args .image .now) (s .args .base) (s .args .p) (s .pre) _ _ (c .if1 .left)
-    (simp (c .before .before .before .tick .ensures)) refl
+    let t = c .before .before .before .before in
+    let s = t .before .before .before .before .before .before .before in
+    walks-on (s .args .relaxed) (s .args .image .now) (s .args .base) (s .args .p) (s .pre) _ _
+    (c .before .if1 .left) _ (c .next-tag .ensures)
+    (simp (t .tick .ensures)) refl
 
 pub read-next-spec : {M : Type 1} → statement M
 read-next-spec =
@@ -112,6 +117,7 @@ read-next-spec =
     clear-requires
     same-length
     returns
+    next-tag-requires
     add-image
     slice-write-image
     add-image-2

@@ -36,6 +36,9 @@ add-m c = search needs
 slice-read-m : tie.Need-slice-read-m
 slice-read-m c = search needs
 
+read-tag-requires : tie.Need-read-tag-requires
+read-tag-requires c κs = search needs
+
 tick-requires : tie.Need-tick-requires
 tick-requires c κs = search needs
 
@@ -50,10 +53,11 @@ same-length c = search needs
 
 returns : tie.Need-returns
 returns c =
-    let s = c .before .before .before .before .before .before .before .before .before in
-    mark-set (s .args .image .now) (s .args .base) (s .args .p) (s .pre) _ _
-    (c .before .before .before .before .if1 .taken) (simp (c .before .before .tick .ensures))
-    refl
+    let s = c .before .before .before .before .before .before .before .before .before .before in
+    mark-set (s .args .relaxed) (s .args .image .now) (s .args .base) (s .args .p) (s .pre) _ _
+    (c .before .before .before .before .before .if1 .taken) _
+    (c .before .before .before .before .read-tag .ensures)
+    (simp (c .before .before .tick .ensures)) refl
 
 add-number-from : tie.Need-add-number-from
 add-number-from c = search needs
@@ -118,7 +122,14 @@ same-length-2 c = search needs
 returns-2 : tie.Need-returns-2
 returns-2 c =
     let s = c .before .before .before .before .before .before .before .before .before .before .before .before .before .before .before in
-    marks (s .args .image .now) (s .args .base) (s .args .p) (s .pre) _ _ (c .before .before .before .before .before .before .before .before .before .before .if1 .left) (simp (c .before .before .tick2 .ensures)) (simp (c .before .before .before .before .before .before .before .before .number-from .ensures, c .before .before .before .before .before .before .number-from2 .ensures, c .before .before .before .before .number-from3 .ensures))
+    marks (s .args .relaxed) (s .args .image .now) (s .args .base) (s .args .p) (s .pre) _ _
+    (c .before .before .before .before .before .before .before .before .before .before .if1 .left)
+    (simp (c .before .before .tick2 .ensures))
+    (simp (
+      c .before .before .before .before .before .before .before .before .number-from .ensures,
+      c .before .before .before .before .before .before .number-from2 .ensures,
+      c .before .before .before .before .number-from3 .ensures,
+    ))
 
 pub set-mark-spec : {M : Type 1} → statement M
 set-mark-spec =
@@ -134,6 +145,7 @@ set-mark-spec =
     add-here
     add-m
     slice-read-m
+    read-tag-requires
     tick-requires
     add-image
     slice-write-image

@@ -63,14 +63,35 @@ same-length-2 c = search needs
 returns-2 : tie.Need-returns-2
 returns-2 c = rw (ne-eqb _ _ (c .before .before .before .before .before .if1 .left), eq-eqb _ _ (c .before .before .before .before .if2 .taken)) (c .before .before .begin-delete-min-at .ensures)
 
-step-at-requires : tie.Need-step-at-requires
-step-at-requires c κs = search needs
+begin-relaxed-at-requires : tie.Need-begin-relaxed-at-requires
+begin-relaxed-at-requires c κs = search needs
 
 same-length-3 : tie.Need-same-length-3
 same-length-3 c = search needs
 
 returns-3 : tie.Need-returns-3
-returns-3 c = rw (ne-eqb _ _ (c .before .before .before .before .before .if1 .left), ne-eqb _ _ (c .before .before .before .before .if2 .left)) (c .before .before .step-at .ensures)
+returns-3 c =
+    let i = c .before .before .before .before in
+    rw (
+      ne-eqb _ _ (i .before .before .if1 .left),
+      ne-eqb _ _ (i .before .if2 .left),
+      eq-eqb _ _ (i .if3 .taken),
+    ) (c .before .before .begin-relaxed-at .ensures)
+
+step-at-requires : tie.Need-step-at-requires
+step-at-requires c κs = search needs
+
+same-length-4 : tie.Need-same-length-4
+same-length-4 c = search needs
+
+returns-4 : tie.Need-returns-4
+returns-4 c =
+    let i = c .before .before .before .before in
+    rw (
+      ne-eqb _ _ (i .before .before .if1 .left),
+      ne-eqb _ _ (i .before .if2 .left),
+      ne-eqb _ _ (i .if3 .left),
+    ) (c .before .before .step-at .ensures)
 
 pub turn-spec : {M : Type 1} → statement M
 turn-spec =
@@ -96,6 +117,9 @@ turn-spec =
     begin-delete-min-at-requires
     same-length-2
     returns-2
-    step-at-requires
+    begin-relaxed-at-requires
     same-length-3
-    returns-3)
+    returns-3
+    step-at-requires
+    same-length-4
+    returns-4)

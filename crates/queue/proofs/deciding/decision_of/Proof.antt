@@ -38,6 +38,12 @@ enum-told c = search needs
 delete-begins-requires : tie.Need-delete-begins-requires
 delete-begins-requires c κs = search needs
 
+enum-told-2 : tie.Need-enum-told-2
+enum-told-2 c = search needs
+
+relaxed-begins-requires : tie.Need-relaxed-begins-requires
+relaxed-begins-requires c κs = search needs
+
 enum-known-c-2 : tie.Need-enum-known-c-2
 enum-known-c-2 c = search needs
 
@@ -62,6 +68,11 @@ returns-2 c =
 
 returns-3 : tie.Need-returns-3
 returns-3 c =
+    let q = c .before .before .before .before .args .q in
+    c .relaxed-begins .ensures ∙ sym (ap (decisionOf q) (c .before .enum-told2 .given .1))
+
+returns-4 : tie.Need-returns-4
+returns-4 c =
     let q = c .before .before .before .before .before .args .q in
     c .step-decision .ensures ∙ sym (ap (decisionOf q) (c .before .before .c2 .given .1))
 
@@ -75,8 +86,11 @@ decision-of-spec =
     insert-begins-requires
     enum-told
     delete-begins-requires
+    enum-told-2
+    relaxed-begins-requires
     enum-known-c-2
     step-decision-requires
     returns
     returns-2
-    returns-3)
+    returns-3
+    returns-4)

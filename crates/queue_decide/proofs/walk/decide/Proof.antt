@@ -24,6 +24,12 @@ delete-step-requires c κs = search needs
 enum-known-g-3 : tie.Need-enum-known-g-3
 enum-known-g-3 c = search needs
 
+relaxed-step-requires : tie.Need-relaxed-step-requires
+relaxed-step-requires c κs = search needs
+
+enum-known-g-4 : tie.Need-enum-known-g-4
+enum-known-g-4 c = search needs
+
 removal-step-requires : tie.Need-removal-step-requires
 removal-step-requires c κs = search needs
 
@@ -37,7 +43,10 @@ returns-3 : tie.Need-returns-3
 returns-3 c = search (tests, c .delete-step .ensures, c .before .before .g2 .given .1)
 
 returns-4 : tie.Need-returns-4
-returns-4 c = search (tests, c .removal-step .ensures, c .before .before .g3 .given .1)
+returns-4 c = search (tests, c .relaxed-step .ensures, c .before .before .g3 .given .1)
+
+returns-5 : tie.Need-returns-5
+returns-5 c = search (tests, c .removal-step .ensures, c .before .before .g4 .given .1)
 
 pub decide-spec : {M : Type 1} → statement M
 decide-spec =
@@ -50,8 +59,11 @@ decide-spec =
     enum-known-g-2
     delete-step-requires
     enum-known-g-3
+    relaxed-step-requires
+    enum-known-g-4
     removal-step-requires
     returns
     returns-2
     returns-3
-    returns-4)
+    returns-4
+    returns-5)

@@ -3,20 +3,14 @@ use borrow.Author.Needs.{needs}
 use Rattle.queue_decide.proofs.walk.walk_on.Statement.{statement}
 use Rattle.queue_decide.proofs.walk.walk_on.Tie as tie
 
-answers-requires : tie.Need-answers-requires
-answers-requires c κs = search needs
-
 at-requires : tie.Need-at-requires
 at-requires c κs = search needs
 
-moved-requires : tie.Need-moved-requires
-moved-requires c κs = search needs
+on-or-empty-requires : tie.Need-on-or-empty-requires
+on-or-empty-requires c κs = search needs
 
 returns : tie.Need-returns
-returns c = search (tests, c .answers .ensures, c .before .if1 .taken)
-
-returns-2 : tie.Need-returns-2
-returns-2 c = search (tests, c .moved .ensures, c .before .at .ensures, c .before .before .if1 .left)
+returns c = search (tests, c .on-or-empty .ensures, c .before .at .ensures)
 
 pub walk-on-spec : {M : Type 1} → statement M
-walk-on-spec = tie.close (tie.spec answers-requires at-requires moved-requires returns returns-2)
+walk-on-spec = tie.close (tie.spec at-requires on-or-empty-requires returns)

@@ -24,6 +24,12 @@ walk-place-requires c κs = search needs
 enum-known-g-3 : tie.Need-enum-known-g-3
 enum-known-g-3 c = search needs
 
+relaxed-place-requires : tie.Need-relaxed-place-requires
+relaxed-place-requires c κs = search needs
+
+enum-known-g-4 : tie.Need-enum-known-g-4
+enum-known-g-4 c = search needs
+
 carried-place-requires-2 : tie.Need-carried-place-requires-2
 carried-place-requires-2 c κs = search needs
 
@@ -39,8 +45,11 @@ returns-3 : tie.Need-returns-3
 returns-3 c = c .walk-place .ensures ∙ ap readingPlace (sym (c .before .before .g2 .given .1))
 
 returns-4 : tie.Need-returns-4
-returns-4 c =
-    let g = c .before .before .g3 .given in
+returns-4 c = c .relaxed-place .ensures ∙ ap readingPlace (sym (c .before .before .g3 .given .1))
+
+returns-5 : tie.Need-returns-5
+returns-5 c =
+    let g = c .before .before .g4 .given in
     c .carried-place2 .ensures ∙ removal-reads (g .0 .0) (g .0 .1 .0) ∙ ap readingPlace (sym (g .1))
 
 pub reading-place-spec : {M : Type 1} → statement M
@@ -53,8 +62,11 @@ reading-place-spec =
     enum-known-g-2
     walk-place-requires
     enum-known-g-3
+    relaxed-place-requires
+    enum-known-g-4
     carried-place-requires-2
     returns
     returns-2
     returns-3
-    returns-4)
+    returns-4
+    returns-5)

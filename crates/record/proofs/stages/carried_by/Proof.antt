@@ -24,6 +24,12 @@ delete-carried-requires c κs = search needs
 enum-known-g-3 : tie.Need-enum-known-g-3
 enum-known-g-3 c = search needs
 
+relaxed-carried-requires : tie.Need-relaxed-carried-requires
+relaxed-carried-requires c κs = search needs
+
+enum-known-g-4 : tie.Need-enum-known-g-4
+enum-known-g-4 c = search needs
+
 removal-carried-requires : tie.Need-removal-carried-requires
 removal-carried-requires c κs = search needs
 
@@ -37,7 +43,10 @@ returns-3 : tie.Need-returns-3
 returns-3 c = simp (c .delete-carried .ensures, c .before .before .g2 .given .1)
 
 returns-4 : tie.Need-returns-4
-returns-4 c = simp (c .removal-carried .ensures, c .before .before .g3 .given .1)
+returns-4 c = simp (c .relaxed-carried .ensures, c .before .before .g3 .given .1)
+
+returns-5 : tie.Need-returns-5
+returns-5 c = simp (c .removal-carried .ensures, c .before .before .g4 .given .1)
 
 pub carried-by-spec : {M : Type 1} → statement M
 carried-by-spec =
@@ -50,8 +59,11 @@ carried-by-spec =
     enum-known-g-2
     delete-carried-requires
     enum-known-g-3
+    relaxed-carried-requires
+    enum-known-g-4
     removal-carried-requires
     returns
     returns-2
     returns-3
-    returns-4)
+    returns-4
+    returns-5)

@@ -57,9 +57,21 @@ keeps-rule-requires-4 c κs = search needs
 
 returns-4 : tie.Need-returns-4
 returns-4 c =
-    let x = c .before .before .before .before .before .args in
-    let e : x .index ≡ 3 = omega arith in
-    c .keeps-rule4 .ensures ∙ at-place (x .a) (x .b) (x .c) (x .d) (sym e)
+    let x = c .before .before .before .before .before .before .args in
+    c .keeps-rule4 .ensures
+    ∙ at-place (x .a) (x .b) (x .c) (x .d) (sym (c .before .before .if4 .taken))
+
+array-copy-out-rule-5 : tie.Need-array-copy-out-rule-5
+array-copy-out-rule-5 c = search needs
+
+keeps-rule-requires-5 : tie.Need-keeps-rule-requires-5
+keeps-rule-requires-5 c κs = search needs
+
+returns-5 : tie.Need-returns-5
+returns-5 c =
+    let x = c .before .before .before .before .before .before .args in
+    let e : x .index ≡ 4 = omega arith in
+    c .keeps-rule5 .ensures ∙ at-place (x .a) (x .b) (x .c) (x .d) (sym e)
 
 pub numbers-keep-spec : {M : Type 1} → statement M
 numbers-keep-spec =
@@ -76,4 +88,7 @@ numbers-keep-spec =
     returns-3
     array-copy-out-rule-4
     keeps-rule-requires-4
-    returns-4)
+    returns-4
+    array-copy-out-rule-5
+    keeps-rule-requires-5
+    returns-5)

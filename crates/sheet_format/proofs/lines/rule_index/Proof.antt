@@ -6,15 +6,17 @@ use lib.ListN.{drop}
 use borrow.Author.Needs.{needs}
 use Rattle.sheet_format.specs.Letters.{letterRules}
 use Rattle.sheet_format.specs.Lines.{ruleIndex}
-use Rattle.sheet_format.proofs.Table.{index-found, index-next}
+use Rattle.sheet_format.proofs.Table.{letterCount, index-found, index-next}
 use Rattle.sheet_format.proofs.lines.rule_index.Statement.{statement}
 use Rattle.sheet_format.proofs.lines.rule_index.Tie as tie
 
 abbrev Inv-loop : tie.InvT-loop
-Inv-loop letter k₀ k = (k ≤ 4) × (ruleIndex letterRules letter ≡ k + ruleIndex (drop k letterRules) letter)
+Inv-loop letter k₀ k =
+    (k ≤ letterCount)
+    × (ruleIndex letterRules letter ≡ k + ruleIndex (drop k letterRules) letter)
 
 abbrev μ-loop : tie.MeasureT-loop
-μ-loop letter k₀ k = 4 - k
+μ-loop letter k₀ k = letterCount - k
 
 loop-holds : tie.Need-loop-holds Inv-loop μ-loop
 loop-holds c = (omega arith, sym (zero-add (ruleIndex letterRules (c .args .letter))))
@@ -47,7 +49,7 @@ returns-2 : tie.Need-returns-2 Inv-loop μ-loop
 returns-2 c =
     let l = c .before .loop in
     let letter = c .before .before .args .letter in
-    let e : l .k ≡ 4 = omega arith in
+    let e : l .k ≡ letterCount = omega arith in
     sym (l .inv .1 ∙ ap (λ (n : ℕ). n + ruleIndex (drop n letterRules) letter) e)
 
 pub rule-index-spec : {M : Type 1} → statement M

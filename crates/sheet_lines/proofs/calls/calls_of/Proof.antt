@@ -1,15 +1,20 @@
-use Rattle.laws.proofs.Rules.{tests}
+use borrow.Author.Tests.{ne-eqb}
 use Rattle.sheet_lines.proofs.calls.calls_of.Statement.{statement}
 use Rattle.sheet_lines.proofs.calls.calls_of.Tie as tie
 
 returns : tie.Need-returns
-returns c = search (tests, c .if1 .taken)
+returns c = simp (c .match .keys1)
 
 returns-2 : tie.Need-returns-2
-returns-2 c = search (tests, c .if2 .taken, c .before .before .if1 .left)
+returns-2 c = simp (c .match .keys2)
 
 returns-3 : tie.Need-returns-3
-returns-3 c = search (tests, c .if2 .left, c .before .before .if1 .left)
+returns-3 c = simp (c .match .keys3)
+
+returns-4 : tie.Need-returns-4
+returns-4 c =
+    let none = c .match .rest in
+    simp (ne-eqb _ _ (none .0 .0 .1), ne-eqb _ _ (none .0 .1), ne-eqb _ _ (none .1))
 
 pub calls-of-spec : {M : Type 1} → statement M
-calls-of-spec = tie.close (tie.spec returns returns-2 returns-3)
+calls-of-spec = tie.close (tie.spec returns returns-2 returns-3 returns-4)

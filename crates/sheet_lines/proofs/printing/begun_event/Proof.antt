@@ -1,5 +1,5 @@
 use mathlib.Core.Path.{_∙_}
-use Rattle.sheet_lines.proofs.Printings.{insert-line, delete-line}
+use Rattle.sheet_lines.proofs.Printings.{insert-line, walk-line}
 use borrow.Author.Needs.{needs}
 use Rattle.sheet_lines.proofs.printing.begun_event.Statement.{statement}
 use Rattle.sheet_lines.proofs.printing.begun_event.Tie as tie
@@ -22,7 +22,7 @@ returns-2 : tie.Need-returns-2
 returns-2 c =
     let x = c .before .before .before .before .args in
     c .event2 .ensures
-    ∙ delete-line (x .l) (x .time) _ (c .before .own-letter .ensures) (c .before .before .if1 .left)
+    ∙ walk-line (x .l) (x .time) _ (c .before .own-letter .ensures) (c .before .before .if1 .left)
 
 pub begun-event-spec : {M : Type 1} → statement M
 begun-event-spec =
