@@ -5,7 +5,7 @@
 
 mod common;
 
-use common::{area_with, refused, reply, seed, Call, Counts, Lent};
+use common::{area_with, refused, reply, seed, stated_step, Call, Counts, Lent};
 use darthog_host::{Call as Asked, Done, Queue, Refusal, Step};
 use darthog_reference::image::encode;
 use darthog_reference::lists::call_of;
@@ -86,18 +86,10 @@ fn steps_of_a_relaxed_walk_do_as_stated_on_any_record() {
     for case in cases() {
         let (what, p) = (&case.what, case.processor);
         let (image, after) = (encode(&case.queue), encode(&case.after));
-        let mut lent = Lent::new(&image, &mut random);
-        let got = lent.call(&Call::Step(p));
-        assert_eq!(got, reply(case.reply), "{what}");
-        assert!(lent.now() == after, "{what}: other bytes");
-        counts.note_reply("step", &got);
-
         let [code, first, second, third] = case.reply;
         let answer = [code, first, second, third, case.after.clock];
-        let mut lent = Lent::new(&image, &mut random);
-        let got = lent.list(&[3, p, 0, 0, 0], 5);
-        assert_eq!(got, (0, area_with(&answer, 5)), "{what}: as a list");
-        assert!(lent.now() == after, "{what}: other bytes by a list");
+        let got = stated_step(what, p, [&image, &after], answer, &mut random);
+        counts.note_reply("step", &got);
 
         let mut queue = Queue::from_bytes(&image).expect("check 21 takes it");
         let marked = matches!(queue.step(p), Ok(Step::Marked(_)));

@@ -5,7 +5,9 @@
 
 mod common;
 
-use common::{any_call, area_with, expected, refused, reply, seed, Call, Counts, Lent};
+use common::{
+    any_call, area_with, expected, refused, reply, seed, stated_step, Call, Counts, Lent,
+};
 use darthog_host::{Call as Asked, Done, Entry, Queue, Refusal, Step};
 use darthog_reference::any_record::any_record;
 use darthog_reference::image::{encode, node_at};
@@ -72,18 +74,10 @@ fn steps_take_and_wait_on_the_stated_records() {
             what, processor, ..
         } = &case;
         let (image, after) = (encode(&case.queue), encode(&case.after));
-        let mut lent = Lent::new(&image, &mut random);
-        let got = lent.call(&Call::Step(*processor));
-        assert_eq!(got, reply(case.reply), "{what}");
-        assert!(lent.now() == after, "{what}: other bytes");
-        counts.note_reply("step", &got);
-
         let [code, first, second, third] = case.reply;
         let answer = [code, first, second, third, case.after.clock];
-        let mut lent = Lent::new(&image, &mut random);
-        let got = lent.list(&[3, *processor, 0, 0, 0], 5);
-        assert_eq!(got, (0, area_with(&answer, 5)), "{what}: as a list");
-        assert!(lent.now() == after, "{what}: other bytes by a list");
+        let got = stated_step(what, *processor, [&image, &after], answer, &mut random);
+        counts.note_reply("step", &got);
 
         let mut queue = Queue::from_bytes(&image).expect("check 21 takes it");
         let got = queue.step(*processor).map(Done::Stepped);

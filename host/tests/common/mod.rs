@@ -280,6 +280,28 @@ pub fn expected_list(bytes: &[u8], calls: &[u32], room: usize) -> (u32, Vec<u32>
     }
 }
 
+/// A step that is stated, with its answer as in a list and the bytes before and
+/// after it: one call, and as a list. Gives the reply.
+pub fn stated_step(
+    what: &str,
+    p: u32,
+    [before, after]: [&[u8]; 2],
+    answer: [u32; 5],
+    random: &mut Random,
+) -> Reply {
+    let [code, first, second, third, _] = answer;
+    let mut lent = Lent::new(before, random);
+    let got = lent.call(&Call::Step(p));
+    assert_eq!(got, reply([code, first, second, third]), "{what}");
+    assert!(lent.now() == after, "{what}: other bytes");
+
+    let mut lent = Lent::new(before, random);
+    let listed = lent.list(&[3, p, 0, 0, 0], 5);
+    assert_eq!(listed, (0, area_with(&answer, 5)), "{what}: as a list");
+    assert!(lent.now() == after, "{what}: other bytes by a list");
+    got
+}
+
 /// Makes the calls of a list on bytes of their own and compares code, answers
 /// and bytes with the reference's. Gives the answers with what is around them.
 pub fn compare_list(bytes: &[u8], calls: &[u32], room: usize, random: &mut Random) -> Vec<u32> {
