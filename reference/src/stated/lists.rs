@@ -26,6 +26,26 @@ pub(super) fn steps(processor: u32, reply: [u32; 4], first: u32, last: u32) -> V
         .collect()
 }
 
+/// The begin of an Insert with this due minute, item and height.
+pub(super) fn insert(p: u32, [due, item, height]: [u32; 3], time: u32) -> Vec<Turn> {
+    vec![([1, p, due, item, height], [0, time, 0, 0, time])]
+}
+
+/// The begin of a Delete_Min.
+pub(super) fn delete(p: u32, time: u32) -> Vec<Turn> {
+    vec![([2, p, 0, 0, 0], [0, time, 0, 0, time])]
+}
+
+/// A step that waits for this processor.
+pub(super) fn waits(p: u32, holder: u32, time: u32) -> Vec<Turn> {
+    steps(p, [2, holder, 0, 0], time, time)
+}
+
+/// A step at which the entry is marked (4), inserted (5) or handed out (6).
+pub(super) fn told(p: u32, code: u32, [due, item, ticket]: [u32; 3], time: u32) -> Vec<Turn> {
+    steps(p, [code, due, item, ticket], time, time)
+}
+
 /// The printed run as one list, on a fresh queue for one processor, one entry
 /// and one level. A call that is refused leaves the clock, and the list goes
 /// on; numbers that a call has not are not looked at, and a kind that begins

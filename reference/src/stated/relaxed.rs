@@ -2,7 +2,7 @@
 //! in the numbers of a list with their answers, what Backlog gives along them, and
 //! one of them as a sheet with its history and with its images.
 
-use super::lists::{moves, steps, Turn};
+use super::lists::{delete, insert, moves, steps, told, waits, Turn};
 use super::waiting::Run;
 
 /// From a time to a time: what Backlog gives.
@@ -72,27 +72,9 @@ fn side_by_side(processors: u32, p: u32, q: u32, r: u32) -> [Counted; 3] {
     ]
 }
 
-/// The begin of an Insert on one level or more.
-fn insert(p: u32, [due, item, height]: [u32; 3], time: u32) -> Vec<Turn> {
-    vec![([1, p, due, item, height], [0, time, 0, 0, time])]
-}
-
-fn delete(p: u32, time: u32) -> Vec<Turn> {
-    vec![([2, p, 0, 0, 0], [0, time, 0, 0, time])]
-}
-
 /// The begin of a Relaxed Delete_Min, whose further numbers are not looked at.
 fn relaxed(p: u32, time: u32) -> Vec<Turn> {
     vec![([4, p, 9, 9, 9], [0, time, 0, 0, time])]
-}
-
-fn waits(p: u32, holder: u32, time: u32) -> Vec<Turn> {
-    steps(p, [2, holder, 0, 0], time, time)
-}
-
-/// The entry is marked (4), inserted (5) or handed out (6).
-fn told(p: u32, code: u32, [due, item, ticket]: [u32; 3], time: u32) -> Vec<Turn> {
-    steps(p, [code, due, item, ticket], time, time)
 }
 
 fn empty(p: u32, time: u32) -> Vec<Turn> {

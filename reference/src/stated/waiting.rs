@@ -1,7 +1,7 @@
 //! Runs in which steps wait (document 02, W1), worked out by hand: the calls in
 //! the numbers of a list, with the processor that each wait names.
 
-use super::lists::{moves, steps, Turn};
+use super::lists::{self, delete, moves, waits, Turn};
 use super::relaxed;
 
 /// A run on a fresh queue.
@@ -49,21 +49,13 @@ pub fn runs() -> Vec<Run> {
 
 /// The begin of an Insert, with item 10 more than its due minute.
 fn insert(p: u32, due: u32, height: u32, time: u32) -> Vec<Turn> {
-    vec![([1, p, due, due + 10, height], [0, time, 0, 0, time])]
-}
-
-fn delete(p: u32, time: u32) -> Vec<Turn> {
-    vec![([2, p, 0, 0, 0], [0, time, 0, 0, time])]
-}
-
-fn waits(p: u32, holder: u32, time: u32) -> Vec<Turn> {
-    steps(p, [2, holder, 0, 0], time, time)
+    lists::insert(p, [due, due + 10, height], time)
 }
 
 /// The entry of this due minute and ticket is marked (4), inserted (5) or handed
 /// out (6).
 fn told(p: u32, code: u32, due: u32, ticket: u32, time: u32) -> Vec<Turn> {
-    steps(p, [code, due, due + 10, ticket], time, time)
+    lists::told(p, code, [due, due + 10, ticket], time)
 }
 
 /// p has the head's lock from 4 (G2) to 14 (I3) and q waits for it; then q has
