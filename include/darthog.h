@@ -31,7 +31,7 @@ extern "C" {
 
 /* How many bytes the largest image has, that of 16 processors and 200 entries: room for any queue,
  * for hosts without a heap. The calls take the bytes of an image alone, and so its own length. */
-#define DARTHOG_MAX_IMAGE_LENGTH 8561
+#define DARTHOG_MAX_IMAGE_LENGTH 8705
 
 /* What a call gives back: a code, and the values that belong to it. A value that a code has not is
  * 0; a refusal has three zeros. */
@@ -52,7 +52,9 @@ enum {
     DARTHOG_EMPTY = 3,
     DARTHOG_MARKED = 4,     /* first is due, second item, third ticket */
     DARTHOG_INSERTED = 5,   /* the same */
-    DARTHOG_HANDED_OUT = 6  /* the same */
+    DARTHOG_HANDED_OUT = 6, /* the same */
+    DARTHOG_TAKEN_BACK = 7, /* the same */
+    DARTHOG_NOT_THERE = 8   /* first is due, second ticket: those that the Remove looked for */
 };
 
 /* Codes of refusals, in the order in which they are looked for. */
@@ -67,6 +69,7 @@ enum {
     DARTHOG_BUSY = 33,           /* begin: the processor is busy */
     DARTHOG_IDLE = 34,           /* step: the processor is idle */
     DARTHOG_TOO_LARGE = 35,      /* Insert: due or item above 999,999; due: above 59,999,969 s */
+    DARTHOG_BAD_KEY = 38,        /* Remove: due above 999,999 or ticket not 1 to 999,999 */
     DARTHOG_NO_ITEM = 39,        /* Insert: item 0, which is no item */
     DARTHOG_BAD_HEIGHT = 36,     /* Insert: height not 1 to the queue's levels */
     DARTHOG_NO_NODE = 37,        /* Insert: no node that may be used now; later there may be one */
@@ -78,12 +81,13 @@ enum {
     DARTHOG_NO_MARKER = 255
 };
 
-/* Kinds of calls in a list; every kind but the begins, 1, 2 and 4, is a step. */
+/* Kinds of calls in a list; every kind but the begins, 1, 2, 4 and 5, is a step. */
 enum {
     DARTHOG_CALL_INSERT = 1,
     DARTHOG_CALL_DELETE_MIN = 2,
     DARTHOG_CALL_STEP = 3,
-    DARTHOG_CALL_RELAXED = 4
+    DARTHOG_CALL_RELAXED = 4,
+    DARTHOG_CALL_REMOVE = 5
 };
 
 /* The length of an image for processors (1 to 16) and entries (1 to 200); 0 for other sizes, which
@@ -112,13 +116,25 @@ struct darthog_reply darthog_begin_delete_min(uint8_t *image, size_t length, uin
  * neither takes what the other has marked. */
 struct darthog_reply darthog_begin_relaxed(uint8_t *image, size_t length, uint32_t processor);
 
+/* Begins a Remove by a processor: the entry with this due minute (at most 999,999) and this ticket
+ * (1 to 999,999), which is the time that the begin of its Insert gave back, is to be taken back, as
+ * the withdrawal of a studio that renews. A ticket that no entry has is not refused, nor is one
+ * above the clock. If the entry's Insert had answered before this begin and nobody has taken it,
+ * the Remove takes it (DARTHOG_MARKED), no Delete_Min does any more, and after further steps, which
+ * may wait, it is out of the queue (DARTHOG_TAKEN_BACK). Else the Remove ends with
+ * DARTHOG_NOT_THERE: there is no such entry, another has taken it, or its Insert had not answered
+ * when the Remove began. */
+struct darthog_reply darthog_begin_remove(uint8_t *image, size_t length, uint32_t processor,
+                                          uint32_t due, uint32_t ticket);
+
 /* The next step of a processor's operation. One that waits tells the holder of the lock in first;
  * in bytes that only these calls have written it is another processor, and a busy one. */
 struct darthog_reply darthog_step(uint8_t *image, size_t length, uint32_t processor);
 
 /* Makes the calls of a list, one after the other: the bytes are tested once for all of them, where
  * single calls test them each time. calls has five numbers for each call: kind, processor, due,
- * item, height; those that a call has not may hold anything. answers gets five numbers for each:
+ * item, height; a Remove has its ticket in the place of the item, and those that a call has not may
+ * hold anything. answers gets five numbers for each:
  * code, first, second and third as in struct darthog_reply, and the clock after the call. A refused
  * call is answered with its number, and the list goes on behind it.
  *
@@ -134,18 +150,18 @@ uint32_t darthog_calls(uint8_t *image, size_t length, const uint32_t *calls, siz
                        uint32_t *answers, size_t answers_length);
 
 /* Backlog: how many entries are filed and not yet taken. An entry counts from the answer to its
- * Insert (DARTHOG_INSERTED) until a Delete_Min, ordinary or Relaxed, marks it (DARTHOG_MARKED); one
- * that is marked before that answer never counts. It keeps its node longer, from the begin of its
- * Insert until it is handed out, so that a small count does not say that an Insert finds a node: 37
- * says whether it does. */
+ * Insert (DARTHOG_INSERTED) until a Delete_Min, ordinary or Relaxed, or a Remove marks it
+ * (DARTHOG_MARKED); one that is marked before that answer never counts. It keeps its node longer,
+ * from the begin of its Insert until it is handed out or taken back, so that a small count does not
+ * say that an Insert finds a node: 37 says whether it does. */
 struct darthog_reply darthog_backlog(const uint8_t *image, size_t length);
 
-/* Markers: which worker holds which entry that is not handed out yet. Each node in use has two
- * bytes at the front of area, in the order of the nodes' numbers: its number, 1 to the queue's
- * entries, and the processor whose Delete_Min, ordinary or Relaxed, has marked its entry
- * (DARTHOG_MARKED), or DARTHOG_NO_MARKER. first is how many nodes these are; behind their bytes the
- * area stays as it was. A node is in use from the begin of its Insert until its entry is handed
- * out; till then its marker stays, whoever else comes by.
+/* Markers: which worker holds which entry that is not handed out or taken back yet. Each node in
+ * use has two bytes at the front of area, in the order of the nodes' numbers: its number, 1 to the
+ * queue's entries, and the processor whose Delete_Min, ordinary or Relaxed, or Remove has marked
+ * its entry (DARTHOG_MARKED), or DARTHOG_NO_MARKER. first is how many nodes these are; behind their
+ * bytes the area stays as it was. A node is in use from the begin of its Insert until its entry is
+ * handed out or taken back; till then its marker stays, whoever else comes by.
  *
  * Refused with 43 where area_length is less than twice the nodes in use; then nothing is written.
  * Twice the queue's entries are always enough, and 400 for any queue.

@@ -154,6 +154,11 @@ fn numbers_for(call: &Call) -> [u32; NUMBERS] {
         } => [1, processor, due, item, height].map(|number| number as u32),
         Call::DeleteMin { processor } => [2, processor as u32, 0, 0, 0],
         Call::Relaxed { processor } => [4, processor as u32, 0, 0, 0],
+        Call::Remove {
+            processor,
+            due,
+            ticket,
+        } => [5, processor as u32, due as u32, ticket as u32, 0],
         Call::Step { processor } => [3, processor as u32, 0, 0, 0],
         Call::Backlog | Call::Markers { .. } => unreachable!("a list has begins and steps"),
     }

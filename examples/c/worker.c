@@ -3,7 +3,8 @@
  * and while they take, each is a call of its own.
  *
  * One more worker warms a cache: while the others file, it takes one withdrawal by a Relaxed
- * Delete_Min, which need not wait until the filing of it is answered.
+ * Delete_Min, which need not wait until the filing of it is answered. Before the others take, a
+ * studio renews, and the same worker takes its withdrawal back by a Remove.
  *
  * Which entry a Delete_Min takes is decided when it marks it; unlinking it takes one worker more
  * steps than another. So each withdrawal gets its turn when it is marked, and is printed once it
@@ -13,6 +14,7 @@
 #include <inttypes.h>
 #include <stdio.h>
 #include <stdlib.h>
+#include <string.h>
 
 #include "darthog.h"
 
@@ -43,8 +45,12 @@ static uint8_t *queue;
 static size_t length;
 static struct taken taken[ENTRIES];
 
-/* How many the cache's worker takes, and how many are left to the others. */
-enum { WARMED = 1, LEFT = ENTRIES - WARMED };
+/* How many the cache's worker takes, how many are taken back, and how many are left to the rest. */
+enum { WARMED = 1, RENEWED = 1, LEFT = ENTRIES - WARMED - RENEWED };
+
+/* The item of the studio that renews, and what its filing answered: due, item and ticket. */
+enum { RENEWED_ITEM = 111 };
+static uint32_t renewed[3];
 
 /* Of each worker, one more than the worker that it waits for; 0 while it waits for none. */
 static uint32_t waits_for[PROCESSORS];
@@ -148,9 +154,23 @@ static void file_all(void) {
             note_wait(calls[at + 1], answers[at], answers[at + 1]);
             busy[calls[at + 1]] = !inserted;
             filed += inserted;
+            if (inserted && answers[at + 2] == RENEWED_ITEM)
+                memcpy(renewed, answers + at + 1, sizeof renewed);
         }
         if (!warmed) warmed = warm(&warming);
     }
+}
+
+/* A studio renews: the worker of the cache, which is idle now, takes its withdrawal back. An entry
+ * is named by its due minute and its ticket. */
+static void renew(void) {
+    struct darthog_reply r = darthog_begin_remove(queue, length, WARMER, renewed[0], renewed[2]);
+    value("begin_remove", r);
+    do {
+        r = darthog_step(queue, length, WARMER);
+    } while (r.code == DARTHOG_MOVED || r.code == DARTHOG_WAITS || r.code == DARTHOG_MARKED);
+    if (r.code != DARTHOG_TAKEN_BACK) stop("step of a Remove", r.code);
+    printf("item %" PRIu32 ", due in minute %" PRIu32 ", is taken back\n", r.second, r.first);
 }
 
 /* One call of a worker that takes entries. */
@@ -248,6 +268,8 @@ int main(void) {
     uint32_t code = darthog_make(queue, length, PROCESSORS, ENTRIES, LEVELS);
     if (code != DARTHOG_ACCEPTED) stop("make", code);
     file_all();
+    printf("backlog %" PRIu32 "\n", backlog());
+    renew();
     printf("backlog %" PRIu32 "\n", backlog());
     take_all();
     printf("backlog %" PRIu32 "\n", backlog());

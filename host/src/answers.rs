@@ -29,6 +29,8 @@ pub enum Refusal {
     /// Insert: due or item above 999,999. A due minute: seconds above
     /// 59,999,969.
     TooLarge = 35,
+    /// Remove: due above 999,999, or ticket not 1 to 999,999.
+    BadKey = 38,
     /// Insert: item 0, which is no item.
     NoItem = 39,
     /// Insert: height not 1 to the queue's levels.
@@ -43,7 +45,7 @@ pub enum Refusal {
 
 impl Refusal {
     /// Every refusal.
-    pub const ALL: [Refusal; 13] = [
+    pub const ALL: [Refusal; 14] = [
         Refusal::BadProcessors,
         Refusal::BadEntries,
         Refusal::BadLevels,
@@ -53,6 +55,7 @@ impl Refusal {
         Refusal::Busy,
         Refusal::Idle,
         Refusal::TooLarge,
+        Refusal::BadKey,
         Refusal::NoItem,
         Refusal::BadHeight,
         Refusal::NoNode,
@@ -84,6 +87,7 @@ impl fmt::Display for Refusal {
             Refusal::Busy => "the processor is busy",
             Refusal::Idle => "the processor is idle",
             Refusal::TooLarge => "due or item above 999,999, or seconds above 59,999,969",
+            Refusal::BadKey => "due above 999,999 or ticket not 1 to 999,999",
             Refusal::NoItem => "item 0",
             Refusal::BadHeight => "height not 1 to the queue's levels",
             Refusal::NoNode => "no node that may be used",
@@ -122,14 +126,25 @@ pub enum Step {
     /// The Delete_Min, ordinary or Relaxed, ended: every entry filed before it
     /// began is taken.
     Empty,
-    /// The Delete_Min, ordinary or Relaxed, took this entry, and goes on to
-    /// unlink it.
+    /// The Delete_Min, ordinary or Relaxed, or the Remove took this entry, and
+    /// goes on to unlink it.
     Marked(Entry),
     /// The Insert ended. A Relaxed Delete_Min may have handed its entry out
     /// before.
     Inserted(Entry),
     /// The Delete_Min, ordinary or Relaxed, ended with this entry.
     HandedOut(Entry),
+    /// The Remove ended: this entry is out of the queue, and nobody is handed it.
+    TakenBack(Entry),
+    /// The Remove ended without an entry: there is none with this due minute and
+    /// ticket, another has taken it, or its Insert had not answered when the
+    /// Remove began.
+    NotThere {
+        /// The due minute that it looked for.
+        due: u32,
+        /// The ticket that it looked for.
+        ticket: u32,
+    },
 }
 
 /// A node in use, with who has marked it.
@@ -137,8 +152,9 @@ pub enum Step {
 pub struct Marker {
     /// The node's number, from 1.
     pub node: u8,
-    /// The processor whose Delete_Min, ordinary or Relaxed, has marked the node's
-    /// entry and not yet handed it out; none while the entry is not marked.
+    /// The processor whose Delete_Min, ordinary or Relaxed, or Remove has marked
+    /// the node's entry and not yet handed it out or taken it back; none while the
+    /// entry is not marked.
     pub marker: Option<u8>,
 }
 
@@ -182,6 +198,11 @@ pub(crate) fn step(reply: Reply) -> Result<Step, Refusal> {
         raw::MARKED => Ok(Step::Marked(entry)),
         raw::INSERTED => Ok(Step::Inserted(entry)),
         raw::HANDED_OUT => Ok(Step::HandedOut(entry)),
+        raw::TAKEN_BACK => Ok(Step::TakenBack(entry)),
+        raw::NOT_THERE => Ok(Step::NotThere {
+            due: reply.first,
+            ticket: reply.second,
+        }),
         code => Err(refusal(code)),
     }
 }

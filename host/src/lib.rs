@@ -5,8 +5,9 @@
 //! them to the calls of the proved library `libhost_calls.a`. A refused call leaves
 //! the queue as it was. [`Queue::calls`] makes the calls of a list in one go,
 //! [`Queue::markers`] tells which worker holds which entry,
-//! [`Queue::begin_relaxed`] is for workers that may take an entry early, and
-//! [`raw`] has the library's own functions.
+//! [`Queue::begin_relaxed`] is for workers that may take an entry early,
+//! [`Queue::begin_remove`] takes a withdrawal back, and [`raw`] has the library's
+//! own functions.
 //!
 //! ```
 //! use darthog_host::{due_minute, image_length, Entry, Queue, Refusal, Step};
@@ -28,7 +29,7 @@
 //!     match queue.step(0)? {
 //!         Step::HandedOut(entry) => break Some(entry),
 //!         Step::Empty => break None,
-//!         Step::Moved | Step::Waits { .. } | Step::Marked(_) | Step::Inserted(_) => {}
+//!         _ => {}
 //!     }
 //! };
 //! assert_eq!((taken, queue.backlog()), (Some(filed), Ok(0)));

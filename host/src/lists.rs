@@ -44,6 +44,18 @@ impl Call {
         Call::of(raw::CALL_RELAXED, processor)
     }
 
+    /// The begin of a Remove, as [`crate::Queue::begin_remove`].
+    pub const fn remove(processor: u32, due: u32, ticket: u32) -> Call {
+        Call {
+            kind: raw::CALL_REMOVE,
+            processor,
+            due,
+            // a list has the ticket where an Insert has its item
+            item: ticket,
+            height: 0,
+        }
+    }
+
     /// The next step of a processor's operation, as [`crate::Queue::step`].
     pub const fn step(processor: u32) -> Call {
         Call::of(raw::CALL_STEP, processor)
@@ -63,7 +75,8 @@ impl Call {
 /// What an accepted call of a list did.
 #[derive(Clone, Copy, PartialEq, Eq, Hash, Debug)]
 pub enum Done {
-    /// An Insert or a Delete_Min, ordinary or Relaxed, began at this time.
+    /// An Insert, a Delete_Min, ordinary or Relaxed, or a Remove began at this
+    /// time.
     Began(u32),
     /// A step reported this.
     Stepped(Step),

@@ -125,6 +125,51 @@ impl Queue {
         })
     }
 
+    /// Begins a Remove by a processor: the entry with this due minute and ticket is
+    /// to be taken back. The ticket is what [`Queue::begin_insert`] gave. Gives the
+    /// time of the call.
+    ///
+    /// Where the entry's Insert had answered before this begin and nobody has
+    /// taken it, the Remove takes it ([`Step::Marked`]), and after further steps,
+    /// which may wait, it is out of the queue ([`Step::TakenBack`]). Else the
+    /// Remove ends with [`Step::NotThere`]. A ticket that no entry has is no
+    /// refusal, nor one above the clock.
+    ///
+    /// ```
+    /// use darthog_host::{Entry, Queue, Refusal, Step};
+    ///
+    /// # fn main() -> Result<(), Refusal> {
+    /// // withdrawal 42 is filed; then its studio renews
+    /// let mut queue = Queue::new(2, 1, 1)?;
+    /// let ticket = queue.begin_insert(0, 7, 42, 1)?;
+    /// while !matches!(queue.step(0)?, Step::Inserted(_)) {}
+    /// let renewed = Entry { due: 7, item: 42, ticket };
+    /// queue.begin_remove(1, 7, ticket)?;
+    /// while queue.step(1)? != Step::Marked(renewed) {}
+    /// assert_eq!(queue.backlog(), Ok(0));
+    /// while queue.step(1)? != Step::TakenBack(renewed) {}
+    ///
+    /// // nobody is handed it, and it is not there any more
+    /// queue.begin_delete_min(0)?;
+    /// while queue.step(0)? != Step::Empty {}
+    /// queue.begin_remove(1, 7, ticket)?;
+    /// while queue.step(1)? != (Step::NotThere { due: 7, ticket }) {}
+    /// # Ok(())
+    /// # }
+    /// ```
+    pub fn begin_remove(&mut self, processor: u32, due: u32, ticket: u32) -> Result<u32, Refusal> {
+        // Safe: the bytes are lent for the call, with their length.
+        value(unsafe {
+            raw::darthog_begin_remove(
+                self.image.as_mut_ptr(),
+                self.image.len(),
+                processor,
+                due,
+                ticket,
+            )
+        })
+    }
+
     /// The next step of a processor's operation. One that waits tells for whom
     /// ([`Step::Waits`]).
     ///
@@ -197,24 +242,24 @@ impl Queue {
 
     /// How many entries are filed and not yet taken: an entry counts from the
     /// answer to its Insert ([`Step::Inserted`]) until a Delete_Min, ordinary or
-    /// Relaxed, marks it ([`Step::Marked`]). One that is marked before that answer
-    /// never counts.
+    /// Relaxed, or a Remove marks it ([`Step::Marked`]). One that is marked before
+    /// that answer never counts.
     ///
-    /// It keeps its node longer, from the begin of its Insert until it is
-    /// handed out: a small count does not say that an Insert finds a node.
+    /// It keeps its node longer, from the begin of its Insert until it is handed
+    /// out or taken back: a small count does not say that an Insert finds a node.
     pub fn backlog(&self) -> Result<u32, Refusal> {
         // Safe: the bytes are lent for the call, with their length.
         value(unsafe { raw::darthog_backlog(self.image.as_ptr(), self.image.len()) })
     }
 
-    /// Which worker holds which entry that is not handed out yet: the nodes in
-    /// use, in the order of their numbers, each with the processor that has
-    /// marked its entry.
+    /// Which worker holds which entry that is not handed out or taken back yet: the
+    /// nodes in use, in the order of their numbers, each with the processor that
+    /// has marked its entry.
     ///
-    /// A node is in use from the begin of its Insert until its entry is handed
-    /// out. Its marker is the processor whose Delete_Min, ordinary or Relaxed, took
-    /// the entry ([`Step::Marked`]), and stays that until the hand-out
-    /// ([`Step::HandedOut`]).
+    /// A node is in use from the begin of its Insert until its entry is handed out
+    /// or taken back. Its marker is the processor whose Delete_Min, ordinary or
+    /// Relaxed, or Remove took the entry ([`Step::Marked`]), and stays that until
+    /// the end ([`Step::HandedOut`], [`Step::TakenBack`]).
     ///
     /// ```
     /// use darthog_host::{Marker, Queue, Refusal, Step};

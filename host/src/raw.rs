@@ -4,19 +4,19 @@
 
 /// How many bytes the largest image has, that of a queue for 16 processors and
 /// 200 entries.
-pub const MAX_IMAGE_LENGTH: usize = 8561;
+pub const MAX_IMAGE_LENGTH: usize = 8705;
 
 /// What a call gives back: a code, and the values that belong to it. A value
 /// that a code has not is 0; a refusal has three zeros.
 #[repr(C)]
 #[derive(Clone, Copy, PartialEq, Eq, Hash, Debug)]
 pub struct Reply {
-    /// 0 to 6 for an accepted call, else the refusal's number.
+    /// 0 to 8 for an accepted call, else the refusal's number.
     pub code: u32,
     /// A begin's time, a backlog, how many nodes have markers told, a due
     /// minute, an entry's due minute, or the processor that a step waits for.
     pub first: u32,
-    /// An entry's item.
+    /// An entry's item, or the ticket that a Remove did not find.
     pub second: u32,
     /// An entry's ticket.
     pub third: u32,
@@ -30,12 +30,17 @@ pub const MOVED: u32 = 1;
 pub const WAITS: u32 = 2;
 /// The Delete_Min, ordinary or Relaxed, ended without an entry.
 pub const EMPTY: u32 = 3;
-/// The Delete_Min, ordinary or Relaxed, took an entry.
+/// The Delete_Min, ordinary or Relaxed, or the Remove took an entry.
 pub const MARKED: u32 = 4;
 /// The Insert ended.
 pub const INSERTED: u32 = 5;
 /// The Delete_Min, ordinary or Relaxed, ended with an entry.
 pub const HANDED_OUT: u32 = 6;
+/// The Remove ended: its entry is taken back.
+pub const TAKEN_BACK: u32 = 7;
+/// The Remove ended without an entry; the reply tells the due minute and the
+/// ticket that it looked for.
+pub const NOT_THERE: u32 = 8;
 
 /// The kind of a call in a list that begins an Insert.
 pub const CALL_INSERT: u32 = 1;
@@ -45,6 +50,9 @@ pub const CALL_DELETE_MIN: u32 = 2;
 pub const CALL_STEP: u32 = 3;
 /// The kind of a call in a list that begins a Relaxed Delete_Min.
 pub const CALL_RELAXED: u32 = 4;
+/// The kind of a call in a list that begins a Remove, with its ticket in the place
+/// of an item.
+pub const CALL_REMOVE: u32 = 5;
 
 /// What stands for the processor in the markers where nobody has marked the
 /// node.
@@ -86,6 +94,16 @@ extern "C" {
 
     /// Begins a Relaxed Delete_Min by a processor.
     pub fn darthog_begin_relaxed(image: *mut u8, length: usize, processor: u32) -> Reply;
+
+    /// Begins a Remove by a processor, of the entry with this due minute and
+    /// ticket.
+    pub fn darthog_begin_remove(
+        image: *mut u8,
+        length: usize,
+        processor: u32,
+        due: u32,
+        ticket: u32,
+    ) -> Reply;
 
     /// The next step of a processor's operation. One that waits tells who holds
     /// the lock.

@@ -8,14 +8,39 @@ mod common;
 use common::{any_call, compare, junk, refused, seed, Call, Counts, Lent};
 use darthog_reference::any_record::any_record;
 use darthog_reference::image::{decode, encode, image_length, node_at, processor_at};
-use darthog_reference::queue::Queue;
+use darthog_reference::queue::{Node, Queue, Use};
 use darthog_reference::random::Random;
 use darthog_reference::schedule::{Schedule, Sizes};
 use darthog_reference::trial::fresh_of;
 
 /// A record in the middle of some operations: of the processors the last two
-/// are idle if there are so many, up to three of the others busy.
+/// are idle if there are so many, up to three of the others busy. A node is in use.
 fn reached(processors: u64, nodes: u64, levels: u64, random: &mut Random) -> Queue {
+    let mut record = drained(processors, nodes, levels, random);
+    let busy = processors.saturating_sub(2).clamp(1, 3);
+    for p in 0..busy {
+        // An Insert may find no node.
+        if p == 1 && record.begin_insert(1, 3, 4, levels).is_ok() {
+            continue;
+        }
+        let begun = match random.below(4) {
+            0 => record.begin_delete_min(p),
+            1 => record.begin_relaxed(p),
+            _ => remove_some(&mut record, p),
+        };
+        assert_eq!(begun, Ok(record.clock), "it is idle");
+    }
+    for _ in 0..nodes.min(12) {
+        for p in 0..busy {
+            // It may have ended.
+            let _ = record.step(p);
+        }
+    }
+    record
+}
+
+/// A record after some operations, with a node in use and all processors idle.
+fn drained(processors: u64, nodes: u64, levels: u64, random: &mut Random) -> Queue {
     let sizes = Sizes {
         processors,
         nodes,
@@ -34,25 +59,23 @@ fn reached(processors: u64, nodes: u64, levels: u64, random: &mut Random) -> Que
             let _ = record.step(p);
         }
     }
-    let busy = processors.saturating_sub(2).clamp(1, 3);
-    for p in 0..busy {
-        // An Insert may find no node.
-        if p == 1 && record.begin_insert(1, 3, 4, levels).is_ok() {
-            continue;
-        }
-        if random.one_in(2) {
-            record.begin_delete_min(p).expect("it is idle");
-        } else {
-            record.begin_relaxed(p).expect("it is idle");
-        }
-    }
-    for _ in 0..nodes.min(12) {
-        for p in 0..busy {
-            // It may have ended.
-            let _ = record.step(p);
-        }
+    if record.in_use() == 0 {
+        record.begin_insert(0, 5, 6, 1).expect("a node is free");
+        while record.step(0).is_ok() {}
     }
     record
+}
+
+/// Begins a Remove of the first entry that is answered and not marked, or of one
+/// that is not there.
+fn remove_some(record: &mut Queue, p: u64) -> Result<u32, u32> {
+    let free = |node: &&Node| {
+        let answered = node.state == Use::InUse && node.stamp.is_some();
+        answered && !node.is_marked()
+    };
+    let found = record.nodes.iter().find(free);
+    let (due, ticket) = found.map_or((7, 1), |node| (node.due, node.ticket));
+    record.begin_remove(p, due.into(), ticket.max(1).into())
 }
 
 /// The sizes of the records that are damaged.
@@ -67,11 +90,12 @@ const SIZES: [(u64, u64, u64); 6] = [
 
 /// The calls that are made on damaged bytes.
 fn calls(number: usize) -> Call {
-    let processor = (number / 6 % 6) as u32;
-    match number % 6 {
+    let processor = (number / 7 % 6) as u32;
+    match number % 7 {
         0 => Call::Backlog,
-        4 => Call::Markers([400, 3, 401, 0][number / 6 % 4]),
+        4 => Call::Markers([400, 3, 401, 0][number / 7 % 4]),
         5 => Call::Relaxed(processor),
+        6 => Call::Remove(processor, 7, 1),
         1 => Call::Step(processor),
         2 => Call::DeleteMin(processor),
         _ => Call::Insert(processor, 7, 42, 1),
@@ -106,6 +130,7 @@ fn flipped_bits_are_seen_as_the_reference_sees_them() {
         ("step", &[1, 21]),
         ("delete_min", &[21, 33]),
         ("relaxed", &[21, 33]),
+        ("remove", &[21, 33]),
         ("insert", &[21, 33]),
     ]);
 }
@@ -136,6 +161,7 @@ fn every_value_of_every_byte_is_seen_as_the_reference_sees_it() {
         ("step", &[1, 21, 32]),
         ("delete_min", &[21, 33]),
         ("relaxed", &[21, 33]),
+        ("remove", &[21, 33]),
         ("insert", &[21, 33]),
     ]);
 }
@@ -149,9 +175,10 @@ fn every_byte_value_at_a_tag_is_seen_as_the_reference_sees_it() {
         let (p, n) = (p as usize, n as usize);
         // sizes, and each byte of the clock
         let mut places: Vec<usize> = (0..7).collect();
-        // own node, stage, place and the node of G3
+        // own node, stage, place and the node of G3; job, due and ticket
         for processor in [0, 1, p - 2, p - 1] {
             places.extend((4..9).map(|field| processor_at(processor) + field));
+            places.extend((17..26).map(|field| processor_at(processor) + field));
         }
         // mark, stamp and use of the head, of some nodes and of the tail
         for node in [0, 1, 2, n / 2, n, n + 1] {
@@ -167,6 +194,7 @@ fn every_byte_value_at_a_tag_is_seen_as_the_reference_sees_it() {
         ("step", &[1, 21, 32, 34]),
         ("delete_min", &[0, 21, 33]),
         ("relaxed", &[0, 21, 33]),
+        ("remove", &[0, 21, 33]),
         ("insert", &[0, 21, 33]),
     ]);
 }
@@ -196,6 +224,7 @@ fn damage_at_random_places_of_any_record() {
         ("step", &[1, 21]),
         ("delete_min", &[0, 21]),
         ("relaxed", &[0, 21]),
+        ("remove", &[0, 21]),
         ("insert", &[0, 21]),
     ]);
 }
@@ -226,6 +255,7 @@ fn random_bytes_are_no_image() {
         ("step", &[21]),
         ("delete_min", &[21]),
         ("relaxed", &[21]),
+        ("remove", &[21]),
         ("insert", &[21]),
     ]);
 }

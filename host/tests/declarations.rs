@@ -164,7 +164,7 @@ fn the_functions_are_those_of_the_source() {
         source.append(&mut of_source(&text, start));
     }
     let host = of_source(&read("host/src/raw.rs"), "pub fn ");
-    assert_eq!(source.len(), 10);
+    assert_eq!(source.len(), 11);
     assert_eq!(header, source);
     assert_eq!(host, source);
 }
@@ -221,10 +221,13 @@ fn the_codes_are_those_of_the_header() {
         ("MARKED", raw::MARKED),
         ("INSERTED", raw::INSERTED),
         ("HANDED_OUT", raw::HANDED_OUT),
+        ("TAKEN_BACK", raw::TAKEN_BACK),
+        ("NOT_THERE", raw::NOT_THERE),
         ("CALL_INSERT", raw::CALL_INSERT),
         ("CALL_DELETE_MIN", raw::CALL_DELETE_MIN),
         ("CALL_STEP", raw::CALL_STEP),
         ("CALL_RELAXED", raw::CALL_RELAXED),
+        ("CALL_REMOVE", raw::CALL_REMOVE),
         ("NO_MARKER", u32::from(raw::NO_MARKER)),
     ] {
         host.insert(format!("DARTHOG_{name}"), number);

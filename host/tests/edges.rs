@@ -56,6 +56,7 @@ fn judge_length(bytes: &[u8], random: &mut Random, counts: &mut Counts) {
         Call::Insert(0, 7, 42, 1),
         Call::DeleteMin(0),
         Call::Relaxed(0),
+        Call::Remove(0, 7, 1),
         Call::Step(0),
         Call::Backlog,
         Call::Markers(400),
@@ -87,10 +88,10 @@ fn another_length_is_refused_and_no_byte_changes() {
         let right = image.len();
         // behind the image stands more of the same: nodes as made
         let mut long = image.clone();
-        while long.len() < 17_200 {
+        while long.len() < 17_500 {
             long.extend_from_within(right - 41..right);
         }
-        let far = [8_520, 8_560, 8_561, 8_562, 8_602, 17_122];
+        let far = [8_561, 8_664, 8_704, 8_705, 8_706, 8_746, 17_410];
         let near = right - 42..=right + 42;
         for length in (0..=200).chain(near).chain(far) {
             if length != right {
@@ -108,6 +109,7 @@ fn another_length_is_refused_and_no_byte_changes() {
         ("insert", &[21]),
         ("delete_min", &[21]),
         ("relaxed", &[21]),
+        ("remove", &[21]),
         ("step", &[21]),
         ("backlog", &[0, 21]),
         ("markers", &[0, 21]),
@@ -191,7 +193,9 @@ fn records() -> Vec<Queue> {
             walking.begin_delete_min(p - 1).expect("it is idle");
             let mut relaxed = idle.clone();
             relaxed.begin_relaxed(p - 1).expect("it is idle");
-            for mut record in [idle, inserting, walking, relaxed] {
+            let mut removing = idle.clone();
+            removing.begin_remove(p - 1, 5, 9).expect("it is idle");
+            for mut record in [idle, inserting, walking, relaxed, removing] {
                 record.clock = record.clock.max(clock);
                 records.push(record);
             }
@@ -220,8 +224,10 @@ fn numbers_at_and_past_every_edge() {
                 }
             };
             let insert = Call::Insert(processor, value(7), value(42), value(1));
+            let remove = Call::Remove(processor, value(7), value(1));
             for call in [
                 insert,
+                remove,
                 Call::DeleteMin(processor),
                 Call::Relaxed(processor),
                 Call::Step(processor),
@@ -231,24 +237,7 @@ fn numbers_at_and_past_every_edge() {
                 compare(&bytes, &call, &mut random, &mut counts);
             }
         }
-        for call in [
-            Call::Insert(0, MAX_NUMBER, MAX_NUMBER, u32::from(record.level_count)),
-            Call::Insert(0, MAX_NUMBER + 1, MAX_NUMBER, u32::from(record.level_count)),
-            Call::Insert(0, MAX_NUMBER, MAX_NUMBER + 1, u32::from(record.level_count)),
-            Call::Insert(0, MAX_NUMBER, MAX_NUMBER, u32::from(record.level_count) + 1),
-            Call::Insert(0, MAX_NUMBER, MAX_NUMBER, 0),
-            Call::Insert(0, MAX_NUMBER, 0, u32::from(record.level_count)),
-            Call::Insert(0, MAX_NUMBER, 0, 0),
-            Call::Insert(u32::MAX, u32::MAX, u32::MAX, u32::MAX),
-            Call::Insert(u32::from(record.processor_count) - 1, 7, 42, 1),
-            Call::DeleteMin(u32::from(record.processor_count) - 1),
-            Call::DeleteMin(u32::from(record.processor_count)),
-            Call::Relaxed(u32::from(record.processor_count) - 1),
-            Call::Relaxed(u32::from(record.processor_count)),
-            Call::Step(u32::from(record.processor_count) - 1),
-            Call::Step(u32::from(record.processor_count)),
-            Call::Step(u32::MAX),
-        ] {
+        for call in named_edges(&record) {
             compare(&bytes, &call, &mut random, &mut counts);
         }
     }
@@ -259,7 +248,44 @@ fn numbers_at_and_past_every_edge() {
         ALL_CODES[4],
         ALL_CODES[5],
         ALL_CODES[6],
+        ALL_CODES[7],
     ]);
+}
+
+/// Calls whose numbers stand at the edges of what this record takes.
+fn named_edges(record: &Queue) -> Vec<Call> {
+    let (p, levels) = (
+        u32::from(record.processor_count),
+        u32::from(record.level_count),
+    );
+    let most = MAX_NUMBER;
+    vec![
+        Call::Insert(0, most, most, levels),
+        Call::Insert(0, most + 1, most, levels),
+        Call::Insert(0, most, most + 1, levels),
+        Call::Insert(0, most, most, levels + 1),
+        Call::Insert(0, most, most, 0),
+        Call::Insert(0, most, 0, levels),
+        Call::Insert(0, most, 0, 0),
+        Call::Insert(u32::MAX, u32::MAX, u32::MAX, u32::MAX),
+        Call::Insert(p - 1, 7, 42, 1),
+        Call::DeleteMin(p - 1),
+        Call::DeleteMin(p),
+        Call::Relaxed(p - 1),
+        Call::Relaxed(p),
+        Call::Remove(0, most, most),
+        Call::Remove(0, most, 1),
+        Call::Remove(0, 0, 1),
+        Call::Remove(0, 0, 0),
+        Call::Remove(0, most + 1, 1),
+        Call::Remove(0, 0, most + 1),
+        Call::Remove(p - 1, 7, 1),
+        Call::Remove(p, 7, 1),
+        Call::Remove(p, most + 1, 0),
+        Call::Step(p - 1),
+        Call::Step(p),
+        Call::Step(u32::MAX),
+    ]
 }
 
 fn due(seconds: u64) -> Reply {

@@ -8,13 +8,14 @@ mod common;
 use common::{compare, junk, refused, seed, Call, Counts, Lent};
 use darthog_host::raw::Reply;
 use darthog_host::{Queue, Refusal};
-use darthog_reference::image::encode;
+use darthog_reference::image::{encode, node_at, processor_at, PROCESSOR_BYTES};
 use darthog_reference::perturb::bases;
-use darthog_reference::queue::Queue as Record;
+use darthog_reference::queue::{Processor, Queue as Record};
 use darthog_reference::random::Random;
 use darthog_reference::schedule::Sizes;
 use darthog_reference::stated::backlogs::printed;
 use darthog_reference::stated::images;
+use darthog_reference::stated::removes;
 use darthog_reference::trial::fresh_of;
 
 /// A fresh queue's bytes, by the library.
@@ -26,7 +27,7 @@ fn made(sizes: [u8; 3]) -> Vec<u8> {
 
 #[test]
 fn the_printed_run_has_the_stated_images() {
-    let mut lent = Lent::new(&[0xa5; 147], &mut Random::new(seed()));
+    let mut lent = Lent::new(&[0xa5; 156], &mut Random::new(seed()));
     assert_eq!(lent.call(&Call::Make(1, 1, 1)), refused(0));
     let mut calls = printed()
         .iter()
@@ -68,6 +69,17 @@ fn a_begin_changes_the_stated_bytes() {
             assert!(lent.now() == expected, "{sizes:?} {call:?}");
         }
     }
+    let [due, ticket] = removes::BEGUN_KEY;
+    for (sizes, changed) in removes::BEGUN {
+        let mut expected = made(sizes);
+        let mut lent = Lent::new(&expected, &mut random);
+        let call = Call::Remove(u32::from(sizes[0]) - 1, due, ticket);
+        assert_eq!(lent.call(&call), began, "{sizes:?} {call:?}");
+        for (at, byte) in changed {
+            expected[at] = byte;
+        }
+        assert!(lent.now() == expected, "{sizes:?} {call:?}");
+    }
 }
 
 /// Every call on bytes, and a list: 21 and no change where they are not taken.
@@ -79,6 +91,7 @@ fn judge(bytes: &[u8], taken: bool, what: &str, random: &mut Random, counts: &mu
         Call::Step(0),
         Call::DeleteMin(0),
         Call::Relaxed(0),
+        Call::Remove(0, 7, 1),
         Call::Insert(0, 7, 42, 1),
         Call::Step(u32::MAX),
     ] {
@@ -126,27 +139,86 @@ fn bytes_are_taken_and_refused_as_stated() {
     ]);
 }
 
-/// The bytes of an earlier release: all 202 nodes behind the sizes and the
-/// clock, then all 16 processors.
-fn earlier(record: &Record) -> Vec<u8> {
-    let mut whole = record.clone();
-    (whole.processor_count, whole.node_count) = (16, 200);
-    let all = encode(&whole);
-    let front = &encode(record)[..7];
-    [front, &all[279..], &all[7..279]].concat()
-}
-
-/// What docs/IMAGE.md copies of such bytes.
-fn brought_over(old: &[u8]) -> Vec<u8> {
-    let (processors, nodes) = (17 * usize::from(old[0]), 41 * (usize::from(old[1]) + 2));
-    let parts = [&old[..7], &old[8289..8289 + processors], &old[7..7 + nodes]];
-    parts.concat()
-}
-
 #[test]
-fn bytes_of_an_earlier_release_are_refused_and_brought_over() {
+fn bytes_of_a_remove_are_taken_and_refused_as_stated() {
     let mut random = Random::new(seed());
     let mut counts = Counts::default();
+    for stored in removes::LOOKING.iter().chain(&removes::REMOVING) {
+        let &(sizes, at, .., taken) = stored;
+        let processor = removes::stored_bytes(stored);
+        let mut bytes = made(sizes);
+        bytes[at..at + processor.len()].copy_from_slice(&processor);
+        let what = format!("{stored:?}");
+        judge(&bytes, taken, &what, &mut random, &mut counts);
+    }
+    counts.must_have(&[("backlog", &[0, 21]), ("step", &[1, 7, 8, 21])]);
+}
+
+/// The record with each processor idle that is in a Remove, which no earlier
+/// release knows.
+fn without_removes(record: &Record) -> Record {
+    let mut without = record.clone();
+    for (p, processor) in without.processors.iter_mut().enumerate() {
+        let start = processor_at(p);
+        let image = encode(record);
+        let stored = image.get(start..start + PROCESSOR_BYTES);
+        let in_remove = |bytes: &[u8]| bytes[BEFORE_REMOVES..].iter().any(|&byte| byte != 0);
+        let known = p < usize::from(record.processor_count);
+        if known && stored.is_some_and(in_remove) {
+            *processor = Processor::made();
+        }
+    }
+    without
+}
+
+/// How many bytes a processor had before there were Removes.
+const BEFORE_REMOVES: usize = 17;
+
+/// The pieces of an image: the front, each processor, and the nodes.
+fn pieces(image: &[u8]) -> (&[u8], Vec<&[u8]>, &[u8]) {
+    let nodes = node_at(usize::from(image[0]), 0);
+    let processors = image[7..nodes].chunks_exact(PROCESSOR_BYTES);
+    (&image[..7], processors.collect(), &image[nodes..])
+}
+
+/// The bytes of the release before there were Removes.
+fn earlier(record: &Record) -> Vec<u8> {
+    let image = encode(record);
+    let (front, processors, nodes) = pieces(&image);
+    let short: Vec<&[u8]> = processors
+        .iter()
+        .map(|all| &all[..BEFORE_REMOVES])
+        .collect();
+    [front, &short.concat(), nodes].concat()
+}
+
+/// The bytes of the first release: all 202 nodes behind the sizes and the clock,
+/// then all 16 processors.
+fn earliest(record: &Record) -> Vec<u8> {
+    let mut whole = record.clone();
+    (whole.processor_count, whole.node_count) = (16, 200);
+    let image = encode(&whole);
+    let (_, processors, nodes) = pieces(&image);
+    let short: Vec<&[u8]> = processors
+        .iter()
+        .map(|all| &all[..BEFORE_REMOVES])
+        .collect();
+    [&encode(record)[..7], nodes, &short.concat()].concat()
+}
+
+/// What is copied of such bytes: nine bytes of 0 come behind each processor.
+fn brought_over(front: &[u8], processors: &[u8], nodes: &[u8]) -> Vec<u8> {
+    let mut image = front.to_vec();
+    for processor in processors.chunks_exact(BEFORE_REMOVES) {
+        image.extend(processor);
+        image.extend([0; PROCESSOR_BYTES - BEFORE_REMOVES]);
+    }
+    image.extend(nodes);
+    image
+}
+
+/// Records of runs, and fresh ones of the largest sizes.
+fn records_of_runs() -> Vec<Record> {
     let largest = (1..=8).map(|levels| {
         fresh_of(Sizes {
             processors: 16,
@@ -154,18 +226,29 @@ fn bytes_of_an_earlier_release_are_refused_and_brought_over() {
             levels,
         })
     });
-    for record in bases().into_iter().map(|(_, base)| base).chain(largest) {
+    let of_runs = bases().into_iter().map(|(_, base)| without_removes(&base));
+    of_runs.chain(largest).collect()
+}
+
+#[test]
+fn bytes_of_an_earlier_release_are_refused_and_brought_over() {
+    let mut random = Random::new(seed());
+    let mut counts = Counts::default();
+    for record in records_of_runs() {
+        let (p, n) = (record.processor_count, record.node_count);
+        let (of_processors, of_nodes) = (17 * usize::from(p), 41 * (usize::from(n) + 2));
         let old = earlier(&record);
-        assert_eq!(old.len(), 8561);
-        judge(
-            &old,
-            false,
-            "of an earlier release",
-            &mut random,
-            &mut counts,
-        );
-        let image = brought_over(&old);
-        assert!(image == encode(&record), "brought over");
+        assert_eq!(old.len(), 7 + of_processors + of_nodes);
+        let behind = 7 + of_processors;
+        let image = brought_over(&old[..7], &old[7..behind], &old[behind..]);
+        let oldest = earliest(&record);
+        assert_eq!(oldest.len(), 8_561);
+        let (nodes, processors) = (&oldest[7..7 + of_nodes], &oldest[8_289..]);
+        let second = brought_over(&oldest[..7], &processors[..of_processors], nodes);
+        for old in [old, oldest] {
+            judge(&old, false, "an earlier release", &mut random, &mut counts);
+        }
+        assert!(image == encode(&record) && second == image, "brought over");
         judge(&image, true, "brought over", &mut random, &mut counts);
     }
     counts.must_have(&[("backlog", &[0, 21]), ("markers", &[0, 21, 43])]);

@@ -53,19 +53,21 @@ fn as_many_calls_are_made_as_both_lists_have_numbers_for() {
     }
 }
 
-/// A call's numbers as a list may have them: any kind but 1, 2 and 4 is a step,
+/// A call's numbers as a list may have them: any kind but 1, 2, 4 and 5 is a step,
 /// and numbers that the call has not hold anything.
 fn strange_numbers(call: &Call, random: &mut Random) -> Option<[u32; 5]> {
     let [mut kind, processor, mut due, mut item, mut height] = call.numbers()?;
     if let Call::Step(_) = call {
-        let kinds = [0, 3, 5, 6, 255, 256, 257, 258, 260, 65_537, 65_540];
+        let kinds = [0, 3, 6, 7, 255, 256, 257, 258, 260, 261, 65_537, 65_541];
         kind = random.among(&kinds);
         if random.one_in(5) {
-            kind = random.among(&[1 << 31, (1 << 31) + 4, u32::MAX]);
+            kind = random.among(&[1 << 31, (1 << 31) + 4, (1 << 31) + 5, u32::MAX]);
         }
     }
-    if !matches!(call, Call::Insert(..)) {
-        (due, item, height) = (edge(random), edge(random), edge(random));
+    match call {
+        Call::Insert(..) => {}
+        Call::Remove(..) => height = edge(random),
+        _ => (due, item, height) = (edge(random), edge(random), edge(random)),
     }
     Some([kind, processor, due, item, height])
 }
@@ -100,6 +102,7 @@ fn note(counts: &mut Counts, calls: &[u32], area: &[u32], room: usize) {
             1 => "insert",
             2 => "delete_min",
             4 => "relaxed",
+            5 => "remove",
             _ => "step",
         };
         counts.note_reply(entry, &reply([answer[0], answer[1], answer[2], answer[3]]));
@@ -126,7 +129,8 @@ fn lists_on_any_record_do_what_the_reference_does_call_by_call() {
         ("insert", &[0, 31, 32, 33, 35, 39, 36, 37]),
         ("delete_min", &[0, 31, 32, 33]),
         ("relaxed", &[0, 31, 32, 33]),
-        ("step", &[1, 2, 3, 4, 5, 6, 31, 32, 34]),
+        ("remove", &[0, 31, 32, 33, 38]),
+        ("step", &[1, 2, 3, 4, 5, 6, 7, 8, 31, 32, 34]),
     ]);
     counts.must_wait_for(8);
 }
@@ -175,7 +179,8 @@ fn a_schedule_in_lists_does_what_the_reference_does_call_by_call() {
         ("insert", &[0, 31, 32, 33, 35, 39, 36, 37]),
         ("delete_min", &[0, 31, 32, 33]),
         ("relaxed", &[0, 31, 32, 33]),
-        ("step", &[1, 2, 3, 4, 5, 6, 31, 32, 34]),
+        ("remove", &[0, 31, 32, 33, 38]),
+        ("step", &[1, 2, 3, 4, 5, 6, 7, 8, 31, 32, 34]),
     ]);
     counts.must_wait_for(16);
 }
@@ -227,6 +232,7 @@ fn the_clock_ends_within_a_list() {
         [2, 9, 0, 0, 0],
         [1, 9, 0, 0, 0],
         [4, 9, 0, 0, 0],
+        [5, 9, 0, 0, 0],
     ];
     let answers = [
         [0, 999_998, 0, 0, 999_998],
@@ -236,7 +242,8 @@ fn the_clock_ends_within_a_list() {
         [31, 0, 0, 0, 999_999],
         [31, 0, 0, 0, 999_999],
         [31, 0, 0, 0, 999_999],
+        [31, 0, 0, 0, 999_999],
     ];
-    let area = compare_list(&encode(&record), calls.as_flattened(), 35, &mut random);
-    assert_eq!(area, area_with(answers.as_flattened(), 35));
+    let area = compare_list(&encode(&record), calls.as_flattened(), 40, &mut random);
+    assert_eq!(area, area_with(answers.as_flattened(), 40));
 }

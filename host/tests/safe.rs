@@ -33,6 +33,8 @@ fn same_step(answer: Answer) -> Step {
         Answer::Marked(entry) => Step::Marked(same_entry(entry)),
         Answer::Inserted(entry) => Step::Inserted(same_entry(entry)),
         Answer::HandedOut(entry) => Step::HandedOut(same_entry(entry)),
+        Answer::TakenBack(entry) => Step::TakenBack(same_entry(entry)),
+        Answer::NotThere { due, ticket } => Step::NotThere { due, ticket },
     }
 }
 
@@ -47,11 +49,14 @@ fn all_occurred(counts: &BTreeMap<String, u64>) {
         "Marked",
         "Inserted",
         "HandedOut",
+        "TakenBack",
+        "NotThere",
         "31",
         "32",
         "33",
         "34",
         "35",
+        "38",
         "39",
         "36",
         "37",
@@ -78,9 +83,33 @@ fn word(outcome: &Outcome) -> String {
     }
 }
 
+/// A number of 32 bits in the place of a greater one.
+fn cut(number: u64) -> u32 {
+    u32::try_from(number).unwrap_or(u32::MAX)
+}
+
+/// What a begin gives; none for another call.
+fn begun(queue: &mut Queue, call: &Call) -> Option<Result<u32, Refusal>> {
+    Some(match *call {
+        Call::Insert {
+            processor,
+            due,
+            item,
+            height,
+        } => queue.begin_insert(cut(processor), cut(due), cut(item), cut(height)),
+        Call::DeleteMin { processor } => queue.begin_delete_min(cut(processor)),
+        Call::Relaxed { processor } => queue.begin_relaxed(cut(processor)),
+        Call::Remove {
+            processor,
+            due,
+            ticket,
+        } => queue.begin_remove(cut(processor), cut(due), cut(ticket)),
+        Call::Step { .. } | Call::Backlog | Call::Markers { .. } => return None,
+    })
+}
+
 /// A call with numbers of 32 bits on the queue, beside the reference's outcome.
 fn compare(queue: &mut Queue, call: &Call, outcome: &Outcome) {
-    let cut = |number: u64| u32::try_from(number).unwrap_or(u32::MAX);
     let refusal = |number: u32| Refusal::from_number(number).expect("a known number");
     let value = match *outcome {
         Outcome::Began(time) => Ok(time),
@@ -88,22 +117,11 @@ fn compare(queue: &mut Queue, call: &Call, outcome: &Outcome) {
         Outcome::Refused(number) => Err(refusal(number)),
         Outcome::Stepped(_) | Outcome::Listed(_) => Ok(0),
     };
+    if let Some(got) = begun(queue, call) {
+        assert_eq!(got, value, "{call:?}");
+        return;
+    }
     match *call {
-        Call::Insert {
-            processor,
-            due,
-            item,
-            height,
-        } => {
-            let begun = queue.begin_insert(cut(processor), cut(due), cut(item), cut(height));
-            assert_eq!(begun, value, "{call:?}");
-        }
-        Call::DeleteMin { processor } => {
-            assert_eq!(queue.begin_delete_min(cut(processor)), value, "{call:?}");
-        }
-        Call::Relaxed { processor } => {
-            assert_eq!(queue.begin_relaxed(cut(processor)), value, "{call:?}");
-        }
         Call::Step { processor } => {
             let expected = match *outcome {
                 Outcome::Stepped(answer) => Ok(same_step(answer)),
@@ -112,7 +130,7 @@ fn compare(queue: &mut Queue, call: &Call, outcome: &Outcome) {
             assert_eq!(queue.step(cut(processor)), expected, "{call:?}");
         }
         Call::Backlog => assert_eq!(queue.backlog(), value),
-        Call::Markers { .. } => compare_markers(queue, outcome),
+        _ => compare_markers(queue, outcome),
     }
 }
 
@@ -176,7 +194,6 @@ fn the_queue_does_what_the_reference_does() {
 
 /// A call of a schedule as one of a list; Backlog and markers are none.
 fn asked(call: &Call) -> Option<Asked> {
-    let cut = |number: u64| u32::try_from(number).unwrap_or(u32::MAX);
     match *call {
         Call::Insert {
             processor,
@@ -191,6 +208,11 @@ fn asked(call: &Call) -> Option<Asked> {
         )),
         Call::DeleteMin { processor } => Some(Asked::delete_min(cut(processor))),
         Call::Relaxed { processor } => Some(Asked::relaxed(cut(processor))),
+        Call::Remove {
+            processor,
+            due,
+            ticket,
+        } => Some(Asked::remove(cut(processor), cut(due), cut(ticket))),
         Call::Step { processor } => Some(Asked::step(cut(processor))),
         Call::Backlog | Call::Markers { .. } => None,
     }
@@ -292,7 +314,7 @@ fn bytes_that_the_library_does_not_take_make_no_queue() {
         assert_eq!(Queue::from_bytes(other), Err(Refusal::BadRecord));
     }
     // no processor, no level, an unknown stage, the mark of a third processor, a clock past its end
-    for (at, value) in [(0, 0), (2, 0), (7 + 5, 29), (41 + 17, 3), (6, 1)] {
+    for (at, value) in [(0, 0), (2, 0), (7 + 5, 33), (59 + 17, 3), (6, 1)] {
         let mut damaged = bytes.clone();
         damaged[at] = value;
         assert_eq!(Queue::from_bytes(&damaged), Err(Refusal::BadRecord));
@@ -321,7 +343,7 @@ fn each_refusal_has_its_number() {
         .iter()
         .map(|refusal| refusal.number())
         .collect();
-    let expected = [11, 12, 13, 21, 31, 32, 33, 34, 35, 39, 36, 37, 43];
+    let expected = [11, 12, 13, 21, 31, 32, 33, 34, 35, 38, 39, 36, 37, 43];
     assert_eq!(numbers, expected);
     for number in 0..=u32::from(u16::MAX) {
         let expected = numbers.contains(&number).then_some(number);
@@ -344,6 +366,8 @@ fn the_calls_run_on_a_small_stack() {
         while !matches!(queue.step(1).expect("it is busy"), Step::Empty) {}
         while !matches!(queue.step(0).expect("it is busy"), Step::Inserted(_)) {}
         queue.begin_relaxed(4).expect("it is idle");
+        queue.begin_remove(5, 1, 1).expect("it is idle");
+        assert_eq!(queue.step(5), Ok(Step::Moved));
         let list = [
             Asked::delete_min(2),
             Asked::step(2),

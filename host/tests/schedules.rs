@@ -25,7 +25,7 @@ fn outcome_of(call: &Call, reply: &darthog_host::raw::Reply) -> Outcome {
         ticket: reply.third,
     };
     match (call, reply.code) {
-        (Call::Insert(..) | Call::DeleteMin(_) | Call::Relaxed(_), 0) => {
+        (Call::Insert(..) | Call::DeleteMin(_) | Call::Relaxed(_) | Call::Remove(..), 0) => {
             Outcome::Began(reply.first)
         }
         (Call::Markers(_), 0) => Outcome::Listed(Listing {
@@ -41,6 +41,11 @@ fn outcome_of(call: &Call, reply: &darthog_host::raw::Reply) -> Outcome {
         (_, 4) => Outcome::Stepped(Answer::Marked(entry)),
         (_, 5) => Outcome::Stepped(Answer::Inserted(entry)),
         (_, 6) => Outcome::Stepped(Answer::HandedOut(entry)),
+        (_, 7) => Outcome::Stepped(Answer::TakenBack(entry)),
+        (_, 8) => Outcome::Stepped(Answer::NotThere {
+            due: reply.first,
+            ticket: reply.second,
+        }),
         (_, number) => Outcome::Refused(number),
     }
 }
@@ -114,7 +119,8 @@ fn every_call_of_a_schedule_leaves_the_image_of_the_references_record() {
         ("insert", &[0, 31, 32, 33, 35, 39, 36, 37]),
         ("delete_min", &[0, 31, 32, 33]),
         ("relaxed", &[0, 31, 32, 33]),
-        ("step", &[1, 2, 3, 4, 5, 6, 31, 32, 34]),
+        ("remove", &[0, 31, 32, 33, 38]),
+        ("step", &[1, 2, 3, 4, 5, 6, 7, 8, 31, 32, 34]),
         ("backlog", &[0]),
         ("markers", &[0, 43]),
     ]);

@@ -108,7 +108,7 @@ fn a_history_fits_into_the_stated_areas() {
         "areas to 65,536 bytes and longer, with room {:?}, without {:?}",
         made[0], made[1]
     );
-    assert_eq!(made, [[23, 27], [35, 17]]);
+    assert_eq!(made, [[28, 29], [42, 17]]);
 }
 
 #[test]

@@ -21,7 +21,7 @@ use darthog_reference::stated::records::record;
 use darthog_reference::stated::rows::TABLES;
 
 /// Every call on a record, by one processor.
-fn calls(processor: u32) -> [Call; 7] {
+fn calls(processor: u32) -> [Call; 8] {
     [
         Call::Backlog,
         Call::Markers(400),
@@ -29,15 +29,17 @@ fn calls(processor: u32) -> [Call; 7] {
         Call::Step(processor),
         Call::DeleteMin(processor),
         Call::Relaxed(processor),
+        Call::Remove(processor, 7, 1),
         Call::Insert(processor, 7, 42, 1),
     ]
 }
 
 /// Calls that a taken record refuses for their numbers: 21 comes first.
-const STRANGE: [Call; 4] = [
+const STRANGE: [Call; 5] = [
     Call::Step(u32::MAX),
     Call::DeleteMin(16),
     Call::Relaxed(16),
+    Call::Remove(16, u32::MAX, 0),
     Call::Insert(99, u32::MAX, u32::MAX, 0),
 ];
 
@@ -135,9 +137,10 @@ fn each_field_is_taken_and_refused_as_stated() {
     judge.counts.must_have(&[
         ("backlog", &[0, 21]),
         ("markers", &[0, 21]),
-        ("step", &[1, 2, 3, 4, 5, 6, 21, 31, 34]),
+        ("step", &[1, 2, 3, 4, 5, 6, 7, 8, 21, 31, 34]),
         ("delete_min", &[0, 21, 31, 33]),
         ("relaxed", &[0, 21, 31, 33]),
+        ("remove", &[0, 21, 31, 33]),
         ("insert", &[0, 21, 31, 33]),
     ]);
 }
@@ -149,8 +152,8 @@ fn judge_changes(judge: &mut Judge, base: &Queue, changes: &[Change], taken: boo
         let mut queue = base.clone();
         (change.make)(&mut queue);
         let bytes = encode(&queue);
-        let processor = (number / 7) as u32 % u32::from(base.processor_count);
-        let call = calls(processor)[number % 7];
+        let processor = (number / 8) as u32 % u32::from(base.processor_count);
+        let call = calls(processor)[number % 8];
         judge.call(&bytes, &call, taken, &change.name);
         if taken {
             let (_, after) = expected(&bytes, &call);
@@ -184,6 +187,7 @@ fn the_references_changes_are_taken_and_refused_as_their_lists_say() {
         ("step", &[1, 2, 21]),
         ("delete_min", &[0, 21, 33]),
         ("relaxed", &[0, 21, 33]),
+        ("remove", &[0, 21, 33]),
         ("insert", &[0, 21, 33]),
     ]);
 }
@@ -201,12 +205,19 @@ const NODE_TAGS: [(&str, usize, u8); 7] = [
 ];
 
 /// The same for an idle processor.
-const PROCESSOR_TAGS: [(&str, usize, u8); 5] = [
-    ("stage", 5, 29),
+const PROCESSOR_TAGS: [(&str, usize, u8); 12] = [
+    ("stage", 5, 33),
     ("stage", 5, 255),
     ("node without a place", 6, 1),
     ("level without a place", 7, 1),
     ("node of G3 but at G4", 8, 1),
+    ("job but in a removal", 17, 1),
+    ("unknown job", 17, 2),
+    ("unknown job", 17, 255),
+    ("due but in a Remove", 18, 1),
+    ("due but in a Remove", 21, 1),
+    ("ticket but in a Remove", 22, 1),
+    ("ticket but in a Remove", 25, 1),
 ];
 
 /// Whether the bytes are an image at all is asked of every node and processor
@@ -226,7 +237,7 @@ fn a_wrong_tag_is_21_in_every_node_and_processor() {
         let whose = format!("processor {slot}");
         places.extend(PROCESSOR_TAGS.map(|tag| (tag, whose.clone(), processor_at(slot))));
     }
-    assert_eq!(places.len(), 45);
+    assert_eq!(places.len(), 59);
     for ((field, at, byte), whose, start) in places {
         let mut bytes = image.clone();
         bytes[start + at] = byte;
@@ -255,7 +266,7 @@ fn the_clock_ends_at_999_999() {
             queue.clock = clock;
             let bytes = encode(&queue);
             let what = format!("{whose}, clock {clock}, expected {begin:?}");
-            for call in [Call::DeleteMin(0), Call::Relaxed(0)] {
+            for call in [Call::DeleteMin(0), Call::Relaxed(0), Call::Remove(0, 7, 1)] {
                 let got = judge.call(&bytes, &call, true, &what);
                 assert_eq!(got, begin, "{what}, {call:?}");
             }

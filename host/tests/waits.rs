@@ -34,6 +34,11 @@ fn done([code, first, second, third]: [u32; 4]) -> Result<Done, Refusal> {
         4 => Step::Marked(entry),
         5 => Step::Inserted(entry),
         6 => Step::HandedOut(entry),
+        7 => Step::TakenBack(entry),
+        8 => Step::NotThere {
+            due: first,
+            ticket: second,
+        },
         _ => return Err(Refusal::from_number(code).expect("a known number")),
     };
     Ok(Done::Stepped(step))
@@ -48,6 +53,10 @@ fn asked([kind, processor, due, item, height]: [u32; 5]) -> (Call, Asked) {
         ),
         2 => (Call::DeleteMin(processor), Asked::delete_min(processor)),
         4 => (Call::Relaxed(processor), Asked::relaxed(processor)),
+        5 => (
+            Call::Remove(processor, due, item),
+            Asked::remove(processor, due, item),
+        ),
         _ => (Call::Step(processor), Asked::step(processor)),
     }
 }
@@ -60,6 +69,7 @@ fn single(queue: &mut Queue, call: &Call) -> Result<Done, Refusal> {
         }
         Call::DeleteMin(p) => queue.begin_delete_min(p).map(Done::Began),
         Call::Relaxed(p) => queue.begin_relaxed(p).map(Done::Began),
+        Call::Remove(p, due, ticket) => queue.begin_remove(p, due, ticket).map(Done::Began),
         Call::Step(p) => queue.step(p).map(Done::Stepped),
         _ => panic!("no list has {call:?}"),
     }
@@ -102,7 +112,7 @@ fn a_wait_changes_the_clock_alone() {
         assert!(lent.now() == image, "{}", case.what);
         waits += 1;
     }
-    assert_eq!(waits, 110);
+    assert_eq!(waits, 190);
 }
 
 #[test]
@@ -185,7 +195,7 @@ fn lock_places(record: &Record) -> Vec<usize> {
 fn no_call_looks_at_who_holds_a_lock() {
     let mut random = Random::new(seed());
     let (mut waits, mut differ) = (0, 0);
-    for _ in 0..40_000 {
+    for _ in 0..50_000 {
         let record = any_record(&mut random);
         let call = match any_call(&mut random, &record) {
             Call::Make(..) | Call::Backlog => Call::Step(0),

@@ -23,10 +23,20 @@ pub enum Answer {
     },
     /// The Delete_Min, ordinary or Relaxed, ended without an entry.
     Empty,
-    /// The Delete_Min, ordinary or Relaxed, took this entry.
+    /// The Delete_Min, ordinary or Relaxed, or the Remove took this entry.
     Marked(Entry),
     /// The Insert ended.
     Inserted(Entry),
     /// The Delete_Min ended with this entry.
     HandedOut(Entry),
+    /// The Remove ended: this entry is taken back (document 02, W5).
+    TakenBack(Entry),
+    /// The Remove ended without an entry: none of this key was answered before
+    /// it began, or another has marked it.
+    NotThere {
+        /// The due minute that it looked for.
+        due: u32,
+        /// The ticket that it looked for.
+        ticket: u32,
+    },
 }

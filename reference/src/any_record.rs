@@ -2,8 +2,8 @@
 //! N+1 and L hold anything.
 
 use crate::queue::{
-    Node, Operation, Place, Processor, Queue, Stage, Use, HEAD, MAX_LEVELS, MAX_NUMBER,
-    MAX_PROCESSORS, NODE_SLOTS, UNMARKED,
+    Node, Operation, Place, Processor, Queue, Stage, Use, Wanted, HEAD, JOBS, MAX_LEVELS,
+    MAX_NUMBER, MAX_PROCESSORS, NODE_SLOTS, UNMARKED,
 };
 use crate::random::Random;
 use crate::schedule::Sizes;
@@ -33,7 +33,8 @@ pub fn any_record(random: &mut Random) -> Queue {
     for (number, processor) in processors.iter_mut().enumerate() {
         *processor = maker.junk_processor();
         if number < maker.processors as usize {
-            maker.settle_processor(processor);
+            let wanted = maker.wanted(&nodes);
+            maker.settle_processor(processor, wanted);
         }
     }
     Queue {
@@ -46,13 +47,14 @@ pub fn any_record(random: &mut Random) -> Queue {
     }
 }
 
-/// A random stage over this place and b; each is about equally likely.
-pub fn any_stage(random: &mut Random, a: Place, b: u8) -> Stage {
-    let op = random.among(&[Operation::Insert, Operation::DeleteMin]);
+/// A random stage over this place, b and key; each is about equally likely.
+pub fn any_stage(random: &mut Random, a: Place, b: u8, wanted: Wanted) -> Stage {
+    let job = random.among(&JOBS);
+    let op = random.among(&[Operation::Insert, Operation::Removal(job)]);
     let stages = [
         Stage::Idle,
         Stage::Search(Operation::Insert, a),
-        Stage::Search(Operation::DeleteMin, a),
+        Stage::Search(Operation::Removal(job), a),
         Stage::G1Read(op, a),
         Stage::G2Lock(op, a),
         Stage::G3Reread(op, a),
@@ -67,14 +69,18 @@ pub fn any_stage(random: &mut Random, a: Place, b: u8) -> Stage {
         Stage::W3Mark(a),
         Stage::RW1Read(a),
         Stage::RW3Mark(a),
-        Stage::L1LockNode,
-        Stage::L2LockOwn(a),
-        Stage::L3Unlink(a),
-        Stage::L4PointBack(a),
-        Stage::L5UnlockOwn(a),
-        Stage::L6Unlock(a),
-        Stage::L7UnlockNode,
-        Stage::L8Retire,
+        Stage::XSearch(wanted, a),
+        Stage::X1Read(wanted, a),
+        Stage::X2Test(wanted, a),
+        Stage::X3Mark(wanted, a),
+        Stage::L1LockNode(job),
+        Stage::L2LockOwn(job, a),
+        Stage::L3Unlink(job, a),
+        Stage::L4PointBack(job, a),
+        Stage::L5UnlockOwn(job, a),
+        Stage::L6Unlock(job, a),
+        Stage::L7UnlockNode(job),
+        Stage::L8Retire(job),
     ];
     random.among(&stages)
 }
@@ -142,10 +148,14 @@ impl Maker<'_> {
             level: self.byte(),
         };
         let b = self.byte();
+        let wanted = Wanted {
+            due: self.word(),
+            ticket: self.word(),
+        };
         Processor {
             begin: self.word(),
             own: self.byte(),
-            stage: any_stage(self.random, place, b),
+            stage: any_stage(self.random, place, b, wanted),
             saved: self.bytes(),
         }
     }
@@ -184,8 +194,36 @@ impl Maker<'_> {
         self.up_to(self.processors)
     }
 
+    /// What a Remove looks for: mostly the key of some node, else any in range,
+    /// its ticket above the clock too.
+    fn wanted(&mut self, nodes: &[Node]) -> Wanted {
+        let number = self.random.between(0, u64::from(self.tail)) as usize;
+        let Node { due, ticket, .. } = nodes[number];
+        let limit = u64::from(MAX_NUMBER);
+        let other = match self.random.below(3) {
+            0 => 1,
+            1 => self.random.between(1, limit) as u32,
+            _ => MAX_NUMBER,
+        };
+        match self.random.below(8) {
+            0 => Wanted {
+                due: self.value(),
+                ticket: other,
+            },
+            1 => Wanted { due, ticket: other },
+            2 => Wanted {
+                due: self.value(),
+                ticket: ticket.max(1),
+            },
+            _ => Wanted {
+                due,
+                ticket: ticket.max(1),
+            },
+        }
+    }
+
     /// Brings the looked-at fields of a processor into their ranges.
-    fn settle_processor(&mut self, processor: &mut Processor) {
+    fn settle_processor(&mut self, processor: &mut Processor, wanted: Wanted) {
         for slot in 0..self.levels as usize {
             processor.saved[slot] = self.up_to(self.tail);
         }
@@ -195,17 +233,23 @@ impl Maker<'_> {
             level: self.random.between(1, u64::from(self.levels)) as u8,
         };
         let b = self.up_to(self.tail);
-        processor.stage = any_stage(self.random, place, b);
+        processor.stage = any_stage(self.random, place, b, wanted);
         if self.random.one_in(4) {
             processor.stage = Stage::Idle;
         }
         let entry = self.random.between(1, u64::from(self.tail) - 1) as u8;
         processor.own = entry;
         match &mut processor.stage {
-            Stage::Idle | Stage::W1Read(_) | Stage::W2Compare(_) | Stage::RW1Read(_) => {
+            Stage::Idle
+            | Stage::W1Read(_)
+            | Stage::W2Compare(_)
+            | Stage::RW1Read(_)
+            | Stage::XSearch(..)
+            | Stage::X1Read(..)
+            | Stage::X2Test(..) => {
                 processor.own = self.up_to(self.tail);
             }
-            Stage::W3Mark(place) | Stage::RW3Mark(place) => {
+            Stage::W3Mark(place) | Stage::RW3Mark(place) | Stage::X3Mark(_, place) => {
                 processor.own = self.up_to(self.tail);
                 place.node = entry;
             }

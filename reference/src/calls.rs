@@ -1,4 +1,4 @@
-//! The calls of a host: their refusals in order, the clock, and the three
+//! The calls of a host: their refusals in order, the clock, and the four
 //! begins.
 //!
 //! Each call has an open form, which makes check 21 first, and an inner form
@@ -8,7 +8,8 @@
 use crate::answer::Answer;
 use crate::markers::Listing;
 use crate::queue::{
-    Node, Operation, Queue, Refusal, Stage, Use, FREE, HEAD, MAX_LEVELS, MAX_NUMBER, UNMARKED,
+    Node, Operation, Queue, Refusal, Stage, Use, Wanted, FREE, HEAD, MAX_LEVELS, MAX_NUMBER,
+    UNMARKED,
 };
 use crate::stages::{at, holder};
 
@@ -35,6 +36,15 @@ pub enum Call {
     Relaxed {
         /// The calling processor.
         processor: u64,
+    },
+    /// Begin a Remove (document 02, W5).
+    Remove {
+        /// The calling processor.
+        processor: u64,
+        /// The due minute of the entry.
+        due: u64,
+        /// The ticket of the entry.
+        ticket: u64,
     },
     /// One step.
     Step {
@@ -99,6 +109,13 @@ impl Queue {
         self.begin_relaxed_inner(processor)
     }
 
+    /// Begins a Remove of the entry with this due minute and ticket (document
+    /// 02, W5); gives the time. Refused with 21, 31, 32, 33 or 38.
+    pub fn begin_remove(&mut self, processor: u64, due: u64, ticket: u64) -> Result<u32, Refusal> {
+        self.check()?;
+        self.begin_remove_inner(processor, due, ticket)
+    }
+
     /// One step of a busy processor. Refused with 21, 31, 32 or 34.
     pub fn step(&mut self, processor: u64) -> Result<Answer, Refusal> {
         self.check()?;
@@ -135,6 +152,13 @@ impl Queue {
                 self.begin_delete_min_inner(processor).map(Outcome::Began)
             }
             Call::Relaxed { processor } => self.begin_relaxed_inner(processor).map(Outcome::Began),
+            Call::Remove {
+                processor,
+                due,
+                ticket,
+            } => self
+                .begin_remove_inner(processor, due, ticket)
+                .map(Outcome::Began),
             Call::Step { processor } => self.step_inner(processor).map(Outcome::Stepped),
             Call::Backlog => Ok(Outcome::Count(self.backlog_inner())),
             Call::Markers { room } => self.listing(room).map(Outcome::Listed),
@@ -165,14 +189,39 @@ impl Queue {
         self.begin_walk(processor, Stage::RW1Read(at(HEAD, 1)))
     }
 
+    /// As `begin_remove`, without check 21.
+    pub fn begin_remove_inner(
+        &mut self,
+        processor: u64,
+        due: u64,
+        ticket: u64,
+    ) -> Result<u32, Refusal> {
+        let p = self.idle_caller(processor)?;
+        let limit = u64::from(MAX_NUMBER);
+        if due > limit || !(1..=limit).contains(&ticket) {
+            return Err(38);
+        }
+        let wanted = Wanted {
+            due: due as u32,
+            ticket: ticket as u32,
+        };
+        let start = at(HEAD, self.level_count);
+        Ok(self.begin_without_node(p, Stage::XSearch(wanted, start)))
+    }
+
     fn begin_walk(&mut self, processor: u64, first: Stage) -> Result<u32, Refusal> {
         let p = self.idle_caller(processor)?;
+        Ok(self.begin_without_node(p, first))
+    }
+
+    /// Ticks and starts an operation of processor `p` that takes no node.
+    pub(crate) fn begin_without_node(&mut self, p: usize, first: Stage) -> u32 {
         self.clock += 1;
         let caller = &mut self.processors[p];
         caller.begin = self.clock;
         caller.own = 0;
         caller.stage = first;
-        Ok(self.clock)
+        self.clock
     }
 
     /// As `step`, without check 21.

@@ -75,18 +75,25 @@ impl Queue {
             && self.stage_sound(processor)
     }
 
-    /// The own node and the place, as far as the stage has them.
+    /// The own node, the place and the key that a Remove looks for, as far as the
+    /// stage has them. Nothing ties that key to the clock (document 02, W5).
     fn stage_sound(&self, processor: &Processor) -> bool {
         let has_own = self.is_entry(processor.own);
         match processor.stage {
             Stage::Idle => true,
             Stage::W1Read(a) | Stage::W2Compare(a) | Stage::RW1Read(a) => self.is_place(a),
             Stage::W3Mark(a) | Stage::RW3Mark(a) => self.is_place(a) && self.is_entry(a.node),
+            Stage::XSearch(wanted, a) | Stage::X1Read(wanted, a) | Stage::X2Test(wanted, a) => {
+                wanted.in_range() && self.is_place(a)
+            }
+            Stage::X3Mark(wanted, a) => {
+                wanted.in_range() && self.is_place(a) && self.is_entry(a.node)
+            }
             Stage::I4UnlockNode
             | Stage::I5Stamp
-            | Stage::L1LockNode
-            | Stage::L7UnlockNode
-            | Stage::L8Retire => has_own,
+            | Stage::L1LockNode(_)
+            | Stage::L7UnlockNode(_)
+            | Stage::L8Retire(_) => has_own,
             Stage::G4Unlock(_, a, b) => has_own && self.is_place(a) && b <= self.tail(),
             Stage::Search(_, a)
             | Stage::G1Read(_, a)
@@ -95,11 +102,11 @@ impl Queue {
             | Stage::I1PointOwn(a)
             | Stage::I2Link(a)
             | Stage::I3Unlock(a)
-            | Stage::L2LockOwn(a)
-            | Stage::L3Unlink(a)
-            | Stage::L4PointBack(a)
-            | Stage::L5UnlockOwn(a)
-            | Stage::L6Unlock(a) => has_own && self.is_place(a),
+            | Stage::L2LockOwn(_, a)
+            | Stage::L3Unlink(_, a)
+            | Stage::L4PointBack(_, a)
+            | Stage::L5UnlockOwn(_, a)
+            | Stage::L6Unlock(_, a) => has_own && self.is_place(a),
         }
     }
 

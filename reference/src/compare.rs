@@ -10,9 +10,9 @@ use std::io;
 /// The refusals of a sheet.
 const SHEET_REFUSALS: [u32; 6] = [11, 12, 13, 41, 42, 43];
 /// The refusals of a call.
-const CALL_REFUSALS: [u32; 8] = [31, 32, 33, 34, 35, 39, 36, 37];
+const CALL_REFUSALS: [u32; 9] = [31, 32, 33, 34, 35, 38, 39, 36, 37];
 /// The letters of a history.
-const LETTERS: [char; 8] = ['I', 'D', 'L', 'A', 'M', 'T', 'E', 'R'];
+const LETTERS: [char; 11] = ['I', 'D', 'L', 'X', 'A', 'M', 'T', 'U', 'E', 'N', 'R'];
 
 /// What occurred in the sheets.
 #[derive(Clone, Default, Debug)]

@@ -3,7 +3,7 @@
 use crate::answer::{Answer, Entry};
 use crate::calls::{Call, Outcome};
 use crate::markers::Listing;
-use crate::queue::{Operation, Place, Processor, Queue, Stage, Use};
+use crate::queue::{Job, Operation, Place, Processor, Queue, Stage, Use, Wanted};
 
 /// A call: its name and numbers.
 pub fn call_words(call: &Call) -> String {
@@ -16,6 +16,11 @@ pub fn call_words(call: &Call) -> String {
         } => format!("insert {processor} {due} {item} {height}"),
         Call::DeleteMin { processor } => format!("delete {processor}"),
         Call::Relaxed { processor } => format!("relaxed {processor}"),
+        Call::Remove {
+            processor,
+            due,
+            ticket,
+        } => format!("remove {processor} {due} {ticket}"),
         Call::Step { processor } => format!("step {processor}"),
         Call::Backlog => "backlog".to_string(),
         Call::Markers { room } => format!("markers {room}"),
@@ -50,6 +55,8 @@ fn answer_words(answer: &Answer) -> String {
         Answer::Marked(entry) => format!("marked {}", entry_words(entry)),
         Answer::Inserted(entry) => format!("inserted {}", entry_words(entry)),
         Answer::HandedOut(entry) => format!("handed {}", entry_words(entry)),
+        Answer::TakenBack(entry) => format!("takenback {}", entry_words(entry)),
+        Answer::NotThere { due, ticket } => format!("notthere {due} {ticket}"),
     }
 }
 
@@ -101,9 +108,11 @@ fn processor_words(processor: &Processor) -> String {
     )
 }
 
-/// A stage: document 01's letters, `r` in front of them for a Relaxed walk, then
-/// `insert` or `delete` where a Search or Lock-seek needs it, then node and
-/// level, then the b of G4.
+/// A stage: document 01's letters, `r` in front of them for a Relaxed walk, `x`
+/// for a Remove up to its mark, then `insert`, `delete` or `remove` where a
+/// Search or Lock-seek needs it (and `remove` at L1 to L8 of a Remove), then node
+/// and level, then the b of G4, or the due minute and ticket that a Remove looks
+/// for.
 pub fn stage_words(stage: &Stage) -> String {
     match *stage {
         Stage::Idle => "idle".to_string(),
@@ -122,22 +131,38 @@ pub fn stage_words(stage: &Stage) -> String {
         Stage::W3Mark(a) => format!("w3 {}", place(a)),
         Stage::RW1Read(a) => format!("rw1 {}", place(a)),
         Stage::RW3Mark(a) => format!("rw3 {}", place(a)),
-        Stage::L1LockNode => "l1".to_string(),
-        Stage::L2LockOwn(a) => format!("l2 {}", place(a)),
-        Stage::L3Unlink(a) => format!("l3 {}", place(a)),
-        Stage::L4PointBack(a) => format!("l4 {}", place(a)),
-        Stage::L5UnlockOwn(a) => format!("l5 {}", place(a)),
-        Stage::L6Unlock(a) => format!("l6 {}", place(a)),
-        Stage::L7UnlockNode => "l7".to_string(),
-        Stage::L8Retire => "l8".to_string(),
+        Stage::XSearch(wanted, a) => format!("xs {} {}", place(a), key(wanted)),
+        Stage::X1Read(wanted, a) => format!("x1 {} {}", place(a), key(wanted)),
+        Stage::X2Test(wanted, a) => format!("x2 {} {}", place(a), key(wanted)),
+        Stage::X3Mark(wanted, a) => format!("x3 {} {}", place(a), key(wanted)),
+        Stage::L1LockNode(job) => format!("l1{}", of_job(job)),
+        Stage::L2LockOwn(job, a) => format!("l2{} {}", of_job(job), place(a)),
+        Stage::L3Unlink(job, a) => format!("l3{} {}", of_job(job), place(a)),
+        Stage::L4PointBack(job, a) => format!("l4{} {}", of_job(job), place(a)),
+        Stage::L5UnlockOwn(job, a) => format!("l5{} {}", of_job(job), place(a)),
+        Stage::L6Unlock(job, a) => format!("l6{} {}", of_job(job), place(a)),
+        Stage::L7UnlockNode(job) => format!("l7{}", of_job(job)),
+        Stage::L8Retire(job) => format!("l8{}", of_job(job)),
     }
 }
 
 fn operation(operation: Operation) -> &'static str {
     match operation {
         Operation::Insert => "insert",
-        Operation::DeleteMin => "delete",
+        Operation::Removal(Job::HandOut) => "delete",
+        Operation::Removal(Job::TakeBack) => "remove",
     }
+}
+
+fn of_job(job: Job) -> &'static str {
+    match job {
+        Job::HandOut => "",
+        Job::TakeBack => " remove",
+    }
+}
+
+fn key(Wanted { due, ticket }: Wanted) -> String {
+    format!("{due} {ticket}")
 }
 
 fn place(place: Place) -> String {

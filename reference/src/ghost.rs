@@ -33,7 +33,7 @@ impl Ghost {
             }
             (Call::Step { .. }, Outcome::Stepped(_)) => match was.stage {
                 Stage::I2Link(a) => self.until[was.own as usize][slot(a.level)] = EVER,
-                Stage::L3Unlink(a) => self.until[was.own as usize][slot(a.level)] = queue.clock,
+                Stage::L3Unlink(_, a) => self.until[was.own as usize][slot(a.level)] = queue.clock,
                 _ => {}
             },
             _ => {}

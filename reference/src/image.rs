@@ -7,14 +7,14 @@
 //! that they are read as. Whether the numbers are in their ranges is check 21.
 
 use crate::queue::{
-    Node, Operation, Place, Processor, Queue, Stage, Use, MAX_LEVELS, MAX_NODES, MAX_PROCESSORS,
-    NODE_SLOTS,
+    Job, Node, Operation, Place, Processor, Queue, Stage, Use, Wanted, MAX_LEVELS, MAX_NODES,
+    MAX_PROCESSORS, NODE_SLOTS,
 };
 
 /// Where the processors start, behind the sizes and the clock.
 pub const PROCESSORS_AT: usize = 7;
 /// How many bytes a processor has.
-pub const PROCESSOR_BYTES: usize = 17;
+pub const PROCESSOR_BYTES: usize = 26;
 /// How many bytes a node has.
 pub const NODE_BYTES: usize = 41;
 
@@ -121,82 +121,162 @@ fn put_node(bytes: &mut Vec<u8>, node: &Node) {
 fn put_processor(bytes: &mut Vec<u8>, processor: &Processor) {
     put_number(bytes, processor.begin);
     bytes.push(processor.own);
-    let (tag, place, ahead) = stage_code(&processor.stage);
-    let place = place.unwrap_or(Place { node: 0, level: 0 });
-    bytes.extend_from_slice(&[tag, place.node, place.level, ahead]);
+    let code = Code::of(&processor.stage);
+    bytes.extend_from_slice(&[code.tag, code.place.node, code.place.level, code.ahead]);
     bytes.extend_from_slice(&processor.saved);
+    bytes.push(code.job);
+    put_number(bytes, code.wanted.due);
+    put_number(bytes, code.wanted.ticket);
 }
 
-/// The tag of a stage, its place, and the node that G3 read.
-fn stage_code(stage: &Stage) -> (u8, Option<Place>, u8) {
-    let of = |operation: Operation, insert: u8, removal: u8| match operation {
-        Operation::Insert => insert,
-        Operation::DeleteMin => removal,
-    };
-    match *stage {
-        Stage::Idle => (0, None, 0),
-        Stage::Search(operation, a) => (of(operation, 1, 14), Some(a), 0),
-        Stage::G1Read(operation, a) => (of(operation, 2, 16), Some(a), 0),
-        Stage::G2Lock(operation, a) => (of(operation, 3, 17), Some(a), 0),
-        Stage::G3Reread(operation, a) => (of(operation, 4, 18), Some(a), 0),
-        Stage::G4Unlock(operation, a, ahead) => (of(operation, 5, 19), Some(a), ahead),
-        Stage::I1PointOwn(a) => (6, Some(a), 0),
-        Stage::I2Link(a) => (7, Some(a), 0),
-        Stage::I3Unlock(a) => (8, Some(a), 0),
-        Stage::I4UnlockNode => (9, None, 0),
-        Stage::I5Stamp => (10, None, 0),
-        Stage::W1Read(a) => (11, Some(a), 0),
-        Stage::W2Compare(a) => (12, Some(a), 0),
-        Stage::W3Mark(a) => (13, Some(a), 0),
-        Stage::L1LockNode => (15, None, 0),
-        Stage::L2LockOwn(a) => (20, Some(a), 0),
-        Stage::L3Unlink(a) => (21, Some(a), 0),
-        Stage::L4PointBack(a) => (22, Some(a), 0),
-        Stage::L5UnlockOwn(a) => (23, Some(a), 0),
-        Stage::L6Unlock(a) => (24, Some(a), 0),
-        Stage::L7UnlockNode => (25, None, 0),
-        Stage::L8Retire => (26, None, 0),
-        Stage::RW1Read(a) => (27, Some(a), 0),
-        Stage::RW3Mark(a) => (28, Some(a), 0),
+/// A stage in numbers.
+#[derive(Clone, Copy, PartialEq, Eq)]
+struct Code {
+    tag: u8,
+    /// The place; zeros where the stage has none.
+    place: Place,
+    /// The node that G3 read; 0 but at G4.
+    ahead: u8,
+    /// 1 in the removal of what a Remove has marked; 0 everywhere else.
+    job: u8,
+    /// The key that a Remove looks for; zeros but at XS to X3.
+    wanted: Wanted,
+}
+
+impl Code {
+    /// A stage with this tag and nothing else.
+    const fn bare(tag: u8) -> Code {
+        Code {
+            tag,
+            place: Place { node: 0, level: 0 },
+            ahead: 0,
+            job: 0,
+            wanted: Wanted { due: 0, ticket: 0 },
+        }
     }
-}
 
-/// The stage of a tag with this place and this node of G3, whatever the stage
-/// has of them; none for an unknown tag.
-fn stage_of(tag: u8, a: Place, ahead: u8) -> Option<Stage> {
-    let (insert, removal) = (Operation::Insert, Operation::DeleteMin);
-    Some(match tag {
-        0 => Stage::Idle,
-        1 => Stage::Search(insert, a),
-        2 => Stage::G1Read(insert, a),
-        3 => Stage::G2Lock(insert, a),
-        4 => Stage::G3Reread(insert, a),
-        5 => Stage::G4Unlock(insert, a, ahead),
-        6 => Stage::I1PointOwn(a),
-        7 => Stage::I2Link(a),
-        8 => Stage::I3Unlock(a),
-        9 => Stage::I4UnlockNode,
-        10 => Stage::I5Stamp,
-        11 => Stage::W1Read(a),
-        12 => Stage::W2Compare(a),
-        13 => Stage::W3Mark(a),
-        14 => Stage::Search(removal, a),
-        15 => Stage::L1LockNode,
-        16 => Stage::G1Read(removal, a),
-        17 => Stage::G2Lock(removal, a),
-        18 => Stage::G3Reread(removal, a),
-        19 => Stage::G4Unlock(removal, a, ahead),
-        20 => Stage::L2LockOwn(a),
-        21 => Stage::L3Unlink(a),
-        22 => Stage::L4PointBack(a),
-        23 => Stage::L5UnlockOwn(a),
-        24 => Stage::L6Unlock(a),
-        25 => Stage::L7UnlockNode,
-        26 => Stage::L8Retire,
-        27 => Stage::RW1Read(a),
-        28 => Stage::RW3Mark(a),
-        _ => return None,
-    })
+    fn at(self, place: Place) -> Code {
+        Code { place, ..self }
+    }
+
+    fn for_job(self, job: Job) -> Code {
+        let job = match job {
+            Job::HandOut => 0,
+            Job::TakeBack => 1,
+        };
+        Code { job, ..self }
+    }
+
+    /// A stage of a Search or Lock-seek, whose tag depends on the operation.
+    fn seek(operation: Operation, insert: u8, removal: u8, place: Place) -> Code {
+        match operation {
+            Operation::Insert => Code::bare(insert).at(place),
+            Operation::Removal(job) => Code::bare(removal).at(place).for_job(job),
+        }
+    }
+
+    /// A stage of a removal at a place.
+    fn removal(tag: u8, job: Job, place: Place) -> Code {
+        Code::bare(tag).at(place).for_job(job)
+    }
+
+    /// A stage of a Remove up to its mark.
+    fn remove(tag: u8, wanted: Wanted, place: Place) -> Code {
+        let code = Code::bare(tag).at(place);
+        Code { wanted, ..code }
+    }
+
+    fn of(stage: &Stage) -> Code {
+        match *stage {
+            Stage::Idle => Code::bare(0),
+            Stage::Search(operation, a) => Code::seek(operation, 1, 14, a),
+            Stage::G1Read(operation, a) => Code::seek(operation, 2, 16, a),
+            Stage::G2Lock(operation, a) => Code::seek(operation, 3, 17, a),
+            Stage::G3Reread(operation, a) => Code::seek(operation, 4, 18, a),
+            Stage::G4Unlock(operation, a, ahead) => {
+                let code = Code::seek(operation, 5, 19, a);
+                Code { ahead, ..code }
+            }
+            Stage::I1PointOwn(a) => Code::bare(6).at(a),
+            Stage::I2Link(a) => Code::bare(7).at(a),
+            Stage::I3Unlock(a) => Code::bare(8).at(a),
+            Stage::I4UnlockNode => Code::bare(9),
+            Stage::I5Stamp => Code::bare(10),
+            Stage::W1Read(a) => Code::bare(11).at(a),
+            Stage::W2Compare(a) => Code::bare(12).at(a),
+            Stage::W3Mark(a) => Code::bare(13).at(a),
+            Stage::L1LockNode(job) => Code::bare(15).for_job(job),
+            Stage::L2LockOwn(job, a) => Code::removal(20, job, a),
+            Stage::L3Unlink(job, a) => Code::removal(21, job, a),
+            Stage::L4PointBack(job, a) => Code::removal(22, job, a),
+            Stage::L5UnlockOwn(job, a) => Code::removal(23, job, a),
+            Stage::L6Unlock(job, a) => Code::removal(24, job, a),
+            Stage::L7UnlockNode(job) => Code::bare(25).for_job(job),
+            Stage::L8Retire(job) => Code::bare(26).for_job(job),
+            Stage::RW1Read(a) => Code::bare(27).at(a),
+            Stage::RW3Mark(a) => Code::bare(28).at(a),
+            Stage::XSearch(wanted, a) => Code::remove(29, wanted, a),
+            Stage::X1Read(wanted, a) => Code::remove(30, wanted, a),
+            Stage::X2Test(wanted, a) => Code::remove(31, wanted, a),
+            Stage::X3Mark(wanted, a) => Code::remove(32, wanted, a),
+        }
+    }
+
+    /// The stage of this tag, with whatever it has of the rest; none for an
+    /// unknown tag or job.
+    fn stage(&self) -> Option<Stage> {
+        let job = match self.job {
+            0 => Job::HandOut,
+            1 => Job::TakeBack,
+            _ => return None,
+        };
+        let (a, ahead) = (self.place, self.ahead);
+        let insert = Operation::Insert;
+        Some(match self.tag {
+            0 => Stage::Idle,
+            1 => Stage::Search(insert, a),
+            2 => Stage::G1Read(insert, a),
+            3 => Stage::G2Lock(insert, a),
+            4 => Stage::G3Reread(insert, a),
+            5 => Stage::G4Unlock(insert, a, ahead),
+            6 => Stage::I1PointOwn(a),
+            7 => Stage::I2Link(a),
+            8 => Stage::I3Unlock(a),
+            9 => Stage::I4UnlockNode,
+            10 => Stage::I5Stamp,
+            11 => Stage::W1Read(a),
+            12 => Stage::W2Compare(a),
+            13 => Stage::W3Mark(a),
+            27 => Stage::RW1Read(a),
+            28 => Stage::RW3Mark(a),
+            29 => Stage::XSearch(self.wanted, a),
+            30 => Stage::X1Read(self.wanted, a),
+            31 => Stage::X2Test(self.wanted, a),
+            32 => Stage::X3Mark(self.wanted, a),
+            _ => return self.removal_stage(job),
+        })
+    }
+
+    /// The stage of a removal; none for a tag that no stage has.
+    fn removal_stage(&self, job: Job) -> Option<Stage> {
+        let (a, removal) = (self.place, Operation::Removal(job));
+        Some(match self.tag {
+            14 => Stage::Search(removal, a),
+            15 => Stage::L1LockNode(job),
+            16 => Stage::G1Read(removal, a),
+            17 => Stage::G2Lock(removal, a),
+            18 => Stage::G3Reread(removal, a),
+            19 => Stage::G4Unlock(removal, a, self.ahead),
+            20 => Stage::L2LockOwn(job, a),
+            21 => Stage::L3Unlink(job, a),
+            22 => Stage::L4PointBack(job, a),
+            23 => Stage::L5UnlockOwn(job, a),
+            24 => Stage::L6Unlock(job, a),
+            25 => Stage::L7UnlockNode(job),
+            26 => Stage::L8Retire(job),
+            _ => return None,
+        })
+    }
 }
 
 /// What is left to read. The whole length was tested before.
@@ -263,14 +343,18 @@ impl Reader<'_> {
         let tag = self.byte();
         let (node, level) = (self.byte(), self.byte());
         let ahead = self.byte();
-        let stage = stage_of(tag, Place { node, level }, ahead)?;
-        let (_, place, read) = stage_code(&stage);
-        let place = place.unwrap_or(Place { node: 0, level: 0 });
-        if (place.node, place.level, read) != (node, level, ahead) {
-            return None;
-        }
         let saved = self.levels();
-        Some(Processor {
+        let job = self.byte();
+        let (due, ticket) = (self.number(), self.number());
+        let code = Code {
+            tag,
+            place: Place { node, level },
+            ahead,
+            job,
+            wanted: Wanted { due, ticket },
+        };
+        let stage = code.stage()?;
+        (Code::of(&stage) == code).then_some(Processor {
             begin,
             own,
             stage,

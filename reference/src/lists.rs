@@ -1,6 +1,7 @@
 //! Lists of calls and answers as plain numbers, five for each, as a host hands
-//! them to the library: of a call its kind, processor, due, item and height; of
-//! an answer its code, three values and the clock after the call.
+//! them to the library: of a call its kind, processor, due, item and height, or
+//! a ticket in the item's place; of an answer its code, three values and the
+//! clock after the call.
 
 use crate::answer::{Answer, Entry};
 use crate::calls::{Call, Outcome};
@@ -10,7 +11,8 @@ use crate::queue::{Queue, Refusal};
 pub const NUMBERS: usize = 5;
 
 /// The call of these numbers: kind 1 begins an Insert, kind 2 a Delete_Min,
-/// kind 4 a Relaxed one (document 02, W3), any other is a step.
+/// kind 4 a Relaxed one (document 02, W3), kind 5 a Remove, whose ticket stands
+/// where an Insert has its item (W5); any other is a step.
 pub fn call_of(numbers: [u32; NUMBERS]) -> Call {
     let [kind, processor, due, item, height] = numbers.map(u64::from);
     match kind {
@@ -22,6 +24,11 @@ pub fn call_of(numbers: [u32; NUMBERS]) -> Call {
         },
         2 => Call::DeleteMin { processor },
         4 => Call::Relaxed { processor },
+        5 => Call::Remove {
+            processor,
+            due,
+            ticket: item,
+        },
         _ => Call::Step { processor },
     }
 }
@@ -54,6 +61,8 @@ fn stepped(answer: Result<Answer, Refusal>) -> [u32; 4] {
         Ok(Answer::Marked(entry)) => of(4, entry),
         Ok(Answer::Inserted(entry)) => of(5, entry),
         Ok(Answer::HandedOut(entry)) => of(6, entry),
+        Ok(Answer::TakenBack(entry)) => of(7, entry),
+        Ok(Answer::NotThere { due, ticket }) => [8, due, ticket, 0],
     }
 }
 
@@ -76,6 +85,7 @@ pub fn run_inner(queue: &mut Queue, calls: &[u32], answers: &mut [u32]) {
             1 => valued(queue.begin_insert_inner(processor, due, item, height)),
             2 => valued(queue.begin_delete_min_inner(processor)),
             4 => valued(queue.begin_relaxed_inner(processor)),
+            5 => valued(queue.begin_remove_inner(processor, due, item)),
             _ => stepped(queue.step_inner(processor)),
         }
     });

@@ -1,11 +1,12 @@
 //! Wrong queues: one for each mistake of document 01's "Where an implementer
 //! goes astray", two of document 02's marks, some that name the wrong holder, and
-//! some about the Relaxed Delete_Min. Each takes the right queue and does one
-//! stage its own way; the right code knows nothing of them.
+//! some about the Relaxed Delete_Min and the Remove. Each takes the right queue and
+//! does one stage its own way; the right code knows nothing of them.
 
 use crate::answer::Answer;
 use crate::calls::{Call, Outcome};
 use crate::locks::Lock;
+use crate::misled::Misled;
 use crate::queue::{named, Key, Place, Processor, Queue, Stage};
 use crate::queue::{FREE, HEAD, MAX_NUMBER, MAX_PROCESSORS, UNMARKED};
 use crate::stages::{at, holder};
@@ -36,6 +37,8 @@ pub enum Mistake {
     /// A Relaxed Delete_Min, or what stands beside it, goes another way
     /// (document 02, W3).
     Relaxed(Astray),
+    /// A Remove goes another way (document 02, W5).
+    Remove(Misled),
 }
 
 /// What goes another way by mistake.
@@ -155,9 +158,9 @@ impl Wrong {
                     }
                 }
             }
-            (Mistake::ForwardLeft, Stage::L4PointBack(a)) => {
+            (Mistake::ForwardLeft, Stage::L4PointBack(job, a)) => {
                 self.queue.clock += 1;
-                Some(self.queue.go(p, Stage::L5UnlockOwn(a)))
+                Some(self.queue.go(p, Stage::L5UnlockOwn(job, a)))
             }
             (Mistake::HeadMarked, Stage::W2Compare(a)) if a.node == HEAD => {
                 self.queue.clock += 1;
@@ -190,7 +193,7 @@ impl Wrong {
             (Astray::StampNotTested, Stage::W2Compare(a)) if a.node != HEAD => {
                 Some(Stage::W3Mark(a))
             }
-            (Astray::LockTaken, Stage::L1LockNode) => {
+            (Astray::LockTaken, Stage::L1LockNode(_)) => {
                 // the right step then finds it free
                 self.queue.nodes[own as usize].node_lock = FREE;
                 None
@@ -204,13 +207,16 @@ impl Wrong {
     fn wrong_mark(&mut self, p: usize) -> Option<Answer> {
         let Processor { stage, own, .. } = self.queue.processors[p];
         match (self.mistake, stage) {
-            (Mistake::MarkTakenOver, Stage::W3Mark(a) | Stage::RW3Mark(a)) => {
+            (
+                Mistake::MarkTakenOver,
+                Stage::W3Mark(a) | Stage::RW3Mark(a) | Stage::X3Mark(_, a),
+            ) => {
                 self.queue.clock += 1;
                 let answer = self.queue.run_stage(p);
                 self.queue.nodes[a.node as usize].mark = holder(p);
                 Some(answer)
             }
-            (Mistake::MarkTakenOff, Stage::L8Retire) => {
+            (Mistake::MarkTakenOff, Stage::L8Retire(_)) => {
                 self.queue.nodes[own as usize].mark = UNMARKED;
                 None
             }
@@ -234,11 +240,11 @@ impl Wrong {
             (Misnamed::Zero, _) => return 0,
             (Misnamed::Stored, _) => return right + 1,
             (Misnamed::NodeLockAtG2, Stage::G2Lock(_, a)) => Lock::Node(a.node),
-            (Misnamed::NodeLockAtL2, Stage::L2LockOwn(_)) => Lock::Node(own),
-            (Misnamed::LevelLockAtL1, Stage::L1LockNode) => Lock::Level(at(own, 1)),
-            (Misnamed::PlaceAtL2, Stage::L2LockOwn(a)) => Lock::Level(a),
+            (Misnamed::NodeLockAtL2, Stage::L2LockOwn(..)) => Lock::Node(own),
+            (Misnamed::LevelLockAtL1, Stage::L1LockNode(_)) => Lock::Level(at(own, 1)),
+            (Misnamed::PlaceAtL2, Stage::L2LockOwn(_, a)) => Lock::Level(a),
             (Misnamed::OtherLevel, Stage::G2Lock(_, a)) => Lock::Level(at(a.node, other(a.level))),
-            (Misnamed::OtherLevel, Stage::L2LockOwn(a)) => Lock::Level(at(own, other(a.level))),
+            (Misnamed::OtherLevel, Stage::L2LockOwn(_, a)) => Lock::Level(at(own, other(a.level))),
             _ => return right,
         };
         named(self.queue.lock(lock)).unwrap_or(0)
@@ -278,6 +284,9 @@ impl Wrong {
 
 impl Machine for Wrong {
     fn call(&mut self, call: &Call) -> Outcome {
+        if let Mistake::Remove(misled) = self.mistake {
+            return misled.call(&mut self.queue, call);
+        }
         let ordinary = Mistake::Relaxed(Astray::BegunOrdinary);
         let call = match *call {
             Call::Relaxed { processor } if self.mistake == ordinary => {

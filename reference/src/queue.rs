@@ -36,7 +36,7 @@ pub enum Use {
     Never,
     /// It holds an entry.
     InUse,
-    /// It held an entry that was handed out at this time.
+    /// It held an entry that was handed out, or taken back, at this time.
     Retired(u32),
 }
 
@@ -50,7 +50,7 @@ pub struct Node {
     /// The holder of the node lock.
     pub node_lock: u8,
     /// Who set the mark: the Delete_Min, ordinary or Relaxed, that takes this
-    /// entry (document 02, W6).
+    /// entry, or the Remove that takes it back (document 02, W6).
     pub mark: u8,
     /// The time at which the Insert answered, or none.
     pub stamp: Option<u32>,
@@ -75,17 +75,46 @@ pub struct Place {
     pub level: u8,
 }
 
+/// The key that a Remove looks for (document 02, W5).
+#[derive(Clone, Copy, PartialEq, Eq, Debug)]
+pub struct Wanted {
+    /// The due minute.
+    pub due: u32,
+    /// The ticket, which may lie above the clock.
+    pub ticket: u32,
+}
+
+/// What a removal is for.
+#[derive(Clone, Copy, PartialEq, Eq, Debug)]
+pub enum Job {
+    /// A Delete_Min, ordinary or Relaxed, hands out what it has marked.
+    HandOut,
+    /// A Remove takes back what it has marked (document 02, W5).
+    TakeBack,
+}
+
+/// Every job.
+pub const JOBS: [Job; 2] = [Job::HandOut, Job::TakeBack];
+
 /// Which operation a Search or a Lock-seek belongs to.
 #[derive(Clone, Copy, PartialEq, Eq, Debug)]
 pub enum Operation {
     /// An Insert.
     Insert,
-    /// A Delete_Min, ordinary or Relaxed, that has marked its node.
-    DeleteMin,
+    /// The removal of a node that is marked.
+    Removal(Job),
 }
 
+/// Every operation.
+pub const OPERATIONS: [Operation; 3] = [
+    Operation::Insert,
+    Operation::Removal(Job::HandOut),
+    Operation::Removal(Job::TakeBack),
+];
+
 /// What the next step of a processor does. The letters are document 01's; an R
-/// in front of them is for the Relaxed walk (document 02, W3).
+/// in front of them is for the Relaxed walk (document 02, W3). XS to X3 are a
+/// Remove's stages up to its mark (W5), and carry the key that it looks for.
 #[derive(Clone, Copy, PartialEq, Eq, Debug)]
 pub enum Stage {
     /// No operation.
@@ -120,22 +149,30 @@ pub enum Stage {
     RW1Read(Place),
     /// RW3: set the mark, in a Relaxed walk.
     RW3Mark(Place),
+    /// XS: Search for the key.
+    XSearch(Wanted, Place),
+    /// X1: read the next node of level 1, then move to it or give up.
+    X1Read(Wanted, Place),
+    /// X2: compare the stamp with the begin time.
+    X2Test(Wanted, Place),
+    /// X3: set the mark.
+    X3Mark(Wanted, Place),
     /// L1: take the node lock.
-    L1LockNode,
+    L1LockNode(Job),
     /// L2: take own lock of the level.
-    L2LockOwn(Place),
+    L2LockOwn(Job, Place),
     /// L3: the place's forward number := own forward number.
-    L3Unlink(Place),
+    L3Unlink(Job, Place),
     /// L4: own forward number := the place.
-    L4PointBack(Place),
+    L4PointBack(Job, Place),
     /// L5: free own lock of the level.
-    L5UnlockOwn(Place),
+    L5UnlockOwn(Job, Place),
     /// L6: free the place's lock.
-    L6Unlock(Place),
+    L6Unlock(Job, Place),
     /// L7: free the node lock.
-    L7UnlockNode,
-    /// L8: retire the node and hand it out.
-    L8Retire,
+    L7UnlockNode(Job),
+    /// L8: retire the node and hand it out, or take it back.
+    L8Retire(Job),
 }
 
 /// One processor of the queue.
@@ -178,6 +215,18 @@ pub enum Key {
     Entry(u32, u32),
     /// After every entry.
     Tail,
+}
+
+impl Wanted {
+    /// Where it stands in the order of nodes.
+    pub fn key(&self) -> Key {
+        Key::Entry(self.due, self.ticket)
+    }
+
+    /// Whether both numbers are in the ranges of refusal 38.
+    pub fn in_range(&self) -> bool {
+        self.due <= MAX_NUMBER && (1..=MAX_NUMBER).contains(&self.ticket)
+    }
 }
 
 /// A fresh queue for `p` processors, `n` nodes and `l` levels.

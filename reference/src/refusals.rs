@@ -44,6 +44,7 @@ impl Refusals {
             Call::Insert { processor, .. } => processor,
             Call::DeleteMin { processor } => processor,
             Call::Relaxed { processor } => processor,
+            Call::Remove { processor, .. } => processor,
             Call::Step { processor } => processor,
         };
         if book.count == MAX_NUMBER {
@@ -54,9 +55,11 @@ impl Refusals {
         }
         let idle = book.open[processor as usize] == Open::Nothing;
         match *call {
-            Call::Step { .. } if idle => Some(34),
-            Call::Insert { .. } | Call::DeleteMin { .. } | Call::Relaxed { .. } if !idle => {
-                Some(33)
+            Call::Step { .. } => idle.then_some(34),
+            _ if !idle => Some(33),
+            Call::Remove { due, ticket, .. } => {
+                let limit = u64::from(MAX_NUMBER);
+                (due > limit || ticket == 0 || ticket > limit).then_some(38)
             }
             Call::Insert {
                 due, item, height, ..
@@ -83,9 +86,10 @@ impl Refusals {
             Some(&retired) => {
                 let all_later = book.open.iter().all(|open| match *open {
                     Open::Nothing => true,
-                    Open::Insert(begin) | Open::DeleteMin { begin, .. } | Open::Relaxed(begin) => {
-                        begin > retired
-                    }
+                    Open::Insert(begin)
+                    | Open::DeleteMin { begin, .. }
+                    | Open::Relaxed(begin)
+                    | Open::Remove { begin, .. } => begin > retired,
                 });
                 if all_later {
                     None
@@ -107,7 +111,9 @@ impl Refusals {
                     self.reused += 1;
                 }
             }
-            (_, Outcome::Stepped(Answer::HandedOut(_))) => self.retired.push_back(book.count),
+            (_, Outcome::Stepped(Answer::HandedOut(_) | Answer::TakenBack(_))) => {
+                self.retired.push_back(book.count);
+            }
             _ => {}
         }
     }

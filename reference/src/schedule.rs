@@ -10,6 +10,10 @@ use crate::calls::{Call, Outcome};
 use crate::markers::PAIR;
 use crate::queue::{MAX_LEVELS, MAX_NODES, MAX_NUMBER, MAX_PROCESSORS};
 use crate::random::Random;
+use std::collections::VecDeque;
+
+/// The greatest number of an entry, and of the clock.
+const LIMIT: u64 = MAX_NUMBER as u64;
 
 /// The sizes of a queue.
 #[derive(Clone, Copy, PartialEq, Eq, Debug)]
@@ -74,6 +78,11 @@ pub struct Schedule {
     relaxed: u64,
     /// Whether any is.
     has_relaxed: bool,
+    /// Of 100 begins that are no Inserts, how many are Removes; drawn anew from
+    /// time to time, in some schedules always 0.
+    removes: u64,
+    /// Whether any is.
+    has_removes: bool,
     /// One call in so many is made to be refused.
     bad_once_in: u64,
     /// One call in so many holds a processor back.
@@ -83,7 +92,7 @@ pub struct Schedule {
     /// One that waits and the one that it waits for: they take turns alone
     /// until the first goes on; then the second is held back.
     pair: Option<(u64, u64)>,
-    /// So many calls in vain (a wait, 37 or EMPTY) release whoever is held.
+    /// So many calls in vain (a wait, 37, EMPTY or N) release whoever is held.
     patience: u64,
     /// Calls in vain since the last release.
     in_vain: u64,
@@ -91,9 +100,19 @@ pub struct Schedule {
     held_until: [u64; MAX_PROCESSORS],
     /// Which processors are in an operation.
     busy: [bool; MAX_PROCESSORS],
-    /// How many entries have begun and are not handed out.
-    held: usize,
+    /// How many begins and steps were accepted.
+    clock: u64,
+    /// The keys of the entries that have begun and are not handed out or taken
+    /// back: due minute and ticket.
+    present: Vec<(u64, u64)>,
+    /// Keys of entries that were, the last few.
+    gone: VecDeque<(u64, u64)>,
+    /// What the last Remove looked for.
+    wanted: (u64, u64),
 }
+
+/// How many keys of entries that are gone are kept.
+const GONE: usize = 8;
 
 impl Schedule {
     /// A schedule for a queue of these sizes; equal seeds and equal answers
@@ -105,6 +124,7 @@ impl Schedule {
         let hold_once_in = random.among(&[10, 40, 200, 1000]);
         let patience = random.among(&[3, 10, 30, 100, 1000]);
         let has_relaxed = !random.one_in(4);
+        let has_removes = !random.one_in(4);
         Schedule {
             random,
             sizes,
@@ -113,6 +133,8 @@ impl Schedule {
             inserts: 50,
             relaxed: if has_relaxed { 50 } else { 0 },
             has_relaxed,
+            removes: if has_removes { 40 } else { 0 },
+            has_removes,
             bad_once_in,
             hold_once_in,
             burst: (0, 0),
@@ -121,7 +143,10 @@ impl Schedule {
             in_vain: 0,
             held_until: [0; MAX_PROCESSORS],
             busy: [false; MAX_PROCESSORS],
-            held: 0,
+            clock: 0,
+            present: Vec::new(),
+            gone: VecDeque::new(),
+            wanted: (0, 1),
         }
     }
 
@@ -137,6 +162,7 @@ impl Schedule {
         if self.random.one_in(200) {
             self.inserts = self.random.among(&[20, 50, 50, 60, 80]);
             self.relaxed = self.draw_relaxed();
+            self.removes = self.draw_removes();
         }
         if self.random.one_in(self.hold_once_in) {
             let p = self.random.below(self.sizes.processors) as usize;
@@ -169,28 +195,77 @@ impl Schedule {
         }
     }
 
+    fn draw_removes(&mut self) -> u64 {
+        if self.has_removes {
+            self.random.among(&[10, 30, 30, 50, 80])
+        } else {
+            0
+        }
+    }
+
     /// Takes notice of what a call gave back.
     pub fn note(&mut self, call: &Call, outcome: &Outcome) {
         self.note_vain(outcome);
         self.note_pair(call, outcome);
+        self.note_keys(call, outcome);
         match (*call, outcome) {
-            (Call::Insert { processor, .. }, Outcome::Began(_)) => {
-                self.busy[processor as usize] = true;
-                self.held += 1;
-            }
-            (Call::DeleteMin { processor } | Call::Relaxed { processor }, Outcome::Began(_)) => {
-                self.busy[processor as usize] = true;
-            }
             (
-                Call::Step { processor },
-                Outcome::Stepped(Answer::Empty | Answer::Inserted(_) | Answer::HandedOut(_)),
+                Call::Insert { processor, .. }
+                | Call::DeleteMin { processor }
+                | Call::Relaxed { processor }
+                | Call::Remove { processor, .. },
+                Outcome::Began(_),
             ) => {
-                self.busy[processor as usize] = false;
+                self.busy[processor as usize] = true;
+            }
+            (Call::Step { processor }, Outcome::Stepped(answer)) => {
+                let goes_on = Answer::Moved == *answer
+                    || matches!(answer, Answer::Waits { .. } | Answer::Marked(_));
+                self.busy[processor as usize] = goes_on;
             }
             _ => {}
         }
-        if matches!(outcome, Outcome::Stepped(Answer::HandedOut(_))) {
-            self.held = self.held.saturating_sub(1);
+    }
+
+    /// Which entries there are, and which there were.
+    fn note_keys(&mut self, call: &Call, outcome: &Outcome) {
+        self.clock += u64::from(matches!(outcome, Outcome::Began(_) | Outcome::Stepped(_)));
+        match (*call, outcome) {
+            (Call::Insert { due, .. }, &Outcome::Began(time)) => {
+                self.present.push((due, u64::from(time)));
+            }
+            (
+                Call::Remove {
+                    processor,
+                    due,
+                    ticket,
+                },
+                Outcome::Began(_),
+            ) => {
+                self.wanted = (due, ticket);
+                self.hold_reader(processor);
+            }
+            (_, Outcome::Stepped(Answer::HandedOut(entry) | Answer::TakenBack(entry))) => {
+                let ticket = u64::from(entry.ticket);
+                if let Some(i) = self.present.iter().position(|key| key.1 == ticket) {
+                    self.gone.push_back(self.present.swap_remove(i));
+                    if self.gone.len() > GONE {
+                        self.gone.pop_front();
+                    }
+                }
+            }
+            _ => {}
+        }
+    }
+
+    /// One Remove in three is stopped about where its Search ends, so that others
+    /// link and unlink nodes between it and its key.
+    fn hold_reader(&mut self, processor: u64) {
+        if self.random.one_in(3) {
+            let steps = self.sizes.levels + self.random.below(3);
+            let held = self.random.among(&[20, 60, 200]);
+            self.burst = (processor, steps);
+            self.held_until[processor as usize] = self.made + steps + held;
         }
     }
 
@@ -198,7 +273,8 @@ impl Schedule {
     fn note_vain(&mut self, outcome: &Outcome) {
         let vain = matches!(
             outcome,
-            Outcome::Stepped(Answer::Waits { .. } | Answer::Empty) | Outcome::Refused(37)
+            Outcome::Stepped(Answer::Waits { .. } | Answer::Empty | Answer::NotThere { .. })
+                | Outcome::Refused(37)
         );
         if vain {
             self.burst.1 = 0;
@@ -277,9 +353,56 @@ impl Schedule {
     fn begin(&mut self, processor: u64) -> Call {
         if self.random.below(100) < self.inserts {
             self.insert(processor)
+        } else if self.random.below(100) < self.removes {
+            self.remove_or_insert(processor)
         } else {
             self.walk(processor)
         }
+    }
+
+    /// A Remove, but where nothing is there to remove mostly an Insert.
+    fn remove_or_insert(&mut self, processor: u64) -> Call {
+        if self.present.is_empty() && !self.random.one_in(4) {
+            self.insert(processor)
+        } else {
+            self.remove(processor)
+        }
+    }
+
+    fn remove(&mut self, processor: u64) -> Call {
+        let (due, ticket) = self.key();
+        Call::Remove {
+            processor,
+            due,
+            ticket,
+        }
+    }
+
+    /// What a Remove looks for: mostly an entry that is there, marked or not,
+    /// answered or not, and often the earliest, which a Delete_Min would take;
+    /// what the last Remove looked for; an entry that is gone; one with another
+    /// due minute; a ticket still to come; any other.
+    fn key(&mut self) -> (u64, u64) {
+        let due = self.random.below(self.dues);
+        let earliest = self.present.iter().min().copied();
+        match (self.random.below(12), earliest) {
+            (0..=2, Some(earliest)) => earliest,
+            (3..=5, Some(_)) => self.random.among(&self.present),
+            (6, Some(_)) => (due, self.random.among(&self.present).1),
+            (7 | 8, _) => self.wanted,
+            (9, _) if !self.gone.is_empty() => {
+                let i = self.random.below(self.gone.len() as u64) as usize;
+                self.gone[i]
+            }
+            (10, _) => (due, self.ticket_to_come()),
+            _ => (due, self.random.between(1, self.clock + 1).min(LIMIT)),
+        }
+    }
+
+    /// A ticket above the clock, mostly one that may be given soon.
+    fn ticket_to_come(&mut self) -> u64 {
+        let far = self.random.among(&[2, 5, 20, LIMIT]);
+        (self.clock + self.random.between(1, far)).min(LIMIT)
     }
 
     fn walk(&mut self, processor: u64) -> Call {
@@ -311,7 +434,7 @@ impl Schedule {
     /// A room for markers: just enough, a byte or a node less or more, none, or
     /// enough for all nodes.
     fn room(&mut self) -> usize {
-        let enough = PAIR * self.held;
+        let enough = PAIR * self.present.len();
         let all = PAIR * self.sizes.nodes as usize;
         let rooms = [
             enough,
@@ -333,44 +456,60 @@ impl Schedule {
         let far = [sizes.processors, 16, 17, 255, 256, 1_000_000, 1 << 32];
         let stranger = self.random.among(&far).max(sizes.processors);
         let processor = self.random.below(sizes.processors);
-        let above = u64::from(MAX_NUMBER) + 1;
-        let too_much = self.random.among(&[above, above + 1, 1 << 32]);
-        let item = self.random.among(&[0, 1, 1, 1]);
-        match self.random.below(11) {
+        match self.random.below(14) {
             0 => self.insert(stranger),
             1 => self.walk(stranger),
             2 => Call::Step {
                 processor: stranger,
             },
-            3 | 4 => self.begin(processor),
-            5 | 6 => match (0..sizes.processors).find(|&p| !self.busy[p as usize]) {
+            3 => self.remove(stranger),
+            4 | 5 => self.begin(processor),
+            6 | 7 => match (0..sizes.processors).find(|&p| !self.busy[p as usize]) {
                 Some(idle) => Call::Step { processor: idle },
                 None => Call::Step { processor },
             },
-            7 => Call::Insert {
-                processor,
-                due: too_much,
-                item,
-                height: self.random.between(1, sizes.levels + 1),
-            },
-            8 => Call::Insert {
-                processor,
-                due: 0,
-                item: too_much,
-                height: 1,
-            },
-            9 => Call::Insert {
-                processor,
-                due: 0,
-                item: 0,
-                height: 1,
-            },
-            _ => Call::Insert {
-                processor,
-                due: 0,
-                item,
-                height: self.random.among(&[0, sizes.levels + 1, 9, 256, 257]),
-            },
+            8 | 9 => self.bad_remove(processor),
+            _ => self.bad_insert(processor),
+        }
+    }
+
+    /// A number that is too large for a due minute, an item or a ticket.
+    fn too_much(&mut self) -> u64 {
+        self.random.among(&[LIMIT + 1, LIMIT + 2, 1 << 32])
+    }
+
+    /// An Insert with a due minute, an item or a height out of its range, or with
+    /// item 0.
+    fn bad_insert(&mut self, processor: u64) -> Call {
+        let levels = self.sizes.levels;
+        let item = self.random.among(&[0, 1, 1, 1]);
+        let (due, item, height) = match self.random.below(4) {
+            0 => (self.too_much(), item, self.random.between(1, levels + 1)),
+            1 => (0, self.too_much(), 1),
+            2 => (0, 0, 1),
+            _ => (0, item, self.random.among(&[0, levels + 1, 9, 256, 257])),
+        };
+        Call::Insert {
+            processor,
+            due,
+            item,
+            height,
+        }
+    }
+
+    /// A Remove with a due minute or a ticket out of its range, or with both.
+    fn bad_remove(&mut self, processor: u64) -> Call {
+        let too_much = self.too_much();
+        let bad_ticket = self.random.among(&[0, too_much]);
+        let (due, ticket) = if self.random.one_in(2) {
+            (too_much, self.random.among(&[1, LIMIT, bad_ticket]))
+        } else {
+            (self.random.among(&[0, LIMIT, too_much]), bad_ticket)
+        };
+        Call::Remove {
+            processor,
+            due,
+            ticket,
         }
     }
 }

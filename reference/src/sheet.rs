@@ -13,7 +13,14 @@ const LINE: usize = 1 + FIELDS * COLUMN + 1;
 const MOST_STEPS: u64 = 999;
 
 /// For each letter, how many of its four fields it uses; the others hold 0.
-const USED_FIELDS: [(u8, usize); 5] = [(b'Q', 3), (b'I', 4), (b'D', 1), (b'L', 1), (b'S', 2)];
+const USED_FIELDS: [(u8, usize); 6] = [
+    (b'Q', 3),
+    (b'I', 4),
+    (b'D', 1),
+    (b'L', 1),
+    (b'X', 3),
+    (b'S', 2),
+];
 
 /// A refused sheet: the number of the refusal and the line.
 #[derive(Clone, Copy, PartialEq, Eq, Debug)]
@@ -142,18 +149,35 @@ fn run_line(queue: &mut Queue, line: &Line, history: &mut Vec<u8>) {
             Ok(time) => write_line(history, b'L', time, processor, [0, 0, 0]),
             Err(number) => write_refusal(history, queue, processor, number),
         },
-        _ => {
-            for _ in 0..second {
-                match queue.step_inner(processor) {
-                    Ok(answer) => write_answer(history, queue, processor, &answer),
-                    Err(number) => {
-                        write_refusal(history, queue, processor, number);
-                        return;
-                    }
-                }
+        b'X' => match queue.begin_remove_inner(processor, second, third) {
+            Ok(time) => write_line(history, b'X', time, processor, [second, third, 0]),
+            Err(number) => write_refusal(history, queue, processor, number),
+        },
+        _ => run_steps(queue, processor, second, history),
+    }
+}
+
+/// Makes the steps of an S line, up to the first that is refused.
+fn run_steps(queue: &mut Queue, processor: u64, steps: u64, history: &mut Vec<u8>) {
+    for _ in 0..steps {
+        match queue.step_inner(processor) {
+            Ok(answer) => write_answer(history, queue, processor, &answer),
+            Err(number) => {
+                write_refusal(history, queue, processor, number);
+                return;
             }
         }
     }
+}
+
+/// Makes the calls of a line by its bytes, if it is in form, and gives what it
+/// prints: for who writes a sheet and must know how it goes.
+pub(crate) fn run_bytes(queue: &mut Queue, bytes: &[u8]) -> Vec<u8> {
+    let mut history = Vec::new();
+    if let Some(line) = read_line(bytes) {
+        run_line(queue, &line, &mut history);
+    }
+    history
 }
 
 /// Moves and waits print nothing.
@@ -165,6 +189,11 @@ fn write_answer(history: &mut Vec<u8>, queue: &Queue, processor: u64, answer: &A
         Answer::Marked(entry) => write_line(history, b'M', time, processor, numbers(entry)),
         Answer::Inserted(entry) => write_line(history, b'A', time, processor, numbers(entry)),
         Answer::HandedOut(entry) => write_line(history, b'T', time, processor, numbers(entry)),
+        Answer::TakenBack(entry) => write_line(history, b'U', time, processor, numbers(entry)),
+        Answer::NotThere { due, ticket } => {
+            let values = [u64::from(*due), u64::from(*ticket), 0];
+            write_line(history, b'N', time, processor, values);
+        }
     }
 }
 

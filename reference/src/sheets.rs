@@ -2,9 +2,11 @@
 //! the sheet; the number alone determines its kind, so that every kind comes
 //! in each hundred sheets.
 
-use crate::queue::MAX_NUMBER;
+use crate::queue::{Queue, MAX_NUMBER};
 use crate::random::Random;
 use crate::schedule::Sizes;
+use crate::sheet::run_bytes;
+use crate::trial::fresh_of;
 
 /// The bytes of a line.
 pub const LINE: usize = 30;
@@ -141,7 +143,7 @@ pub fn sheet(seed: u64, number: u64) -> Vec<u8> {
             field_of(random, line).fill(b' ');
         }),
         Kind::WrongLetter => damaged(random, |random, line| {
-            line[0] = random.among(b"qidlsARTEMX 0\n");
+            line[0] = random.among(b"qidlxsARTEMNUY 0\n");
         }),
         Kind::UnusedField => with_line(random, unused_field),
         Kind::WrongSteps => with_line(random, wrong_steps),
@@ -200,10 +202,32 @@ fn processor(random: &mut Random, sizes: Sizes) -> u64 {
     random.below(sizes.processors)
 }
 
-fn begin_line(random: &mut Random, sizes: Sizes) -> Vec<u8> {
+/// A due minute and a ticket.
+type Key = (u64, u64);
+
+/// An X line, mostly for one of these entries, now and then with a number that is
+/// refused.
+fn remove_line(random: &mut Random, processor: u64, keys: &[Key]) -> Vec<u8> {
+    let limit = u64::from(MAX_NUMBER);
+    let (mut due, mut ticket) = if keys.is_empty() || random.one_in(6) {
+        (random.among(&[0, 2, 7, limit]), random.between(1, 40))
+    } else {
+        random.among(keys)
+    };
+    match random.below(16) {
+        0 => due = random.among(&[due + 1, limit, limit + 1, MOST]),
+        1 => ticket = random.among(&[0, 1, ticket + 1, limit, limit + 1, MOST]),
+        _ => {}
+    }
+    line(b'X', [processor, due, ticket, 0])
+}
+
+fn begin_line(random: &mut Random, sizes: Sizes, keys: &[Key]) -> Vec<u8> {
     let processor = processor(random, sizes);
-    if random.below(100) < 45 {
-        return line(random.among(b"DL"), [processor, 0, 0, 0]);
+    match random.below(100) {
+        0..=34 => return line(random.among(b"DL"), [processor, 0, 0, 0]),
+        35..=54 => return remove_line(random, processor, keys),
+        _ => {}
     }
     let limit = u64::from(MAX_NUMBER);
     let mut due = random.among(&[0, 1, 2, 2, 7, limit - 1, limit]);
@@ -229,19 +253,50 @@ fn step_line(random: &mut Random, sizes: Sizes) -> Vec<u8> {
     line(b'S', [processor(random, sizes), steps, 0, 0])
 }
 
+/// A sheet that is being written, with the entries that its lines file: their
+/// tickets are times, so that its calls are made as they come.
+struct Draft {
+    sheet: Vec<u8>,
+    queue: Queue,
+    keys: Vec<Key>,
+}
+
+impl Draft {
+    fn new(sizes: Sizes) -> Draft {
+        Draft {
+            sheet: q_line(sizes),
+            queue: fresh_of(sizes),
+            keys: Vec::new(),
+        }
+    }
+
+    fn push(&mut self, line: &[u8]) {
+        let printed = run_bytes(&mut self.queue, line);
+        if printed.first() == Some(&b'I') {
+            let number = |at: usize| -> u64 {
+                let text = String::from_utf8_lossy(&printed[at..at + 7]);
+                text.trim().parse().expect("a number of a history")
+            };
+            self.keys.push((number(15), number(1)));
+        }
+        self.sheet.extend_from_slice(line);
+    }
+}
+
 /// Lines that begin operations and step them, after a Q line.
 fn calls(random: &mut Random, most: u64) -> Vec<u8> {
     let sizes = sizes(random);
-    let mut sheet = q_line(sizes);
+    let mut draft = Draft::new(sizes);
     for _ in 0..random.between(1, most) {
         let begin = random.below(5) < 2;
-        sheet.extend(if begin {
-            begin_line(random, sizes)
+        let line = if begin {
+            begin_line(random, sizes, &draft.keys)
         } else {
             step_line(random, sizes)
-        });
+        };
+        draft.push(&line);
     }
-    sheet
+    draft.sheet
 }
 
 /// Where a line of the sheet starts, at random.
@@ -295,8 +350,9 @@ fn leading_zero(random: &mut Random, line: &mut [u8]) {
 fn unused_field(random: &mut Random) -> Vec<u8> {
     let value = random.among(&[1, 2, 10, MOST]);
     let walk = random.among(b"DL");
-    match random.below(6) {
+    match random.below(7) {
         0 => line(b'Q', [1, 1, 1, value]),
+        6 => line(b'X', [0, 1, 1, value]),
         1 => line(walk, [0, value, 0, 0]),
         2 => line(walk, [0, 0, value, 0]),
         3 => line(walk, [0, 0, 0, value]),
@@ -315,7 +371,7 @@ fn wrong_steps(random: &mut Random) -> Vec<u8> {
 fn other_byte(random: &mut Random) -> Vec<u8> {
     let mut sheet = calls(random, 20);
     let at = random.below(sheet.len() as u64) as usize;
-    let near = b" 0123456789QIDLS-+.\n\r\t";
+    let near = b" 0123456789QIDLXS-+.\n\r\t";
     sheet[at] = if random.one_in(3) {
         random.below(256) as u8
     } else {
@@ -388,7 +444,7 @@ fn spent_clock(random: &mut Random) -> Vec<u8> {
     for _ in 0..random.between(3, 20) {
         let begin = random.one_in(2);
         sheet.extend(if begin {
-            begin_line(random, sizes)
+            begin_line(random, sizes, &[(5, 1), (6, 5)])
         } else {
             step_line(random, sizes)
         });
@@ -405,7 +461,7 @@ fn lines_of_events(random: &mut Random, lines: usize) -> Vec<u8> {
             let stranger = random.between(sizes.processors, MOST);
             line(b'S', [stranger, random.between(1, 999), 0, 0])
         } else {
-            begin_line(random, sizes)
+            begin_line(random, sizes, &[])
         });
     }
     sheet
@@ -418,6 +474,7 @@ fn full_sheet(random: &mut Random, lines: usize) -> Vec<u8> {
     for _ in 1..lines {
         let p = random.below(sizes.processors);
         sheet.extend(match random.below(10) {
+            0 if random.one_in(4) => remove_line(random, p, &[]),
             0 => line(random.among(b"DL"), [p, 0, 0, 0]),
             1 => line(
                 b'I',
@@ -440,7 +497,7 @@ fn long_sheet(random: &mut Random) -> Vec<u8> {
     }
     if random.one_in(4) {
         let at = some_line(random, &sheet[..FULL_SHEET * LINE]);
-        sheet[at] = b'X';
+        sheet[at] = b'Y';
     }
     sheet
 }

@@ -5,7 +5,9 @@
 
 use crate::answer::{Answer, Entry};
 use crate::locks::{Attempt, Lock};
-use crate::queue::{slot, Node, Operation, Place, Processor, Queue, Stage, Use, FREE, HEAD};
+use crate::queue::{slot, Job, Node, Operation, Place, Processor, Queue, Stage, Use, Wanted};
+use crate::queue::{FREE, HEAD};
+use std::cmp::Ordering;
 
 impl Queue {
     /// The step of processor `p`, which is busy.
@@ -29,6 +31,26 @@ impl Queue {
                 self.free_lock(a.node, a.level);
                 self.go(p, Stage::G2Lock(operation, at(b, a.level)))
             }
+            Stage::W1Read(a) => self.walk_read(p, a),
+            Stage::W2Compare(a) => self.walk_compare(p, a),
+            Stage::W3Mark(a) => self.walk_mark(p, a, Stage::W1Read(a)),
+            Stage::RW1Read(a) => self.relaxed_read(p, a),
+            Stage::RW3Mark(a) => self.walk_mark(p, a, Stage::RW1Read(a)),
+            Stage::XSearch(wanted, a) => {
+                let on = self.key(self.after(a)) < wanted.key();
+                self.remove_search(p, wanted, a, on)
+            }
+            Stage::X1Read(wanted, a) => self.remove_read(p, wanted, a),
+            Stage::X2Test(wanted, a) => self.remove_test(p, wanted, a),
+            Stage::X3Mark(wanted, a) => self.remove_mark(p, wanted, a),
+            stage => self.run_linking(p, stage),
+        }
+    }
+
+    /// The step at a stage of an Insert or a removal after its Search and outside
+    /// its Lock-seeks.
+    fn run_linking(&mut self, p: usize, stage: Stage) -> Answer {
+        match stage {
             Stage::I1PointOwn(a) => {
                 self.set_forward(self.own(p), a.level, self.after(a));
                 self.go(p, Stage::I2Link(a))
@@ -42,43 +64,29 @@ impl Queue {
                 self.own_node(p).node_lock = FREE;
                 self.go(p, Stage::I5Stamp)
             }
-            Stage::I5Stamp => {
-                let now = self.clock;
-                self.own_node(p).stamp = Some(now);
-                let entry = self.entry(self.own(p));
-                self.finish(p, Answer::Inserted(entry))
-            }
-            Stage::W1Read(a) => self.walk_read(p, a),
-            Stage::W2Compare(a) => self.walk_compare(p, a),
-            Stage::W3Mark(a) => self.walk_mark(p, a, Stage::W1Read(a)),
-            Stage::RW1Read(a) => self.relaxed_read(p, a),
-            Stage::RW3Mark(a) => self.walk_mark(p, a, Stage::RW1Read(a)),
-            Stage::L1LockNode => self.lock_own_node(p),
-            Stage::L2LockOwn(a) => self.lock_own_level(p, a),
-            Stage::L3Unlink(a) => {
+            Stage::I5Stamp => self.stamp(p),
+            Stage::L1LockNode(job) => self.lock_own_node(p, job),
+            Stage::L2LockOwn(job, a) => self.lock_own_level(p, job, a),
+            Stage::L3Unlink(job, a) => {
                 let next = self.after(at(self.own(p), a.level));
                 self.set_forward(a.node, a.level, next);
-                self.go(p, Stage::L4PointBack(a))
+                self.go(p, Stage::L4PointBack(job, a))
             }
-            Stage::L4PointBack(a) => {
+            Stage::L4PointBack(job, a) => {
                 self.set_forward(self.own(p), a.level, a.node);
-                self.go(p, Stage::L5UnlockOwn(a))
+                self.go(p, Stage::L5UnlockOwn(job, a))
             }
-            Stage::L5UnlockOwn(a) => {
+            Stage::L5UnlockOwn(job, a) => {
                 self.free_lock(self.own(p), a.level);
-                self.go(p, Stage::L6Unlock(a))
+                self.go(p, Stage::L6Unlock(job, a))
             }
-            Stage::L6Unlock(a) => self.delete_unlock(p, a),
-            Stage::L7UnlockNode => {
+            Stage::L6Unlock(job, a) => self.delete_unlock(p, job, a),
+            Stage::L7UnlockNode(job) => {
                 self.own_node(p).node_lock = FREE;
-                self.go(p, Stage::L8Retire)
+                self.go(p, Stage::L8Retire(job))
             }
-            Stage::L8Retire => {
-                let now = self.clock;
-                self.own_node(p).state = Use::Retired(now);
-                let entry = self.entry(self.own(p));
-                self.finish(p, Answer::HandedOut(entry))
-            }
+            Stage::L8Retire(job) => self.retire(p, job),
+            _ => unreachable!("the other stages have their own step"),
         }
     }
 
@@ -94,7 +102,7 @@ impl Queue {
         }
         match op {
             Operation::Insert => self.go(p, Stage::G1Read(op, a)),
-            Operation::DeleteMin => self.go(p, Stage::L1LockNode),
+            Operation::Removal(job) => self.go(p, Stage::L1LockNode(job)),
         }
     }
 
@@ -124,7 +132,7 @@ impl Queue {
         }
         match op {
             Operation::Insert => self.go(p, Stage::I1PointOwn(a)),
-            Operation::DeleteMin => self.go(p, Stage::L2LockOwn(a)),
+            Operation::Removal(job) => self.go(p, Stage::L2LockOwn(job, a)),
         }
     }
 
@@ -172,44 +180,114 @@ impl Queue {
     /// W3 and RW3: set the mark; whoever finds it unset owns the node, and the
     /// others go on at W1 or RW1.
     fn walk_mark(&mut self, p: usize, a: Place, on: Stage) -> Answer {
-        let node = &mut self.nodes[a.node as usize];
-        if node.is_marked() {
+        if self.nodes[a.node as usize].is_marked() {
             return self.go(p, on);
         }
-        node.mark = holder(p);
-        self.processors[p].own = a.node;
+        self.mark(p, a.node, Job::HandOut)
+    }
+
+    /// Marks the node, which becomes the own one; its Search is next.
+    pub(crate) fn mark(&mut self, p: usize, node: u8, job: Job) -> Answer {
+        self.nodes[node as usize].mark = holder(p);
+        self.processors[p].own = node;
         let start = at(HEAD, self.level_count);
-        self.go(p, Stage::Search(Operation::DeleteMin, start));
-        Answer::Marked(self.entry(a.node))
+        self.go(p, Stage::Search(Operation::Removal(job), start));
+        Answer::Marked(self.entry(node))
+    }
+
+    /// XS: move on, or save the place and go one level down; after level 1 read
+    /// on from the same node (document 02, W5).
+    pub(crate) fn remove_search(&mut self, p: usize, wanted: Wanted, a: Place, on: bool) -> Answer {
+        if on {
+            let b = self.after(a);
+            return self.go(p, Stage::XSearch(wanted, at(b, a.level)));
+        }
+        self.processors[p].saved[slot(a.level)] = a.node;
+        if a.level > 1 {
+            self.go(p, Stage::XSearch(wanted, at(a.node, a.level - 1)))
+        } else {
+            self.go(p, Stage::X1Read(wanted, a))
+        }
+    }
+
+    /// X1: a node before the key is moved to and the read repeated, the key
+    /// itself is tested next, any other key is not the one that is wanted.
+    fn remove_read(&mut self, p: usize, wanted: Wanted, a: Place) -> Answer {
+        let b = self.after(at(a.node, 1));
+        match self.key(b).cmp(&wanted.key()) {
+            Ordering::Less => self.go(p, Stage::X1Read(wanted, at(b, 1))),
+            Ordering::Equal => self.go(p, Stage::X2Test(wanted, at(b, 1))),
+            Ordering::Greater => self.not_there(p, wanted),
+        }
+    }
+
+    /// X2: as W2, but any other stamp, or none, ends the Remove.
+    fn remove_test(&mut self, p: usize, wanted: Wanted, a: Place) -> Answer {
+        match self.nodes[a.node as usize].stamp {
+            Some(time) if time < self.processors[p].begin => self.go(p, Stage::X3Mark(wanted, a)),
+            _ => self.not_there(p, wanted),
+        }
+    }
+
+    /// X3: as W3, but a mark that is set ends the Remove.
+    fn remove_mark(&mut self, p: usize, wanted: Wanted, a: Place) -> Answer {
+        if self.nodes[a.node as usize].is_marked() {
+            return self.not_there(p, wanted);
+        }
+        self.mark(p, a.node, Job::TakeBack)
+    }
+
+    pub(crate) fn not_there(&mut self, p: usize, wanted: Wanted) -> Answer {
+        let Wanted { due, ticket } = wanted;
+        self.finish(p, Answer::NotThere { due, ticket })
     }
 
     /// L1: take the own node lock, or wait.
-    fn lock_own_node(&mut self, p: usize) -> Answer {
+    fn lock_own_node(&mut self, p: usize, job: Job) -> Answer {
         match self.attempt(p, Lock::Node(self.own(p))) {
             Attempt::Taken => {
                 let height = self.own_node(p).height;
-                self.seek_from_saved(p, Operation::DeleteMin, height)
+                self.seek_from_saved(p, Operation::Removal(job), height)
             }
             Attempt::HeldBy(holder) => Answer::Waits { holder },
         }
     }
 
     /// L2: take own lock of the level, or wait.
-    fn lock_own_level(&mut self, p: usize, a: Place) -> Answer {
+    fn lock_own_level(&mut self, p: usize, job: Job, a: Place) -> Answer {
         let own = at(self.own(p), a.level);
         match self.attempt(p, Lock::Level(own)) {
-            Attempt::Taken => self.go(p, Stage::L3Unlink(a)),
+            Attempt::Taken => self.go(p, Stage::L3Unlink(job, a)),
             Attempt::HeldBy(holder) => Answer::Waits { holder },
         }
     }
 
     /// L6: free the place's lock, then the next level down or L7.
-    fn delete_unlock(&mut self, p: usize, a: Place) -> Answer {
+    fn delete_unlock(&mut self, p: usize, job: Job, a: Place) -> Answer {
         self.free_lock(a.node, a.level);
         if a.level > 1 {
-            self.seek_from_saved(p, Operation::DeleteMin, a.level - 1)
+            self.seek_from_saved(p, Operation::Removal(job), a.level - 1)
         } else {
-            self.go(p, Stage::L7UnlockNode)
+            self.go(p, Stage::L7UnlockNode(job))
+        }
+    }
+
+    /// I5: stamp the own node and answer.
+    fn stamp(&mut self, p: usize) -> Answer {
+        let now = self.clock;
+        self.own_node(p).stamp = Some(now);
+        let entry = self.entry(self.own(p));
+        self.finish(p, Answer::Inserted(entry))
+    }
+
+    /// L8: retire the node; what its entry is told as depends on the job.
+    fn retire(&mut self, p: usize, job: Job) -> Answer {
+        let now = self.clock;
+        self.own_node(p).state = Use::Retired(now);
+        let entry = self.entry(self.own(p));
+        match job {
+            Job::HandOut => self.finish(p, Answer::HandedOut(entry)),
+            Job::TakeBack => self.finish(p, Answer::TakenBack(entry)),
         }
     }
 

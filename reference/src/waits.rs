@@ -12,7 +12,7 @@ use crate::queue::{named, Operation, Place, Processor, Queue, Stage};
 pub enum Asker {
     /// G2 of an Insert.
     InsertG2,
-    /// G2 of a Delete_Min, ordinary or Relaxed.
+    /// G2 of a removal, by a Delete_Min, ordinary or Relaxed, or by a Remove.
     RemovalG2,
     /// L1.
     L1,
@@ -28,9 +28,9 @@ pub const ASKERS: usize = 4;
 pub fn asked(processor: &Processor) -> Option<(Asker, Lock)> {
     match processor.stage {
         Stage::G2Lock(Operation::Insert, a) => Some((Asker::InsertG2, Lock::Level(a))),
-        Stage::G2Lock(Operation::DeleteMin, a) => Some((Asker::RemovalG2, Lock::Level(a))),
-        Stage::L1LockNode => Some((Asker::L1, Lock::Node(processor.own))),
-        Stage::L2LockOwn(Place { level, .. }) => {
+        Stage::G2Lock(Operation::Removal(_), a) => Some((Asker::RemovalG2, Lock::Level(a))),
+        Stage::L1LockNode(_) => Some((Asker::L1, Lock::Node(processor.own))),
+        Stage::L2LockOwn(_, Place { level, .. }) => {
             let node = processor.own;
             Some((Asker::L2, Lock::Level(Place { node, level })))
         }

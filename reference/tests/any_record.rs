@@ -22,9 +22,14 @@ fn any_room(random: &mut Random, queue: &Queue) -> usize {
 
 fn any_call(random: &mut Random, queue: &Queue) -> Call {
     let processor = random.below(u64::from(queue.processor_count) + 1);
-    match random.below(14) {
+    match random.below(15) {
         0 => Call::Backlog,
         9 => Call::Relaxed { processor },
+        14 => Call::Remove {
+            processor,
+            due: random.among(&[0, 1, 999_999, 1_000_000]),
+            ticket: random.among(&[0, 1, 2, 999_999, 1_000_000]),
+        },
         8 => Call::Markers {
             room: any_room(random, queue),
         },
@@ -72,7 +77,7 @@ fn check_call(before: &Queue, call: &Call, outcome: &Outcome, after: &Queue) {
             assert!(before == after, "{call:?} changed something");
             return;
         }
-        (Call::Insert { processor, .. }, _) => processor,
+        (Call::Insert { processor, .. } | Call::Remove { processor, .. }, _) => processor,
         (Call::DeleteMin { processor } | Call::Relaxed { processor }, _) => processor,
         (Call::Step { processor }, _) => processor,
     };
@@ -113,11 +118,21 @@ fn check_marks(before: &Queue, call: &Call, outcome: &Outcome, after: &Queue) {
     }
 }
 
+/// A number for each begin, from 0 to 3.
+fn begin_kind(begin: &Call) -> usize {
+    match begin {
+        Call::Insert { .. } => 0,
+        Call::DeleteMin { .. } => 1,
+        Call::Relaxed { .. } => 2,
+        _ => 3,
+    }
+}
+
 #[test]
 fn every_call_keeps_check_21_on_any_record() {
     let mut random = Random::new(5);
     let mut steps: HashMap<Discriminant<Stage>, u64> = HashMap::new();
-    let (mut taken, mut waits) = ([0u64; 4], Waits::default());
+    let (mut taken, mut waits) = ([0u64; 5], Waits::default());
     let mut refusals: HashMap<u32, u64> = HashMap::new();
     for _ in 0..RECORDS {
         let mut queue = any_record(&mut random);
@@ -134,22 +149,20 @@ fn every_call_keeps_check_21_on_any_record() {
                     *steps.entry(discriminant(&stage)).or_default() += 1;
                     waits.check(&before, processor as usize, answer, &queue);
                 }
-                (Call::Insert { .. }, Outcome::Began(_)) => taken[0] += 1,
-                (Call::DeleteMin { .. }, Outcome::Began(_)) => taken[1] += 1,
-                (Call::Relaxed { .. }, Outcome::Began(_)) => taken[3] += 1,
+                (begin, Outcome::Began(_)) => taken[begin_kind(&begin)] += 1,
                 (Call::Markers { .. }, Outcome::Listed(listing)) => {
                     check_listing(&before, &listing);
-                    taken[2] += 1;
+                    taken[4] += 1;
                 }
                 (_, Outcome::Refused(number)) => *refusals.entry(number).or_default() += 1,
                 _ => {}
             }
         }
     }
-    assert_eq!(steps.len(), 23, "some stage never stepped");
+    assert_eq!(steps.len(), 27, "some stage never stepped");
     assert!(steps.values().all(|&count| count > 1000), "{steps:?}");
     assert!(taken.iter().all(|&count| count > 1000), "{taken:?}");
-    for number in [31, 32, 33, 34, 35, 36, 37, 39, 43] {
+    for number in [31, 32, 33, 34, 35, 36, 37, 38, 39, 43] {
         assert!(refusals[&number] > 1000, "{refusals:?}");
     }
     waits.must_be_many();
@@ -209,11 +222,12 @@ fn check_listing(queue: &Queue, listing: &Listing) {
     assert!(listing.leaves_the_rest(), "written past the nodes");
 }
 
-/// The walk, ordinary or Relaxed, reads level 1 whatever level its place holds.
+/// The walk, ordinary or Relaxed, and X1 of a Remove read level 1 whatever level
+/// their place holds.
 #[test]
 fn the_walk_reads_level_1_whatever_its_place_says() {
     let mut random = Random::new(6);
-    let mut seen = [0, 0];
+    let mut seen = [0, 0, 0];
     while seen.iter().any(|&count| count < 2000) {
         let queue = any_record(&mut random);
         if queue.clock == MAX_NUMBER {
@@ -229,6 +243,10 @@ fn the_walk_reads_level_1_whatever_its_place_says() {
             Stage::RW1Read(place) => {
                 place.level = 1;
                 seen[1] += 1;
+            }
+            Stage::X1Read(_, place) => {
+                place.level = 1;
+                seen[2] += 1;
             }
             _ => continue,
         }
@@ -306,6 +324,9 @@ fn renamed_outcome(outcome: &Outcome, name: impl Fn(u32) -> u32) -> Outcome {
         }
         Outcome::Stepped(Answer::HandedOut(entry)) => {
             Outcome::Stepped(Answer::HandedOut(other(entry)))
+        }
+        Outcome::Stepped(Answer::TakenBack(entry)) => {
+            Outcome::Stepped(Answer::TakenBack(other(entry)))
         }
         _ => outcome.clone(),
     }

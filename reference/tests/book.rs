@@ -5,6 +5,7 @@ use darthog_reference::answer::{Answer, Entry};
 use darthog_reference::book::{Book, Fault, Open, Written};
 use darthog_reference::calls::{Call, Outcome};
 use darthog_reference::markers::Listing;
+use darthog_reference::misled::Misled;
 use darthog_reference::mistakes::{Astray, Mistake, Wrong};
 use darthog_reference::random::Random;
 use darthog_reference::schedule::Sizes;
@@ -479,6 +480,7 @@ fn an_insert_may_answer_after_the_hand_out() {
         answered: None,
         marked: true,
         handed_out: true,
+        taken_back: false,
     };
     assert_eq!((open.entries.as_slice(), open.held()), (&[written][..], 0));
     assert_eq!(open.open[0], Open::Insert(1));
@@ -562,4 +564,254 @@ fn a_book_that_lets_a_relaxed_one_leave_entries_out_is_wrong() {
     }
     println!("the right book alone noticed {right_alone} runs, both {both}");
     assert!(right_alone > 20, "{right_alone} {both}");
+}
+
+fn remove(processor: u64, entry: Entry, time: u32) -> (Call, Outcome) {
+    let call = Call::Remove {
+        processor,
+        due: u64::from(entry.due),
+        ticket: u64::from(entry.ticket),
+    };
+    (call, Outcome::Began(time))
+}
+
+fn not_there(entry: Entry) -> Answer {
+    Answer::NotThere {
+        due: entry.due,
+        ticket: entry.ticket,
+    }
+}
+
+/// Two entries answered at 2 and 4; then the begins and answers of a Remove of 0
+/// that begins at 5 and looks for the second.
+fn after_remove(more: &[(Call, Outcome)]) -> Result<Book, Fault> {
+    let mut list = two_entries();
+    list.pop();
+    list.push(remove(0, SECOND, 5));
+    list.extend_from_slice(more);
+    enter(&list)
+}
+
+const STILL_THERE: &str = "not there, but it was answered before the begin and is unmarked";
+const OTHER_KEY: &str = "marked, but not the key of this Remove";
+const NO_REMOVE_MARKED: &str = "taken back, but no Remove is open that marked";
+
+#[test]
+fn right_answers_of_a_remove_are_entered() {
+    let never = Entry { due: 8, ..FIRST };
+    let late = Entry {
+        ticket: 77,
+        ..FIRST
+    };
+    let book = after_remove(&[
+        step(0, Answer::Moved),
+        (Call::Backlog, Outcome::Count(2)),
+        step(0, Answer::Marked(SECOND)),
+        (Call::Backlog, Outcome::Count(1)),
+        listed(2, &[1, 255, 2, 0]),
+        remove(1, SECOND, 8),
+        step(1, not_there(SECOND)),
+        step(0, Answer::Waits { holder: 1 }),
+        step(0, Answer::TakenBack(SECOND)),
+        listed(1, &[1, 255]),
+        remove(0, SECOND, 12),
+        step(0, not_there(SECOND)),
+        remove(0, never, 14),
+        step(0, not_there(never)),
+        remove(0, late, 16),
+        step(0, not_there(late)),
+        delete(1, 18),
+        step(1, Answer::Marked(FIRST)),
+        remove(0, FIRST, 20),
+        step(0, not_there(FIRST)),
+        step(1, Answer::HandedOut(FIRST)),
+    ])
+    .expect("all answers are right");
+    assert_eq!((book.count, book.entries.len()), (22, 0));
+}
+
+#[test]
+fn wrong_answers_of_a_remove_are_noticed() {
+    let fault = |answers: &[Answer]| {
+        let steps: Vec<_> = answers.iter().map(|&answer| step(0, answer)).collect();
+        after_remove(&steps).unwrap_err()
+    };
+    let (marked, other) = (Answer::Marked(SECOND), Entry { item: 7, ..SECOND });
+    let back = |entry: Entry| Answer::TakenBack(entry);
+    assert_eq!(fault(&[Answer::Marked(FIRST)]), OTHER_KEY);
+    assert_eq!(fault(&[Answer::Marked(other)]), NOT_WRITTEN);
+    assert_eq!(fault(&[not_there(SECOND)]), STILL_THERE);
+    assert!(fault(&[not_there(FIRST)]).contains("another key than that"));
+    assert!(fault(&[Answer::Empty]).contains("no Delete_Min is open"));
+    assert_eq!(fault(&[back(SECOND)]), NO_REMOVE_MARKED);
+    assert!(fault(&[Answer::Inserted(SECOND)]).contains("no Insert is open"));
+    assert!(fault(&[marked, marked]).contains("nothing marked"));
+    assert!(fault(&[marked, not_there(SECOND)]).contains("nothing marked"));
+    let handed = Answer::HandedOut(SECOND);
+    assert!(fault(&[marked, handed]).contains("no Delete_Min is open that marked"));
+    let not_marked = "taken back, but not the entry that was marked";
+    assert_eq!(fault(&[marked, back(FIRST)]), not_marked);
+    assert_eq!(fault(&[marked, back(other)]), not_marked);
+    assert!(fault(&[marked, back(SECOND), back(SECOND)]).contains("nothing is open"));
+    let busy = after_remove(&[remove(0, FIRST, 6)]);
+    assert!(busy.unwrap_err().contains("something is open"));
+    let time = after_remove(&[remove(1, FIRST, 7)]);
+    assert!(time.unwrap_err().contains("another time"));
+    let mixed = enter(&[(remove(0, FIRST, 1).0, Outcome::Count(0))]);
+    assert!(mixed.unwrap_err().contains("cannot give this back"));
+}
+
+/// U belongs to a Remove, T to a Delete_Min, and N to a Remove that has marked
+/// nothing.
+#[test]
+fn a_delete_min_neither_takes_back_nor_answers_n() {
+    for begin in [delete(1, 5), relaxed(1, 5)] {
+        let then = |answers: &[Answer]| {
+            let mut list = two_entries();
+            list.pop();
+            list.push(begin.clone());
+            list.extend(answers.iter().map(|&answer| step(1, answer)));
+            enter(&list).unwrap_err()
+        };
+        let marked = Answer::Marked(FIRST);
+        assert_eq!(then(&[marked, Answer::TakenBack(FIRST)]), NO_REMOVE_MARKED);
+        assert_eq!(then(&[Answer::TakenBack(FIRST)]), NO_REMOVE_MARKED);
+        assert!(then(&[not_there(FIRST)]).contains("no Remove is open"));
+        assert!(then(&[marked, not_there(FIRST)]).contains("no Remove is open"));
+    }
+    let insert_alone = [insert(0, FIRST), step(0, not_there(FIRST))];
+    assert!(enter(&insert_alone).unwrap_err().contains("no Remove"));
+}
+
+/// What a Remove has marked another may not mark, and it is left out of every
+/// pick; what another has marked a Remove may not mark.
+#[test]
+fn marks_of_removes_count_as_earlier_marks() {
+    type Begin = fn(u64, u32) -> (Call, Outcome);
+    let begins: [Begin; 2] = [delete, relaxed];
+    for begin in begins {
+        let then = |answer: Answer| {
+            let mut list = two_entries();
+            list.pop();
+            list.extend([remove(0, FIRST, 5), step(0, Answer::Marked(FIRST))]);
+            list.extend([begin(1, 7), step(1, answer)]);
+            enter(&list).err()
+        };
+        let again = then(Answer::Marked(FIRST)).expect("it is marked");
+        assert!([MARKED_BEFORE, "marked, but not the pick"].contains(&again));
+        assert_eq!(then(Answer::Marked(SECOND)), None);
+        assert!(then(Answer::Empty).is_some(), "the second is left");
+
+        let lost = |answer: Answer| {
+            let mut list = two_entries();
+            list.pop();
+            list.extend([begin(0, 5), step(0, Answer::Marked(FIRST))]);
+            list.extend([remove(1, FIRST, 7), step(1, answer)]);
+            enter(&list).err()
+        };
+        assert_eq!(lost(not_there(FIRST)), None);
+        assert_eq!(lost(Answer::Marked(FIRST)), Some(MARKED_BEFORE));
+    }
+}
+
+/// An entry that is answered at or after the begin is not there for a Remove, and
+/// an unanswered one is not: it may not be marked.
+#[test]
+fn a_remove_leaves_what_was_not_answered_before_its_begin() {
+    let too_late = "marked, but it was not answered before the begin";
+    let answered = step(0, Answer::Inserted(FIRST));
+    for between in [&[][..], &[answered][..]] {
+        let then = |answer: Answer| {
+            let mut list = vec![insert(0, FIRST), remove(1, FIRST, 2)];
+            list.extend_from_slice(between);
+            list.push(step(1, answer));
+            enter(&list).err()
+        };
+        assert_eq!(then(not_there(FIRST)), None);
+        assert_eq!(then(Answer::Marked(FIRST)), Some(too_late));
+    }
+    let never = enter(&[remove(1, FIRST, 1), step(1, Answer::Marked(FIRST))]);
+    assert_eq!(never.unwrap_err(), NOT_WRITTEN);
+}
+
+/// The book keeps who was handed out and who was taken back apart, and neither
+/// happens after the other; the answers alone cannot bring that about.
+#[test]
+fn nothing_is_both_handed_out_and_taken_back() {
+    let gone = "taken back, but it was handed out or taken back before";
+    let mut marked = after_remove(&[step(0, Answer::Marked(SECOND))]).expect("it is right");
+    let (call, outcome) = step(0, Answer::TakenBack(SECOND));
+    for (handed_out, taken_back) in [(true, false), (false, true)] {
+        let mut book = marked.clone();
+        let i = book.find(SECOND.ticket).expect("it is written");
+        (book.entries[i].handed_out, book.entries[i].taken_back) = (handed_out, taken_back);
+        assert_eq!(book.enter(&call, &outcome), Err(gone));
+        book.entries.remove(i);
+        assert_eq!(book.enter(&call, &outcome), Err(gone));
+    }
+    assert_eq!(marked.enter(&call, &outcome), Ok(()));
+    assert_eq!(marked.open[0], Open::Nothing);
+    assert_eq!(marked.find(SECOND.ticket), None);
+
+    let list = [&two_entries()[..], &[step(0, Answer::Marked(FIRST))]].concat();
+    let mut book = enter(&list).expect("it is right");
+    let i = book.find(FIRST.ticket).expect("it is written");
+    book.entries[i].taken_back = true;
+    let (call, outcome) = step(0, Answer::HandedOut(FIRST));
+    let before = "handed out, but it was handed out before";
+    assert_eq!(book.enter(&call, &outcome), Err(before));
+}
+
+/// A wrong book: a Remove may answer N wherever it is.
+struct Easy(Book);
+
+impl Easy {
+    fn enter(&mut self, call: &Call, outcome: &Outcome) -> Result<(), Fault> {
+        let before = self.0.clone();
+        match self.0.enter(call, outcome) {
+            Err(STILL_THERE) => {}
+            other => return other,
+        }
+        self.0 = before;
+        let Call::Step { processor } = *call else {
+            panic!("only a step answers N");
+        };
+        self.0.count += 1;
+        self.0.open[processor as usize] = Open::Nothing;
+        Ok(())
+    }
+}
+
+/// By the wrong book a Remove may leave its entry there; the right one refuses
+/// that, on a list by hand and in runs of queues that do so.
+#[test]
+fn a_book_that_lets_a_remove_leave_its_entry_is_wrong() {
+    let mut list = two_entries();
+    list.pop();
+    list.extend([remove(0, SECOND, 5), step(0, not_there(SECOND))]);
+    let mut easy = Easy(Book::new());
+    let taken = list
+        .iter()
+        .try_for_each(|(call, outcome)| easy.enter(call, outcome));
+    assert_eq!((taken, enter(&list).err()), (Ok(()), Some(STILL_THERE)));
+
+    for (misled, least) in [(Misled::KeyLeft, 20), (Misled::GivesUp, 1)] {
+        let (mut random, mut right_alone) = (Random::new(11), 0);
+        for _ in 0..200 {
+            let sizes = Sizes::small(&mut random);
+            let mut wrong = Wrong::new(fresh_of(sizes), Mistake::Remove(misled));
+            let mut trial = Trial::new(wrong.clone(), random.draw(), sizes);
+            if trial.play_by_book(1000).is_ok() {
+                continue;
+            }
+            let mut easy = Easy(Book::new());
+            let taken = trial.calls.iter().try_for_each(|call| {
+                let outcome = wrong.call(call);
+                easy.enter(call, &outcome)
+            });
+            right_alone += u64::from(taken.is_ok());
+        }
+        println!("{misled:?}: the right book alone noticed {right_alone} runs");
+        assert!(right_alone >= least, "{misled:?}: {right_alone}");
+    }
 }

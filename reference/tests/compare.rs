@@ -4,6 +4,7 @@
 use darthog_reference::answer::{Answer, Entry};
 use darthog_reference::calls::{Call, Outcome};
 use darthog_reference::compare::{compare, Counts, Ended};
+use darthog_reference::misled::{Misled, MISLED};
 use darthog_reference::mistakes::{Astray, Mistake, Wrong};
 use darthog_reference::program::{printed, Printed, AREA};
 use darthog_reference::queue::{fresh, Queue};
@@ -36,7 +37,7 @@ fn every_kind_occurs_in_the_sheets() {
     println!("{counts}");
     assert_eq!(counts.sheets, SHEETS);
     assert_eq!(counts.missing(), Vec::<String>::new());
-    assert_eq!(Counts::default().missing().len(), 27);
+    assert_eq!(Counts::default().missing().len(), 31);
 }
 
 /// The lines of a sheet, changed one by one.
@@ -110,6 +111,7 @@ fn a_program_that_takes_an_unused_field_is_found() {
         (b'L', 1),
         (b'L', 2),
         (b'L', 3),
+        (b'X', 3),
         (b'S', 2),
         (b'S', 3),
     ] {
@@ -140,7 +142,7 @@ fn a_program_that_looks_at_the_sizes_before_the_letters_is_found() {
 
 #[test]
 fn a_program_that_prints_another_refusal_is_found() {
-    for number in [11, 12, 13, 31, 32, 33, 34, 35, 39, 36, 37, 41, 42, 43] {
+    for number in [11, 12, 13, 31, 32, 33, 34, 35, 38, 39, 36, 37, 41, 42, 43] {
         let wrong = |sheet: &[u8]| other_number(right(sheet), number);
         assert!(found(wrong).is_some(), "{number} printed as 99");
     }
@@ -180,6 +182,11 @@ fn history(machine: &mut dyn Machine, lines: &[u8]) -> Vec<u8> {
             },
             b'D' => Call::DeleteMin { processor },
             b'L' => Call::Relaxed { processor },
+            b'X' => Call::Remove {
+                processor,
+                due: field(1),
+                ticket: field(2),
+            },
             _ => Call::Step { processor },
         };
         let times = if line[0] == b'S' { field(1) } else { 1 };
@@ -209,11 +216,16 @@ fn event(call: &Call, outcome: &Outcome) -> Option<(char, [u64; 3])> {
             },
         ) => Some(('I', [due, item, height])),
         (Outcome::Began(_), Call::Relaxed { .. }) => Some(('L', [0, 0, 0])),
+        (Outcome::Began(_), Call::Remove { due, ticket, .. }) => Some(('X', [due, ticket, 0])),
         (Outcome::Began(_), _) => Some(('D', [0, 0, 0])),
         (Outcome::Stepped(Answer::Empty), _) => Some(('E', [0, 0, 0])),
         (Outcome::Stepped(Answer::Marked(e)), _) => Some(('M', values(e))),
         (Outcome::Stepped(Answer::Inserted(e)), _) => Some(('A', values(e))),
         (Outcome::Stepped(Answer::HandedOut(e)), _) => Some(('T', values(e))),
+        (Outcome::Stepped(Answer::TakenBack(e)), _) => Some(('U', values(e))),
+        (&Outcome::Stepped(Answer::NotThere { due, ticket }), _) => {
+            Some(('N', [u64::from(due), u64::from(ticket), 0]))
+        }
         _ => None,
     }
 }
@@ -259,6 +271,22 @@ fn a_program_whose_queue_is_mistaken_is_found() {
     println!("first found at sheets {numbers:?}");
     assert!(numbers.iter().all(Option::is_some), "{numbers:?}");
     assert_eq!(found(|sheet| by_machine(sheet, |queue| queue)), None);
+}
+
+/// No history tells who has marked, what an idle processor has saved, or what a
+/// stamp of the begin's own time does, which no call gives.
+#[test]
+fn a_program_whose_removes_are_misled_is_found() {
+    for misled in MISLED {
+        let wrong = |queue| Wrong::new(queue, Mistake::Remove(misled));
+        let number = found(|sheet| by_machine(sheet, wrong));
+        println!("{misled:?} is first found at sheet {number:?}");
+        let untold = matches!(
+            misled,
+            Misled::MarkedAsZero | Misled::SavedLeft | Misled::StampAtBegin
+        );
+        assert_eq!(number.is_none(), untold, "{misled:?}");
+    }
 }
 
 fn compare_program(program: &str, count: &str) -> (Option<i32>, String) {

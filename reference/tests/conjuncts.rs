@@ -5,7 +5,7 @@ use darthog_reference::book::{Book, Open};
 use darthog_reference::calls::Call;
 use darthog_reference::ghost::{Ghost, EVER};
 use darthog_reference::invariant::all_broken;
-use darthog_reference::queue::{Place, Queue, Stage, Use};
+use darthog_reference::queue::{Job, Operation, Place, Queue, Stage, Use, Wanted};
 use darthog_reference::schedule::Sizes;
 use darthog_reference::trial::fresh_of;
 
@@ -181,7 +181,7 @@ fn locks_broken_one_conjunct_at_a_time() {
 
     let mut delete = settled();
     delete.call(Call::DeleteMin { processor: 0 });
-    delete.step_to(0, |stage| matches!(stage, Stage::L4PointBack(_)));
+    delete.step_to(0, |stage| matches!(stage, Stage::L4PointBack(..)));
     assert_eq!(
         broken_by(&delete, |s| s.queue.nodes[2].level_locks[0] = 0),
         ["HoldsOwn"]
@@ -259,7 +259,7 @@ fn a_mark_of_another_than_the_remover_breaks_one_conjunct() {
     for stage in [
         |stage: &Stage| matches!(stage, Stage::Search(..)),
         |stage: &Stage| matches!(stage, Stage::L3Unlink(..)),
-        |stage: &Stage| matches!(stage, Stage::L8Retire),
+        |stage: &Stage| matches!(stage, Stage::L8Retire(_)),
     ] {
         delete.step_to(0, stage);
         assert_eq!(
@@ -330,7 +330,7 @@ fn what_an_insert_and_its_remover_share_broken_one_conjunct_at_a_time() {
     shared.begin_insert(0, 5, 1);
     shared.step_to(0, |stage| *stage == Stage::I4UnlockNode);
     shared.call(Call::Relaxed { processor: 1 });
-    shared.step_to(1, |stage| *stage == Stage::L1LockNode);
+    shared.step_to(1, |stage| matches!(stage, Stage::L1LockNode(_)));
     assert_eq!(
         broken_by(&shared, |s| s.queue.nodes[1].node_lock = 0),
         ["HoldsNode"]
@@ -340,7 +340,7 @@ fn what_an_insert_and_its_remover_share_broken_one_conjunct_at_a_time() {
         ["HoldsNode", "NodeLockHeld"]
     );
     shared.step_to(0, |stage| *stage == Stage::I5Stamp);
-    shared.step_to(1, |stage| *stage == Stage::L8Retire);
+    shared.step_to(1, |stage| matches!(stage, Stage::L8Retire(_)));
     let before = |s: &mut State| s.queue.processors[0].stage = Stage::I4UnlockNode;
     let broken = broken_by(&shared, before);
     assert_eq!(broken, ["InsM", "HiInsert", "L8InsertAtI5", "HoldsNode"]);
@@ -378,4 +378,128 @@ fn a_retired_node_of_an_insert_broken_one_conjunct_at_a_time() {
     );
     retired.finish(0);
     assert!(retired.book.entries.is_empty());
+}
+
+/// Two settled entries, and a Remove of the second, with due minute 20, by
+/// processor 0.
+fn removing() -> (State, Wanted) {
+    let mut state = settled();
+    let (due, ticket) = (20, state.queue.nodes[3].ticket);
+    state.call(Call::Remove {
+        processor: 0,
+        due: u64::from(due),
+        ticket: u64::from(ticket),
+    });
+    (state, Wanted { due, ticket })
+}
+
+fn put_stage(state: &mut State, stage: Stage) {
+    state.queue.processors[0].stage = stage;
+}
+
+/// The Search of a Remove and its read.
+#[test]
+fn a_search_for_a_key_broken_one_conjunct_at_a_time() {
+    let (mut remove, wanted) = removing();
+    let at = |node: u8, level: u8| Place { node, level };
+    let search = |node: u8, level: u8| Stage::XSearch(wanted, at(node, level));
+    let read = |node: u8| Stage::X1Read(wanted, at(node, 1));
+    assert_eq!(remove.queue.processors[0].stage, search(0, 2));
+    let broken = |state: &State, stage: Stage| broken_by(state, |s| put_stage(s, stage));
+    assert_eq!(broken(&remove, search(3, 2)), ["PlaceBefore"]);
+    assert_eq!(broken(&remove, search(1, 2)), ["PlaceFresh"]);
+    for (due, ticket) in [(21, wanted.ticket), (20, wanted.ticket + 1)] {
+        let other = Wanted { due, ticket };
+        let stage = Stage::XSearch(other, at(0, 2));
+        assert_eq!(broken(&remove, stage), ["BookOpen"]);
+    }
+    let ordinary = Stage::W1Read(at(0, 1));
+    assert_eq!(broken(&remove, ordinary), ["BookOpen"]);
+
+    remove.step_to(0, |stage| {
+        matches!(stage, Stage::XSearch(_, Place { level: 1, .. }))
+    });
+    let saved = |node: u8| broken_by(&remove, |s| s.queue.processors[0].saved[1] = node);
+    assert_eq!(saved(3), ["SavedBefore"]);
+    assert_eq!(saved(1), ["SavedFresh"]);
+    let lower = |s: &mut State| s.queue.processors[0].saved[0] = 3;
+    assert_eq!(broken_by(&remove, lower), Vec::<&str>::new());
+
+    remove.step_to(0, |stage| matches!(stage, Stage::X1Read(..)));
+    assert_eq!(remove.queue.processors[0].stage, read(2));
+    assert_eq!(broken(&remove, read(3)), ["PlaceBefore"]);
+    assert_eq!(broken(&remove, read(1)), ["PlaceFresh"]);
+    assert_eq!(broken(&remove, read(0)), Vec::<&str>::new());
+}
+
+/// The test of the stamp, and the mark.
+#[test]
+fn a_found_key_broken_one_conjunct_at_a_time() {
+    let (mut remove, wanted) = removing();
+    let at = |node: u8| Place { node, level: 1 };
+    let broken = |state: &State, stage: Stage| broken_by(state, |s| put_stage(s, stage));
+    remove.step_to(0, |stage| matches!(stage, Stage::X2Test(..)));
+    assert_eq!(broken(&remove, Stage::X2Test(wanted, at(2))), ["XKey"]);
+    assert_eq!(broken(&remove, Stage::X2Test(wanted, at(0))), ["XKey"]);
+    let early = Stage::X3Mark(wanted, at(3));
+    assert_eq!(broken(&remove, early), Vec::<&str>::new());
+    remove.step_to(0, |stage| matches!(stage, Stage::X3Mark(..)));
+    assert_eq!(broken(&remove, Stage::X3Mark(wanted, at(2))), ["XKey"]);
+}
+
+/// What is open after the mark.
+#[test]
+fn an_entry_that_is_taken_back_broken_one_conjunct_at_a_time() {
+    let (mut remove, wanted) = removing();
+    let broken = |state: &State, stage: Stage| broken_by(state, |s| put_stage(s, stage));
+    remove.step_to(0, |stage| matches!(stage, Stage::Search(..)));
+    let start = Place { node: 0, level: 2 };
+    let handing = Stage::Search(Operation::Removal(Job::HandOut), start);
+    assert_eq!(broken(&remove, handing), ["BookOpen"]);
+    let Open::Remove {
+        begin, due, ticket, ..
+    } = remove.book.open[0]
+    else {
+        panic!("a Remove is open");
+    };
+    let open = |open: Open| broken_by(&remove, |s| s.book.open[0] = open);
+    for marked in [true, false] {
+        let other = Open::Remove {
+            begin,
+            due: due + u32::from(marked),
+            ticket,
+            marked,
+        };
+        assert_eq!(open(other), ["BookOpen"]);
+    }
+    let marked = Some(ticket);
+    assert_eq!(open(Open::DeleteMin { begin, marked }), ["BookOpen"]);
+    let taken = |s: &mut State| {
+        let i = s.book.find(wanted.ticket).expect("it is written");
+        s.book.entries[i].taken_back = true;
+    };
+    assert_eq!(broken_by(&remove, taken), ["BookEntries", "BookRetired"]);
+    remove.finish(0);
+    assert_eq!(remove.book.find(wanted.ticket), None);
+}
+
+/// A Remove that would mark what is not answered.
+#[test]
+fn a_mark_without_a_stamp_breaks_one_conjunct() {
+    let mut state = State::new();
+    state.begin_insert(1, 10, 1);
+    state.step_to(1, |stage| *stage == Stage::I5Stamp);
+    state.call(Call::Remove {
+        processor: 0,
+        due: 10,
+        ticket: 1,
+    });
+    let place = Place { node: 1, level: 1 };
+    let wanted = Wanted { due: 10, ticket: 1 };
+    let mark = |s: &mut State| put_stage(s, Stage::X3Mark(wanted, place));
+    state.step_to(0, |stage| matches!(stage, Stage::X2Test(..)));
+    assert_eq!(broken_by(&state, mark), ["X3Stamp"]);
+    state.call(Call::Step { processor: 1 });
+    // answered after the begin
+    assert_eq!(broken_by(&state, mark), ["X3Stamp"]);
 }

@@ -4,7 +4,7 @@ use darthog_reference::any_record::any_stage;
 use darthog_reference::book::{Book, Open};
 use darthog_reference::ghost::{Ghost, EVER};
 use darthog_reference::invariant::{all_broken, names};
-use darthog_reference::queue::{Place, Queue, Use};
+use darthog_reference::queue::{Node, Place, Queue, Use, Wanted};
 use darthog_reference::random::Random;
 use darthog_reference::schedule::Sizes;
 use darthog_reference::trial::{fresh_of, Trial};
@@ -18,6 +18,14 @@ struct State {
     book: Book,
 }
 
+/// The key of some node, or one with its due minute and this ticket.
+fn some_key(random: &mut Random, queue: &Queue, time: u32) -> Wanted {
+    let number = random.between(0, u64::from(queue.tail()));
+    let Node { due, ticket, .. } = queue.nodes[number as usize];
+    let ticket = random.among(&[ticket, time]).max(1);
+    Wanted { due, ticket }
+}
+
 /// One random change of the record, the ghost or the book.
 fn change_something(random: &mut Random, state: &mut State) {
     let queue = &mut state.queue;
@@ -29,6 +37,7 @@ fn change_something(random: &mut Random, state: &mut State) {
     let any_node = random.between(0, tail) as u8;
     let time = random.between(0, clock) as u32;
     let other = queue.processors[random.below(processors) as usize];
+    let wanted = some_key(random, queue, time);
     let node = &mut queue.nodes[random.between(0, tail) as usize];
     let processor = &mut queue.processors[random.below(processors) as usize];
     match random.below(17) {
@@ -51,7 +60,7 @@ fn change_something(random: &mut Random, state: &mut State) {
                 level,
             };
             let b = random.between(0, tail) as u8;
-            processor.stage = any_stage(random, place, b);
+            processor.stage = any_stage(random, place, b, wanted);
         }
         14 | 15 => {
             let n = random.between(0, tail) as usize;

@@ -46,7 +46,12 @@ fn every_operation_ends_when_nothing_more_is_begun() {
     }
     eprintln!("{busy_runs} runs were stopped in the middle, {most:.3} of the bound at most");
     assert!(busy_runs > 5000);
-    assert_relaxed(&drained);
+    assert_operations(&drained);
+}
+
+fn assert_operations(drained: &Tally) {
+    assert_relaxed(drained);
+    assert_removes(drained);
 }
 
 /// Among the operations that ended were Relaxed Delete_Mins, before their mark
@@ -64,5 +69,26 @@ fn assert_relaxed(drained: &Tally) {
         at_l1,
     ] {
         assert!(count > 30, "{relaxed:?}, {at_l1} waits at L1");
+    }
+}
+
+/// Among them were Removes, before their mark and after it, and with every cause
+/// to end without an entry.
+fn assert_removes(drained: &Tally) {
+    let removes = drained.removes;
+    eprintln!("while they were drained: {removes:?}");
+    for count in [
+        removes.marked,
+        removes.taken_back,
+        removes.tail,
+        removes.other_key,
+        removes.unanswered,
+        removes.answered_late,
+        removes.marks_lost,
+        removes.lost_to_remove,
+        removes.beaten_walks,
+        removes.waits,
+    ] {
+        assert!(count > 10, "{removes:?}");
     }
 }

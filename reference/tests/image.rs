@@ -7,8 +7,9 @@ use darthog_reference::image::{
     decode, encode, image_length, node_at, processor_at, stored, NODE_BYTES, PROCESSOR_BYTES,
 };
 use darthog_reference::perturb::{bases, past_slots};
-use darthog_reference::perturb::{stages_at, stages_without_place, walk_stages_at};
-use darthog_reference::queue::{fresh, Place, Queue, Stage, Use};
+use darthog_reference::perturb::{remove_stages_at, stages_at};
+use darthog_reference::perturb::{stages_without_place, walk_stages_at};
+use darthog_reference::queue::{fresh, Place, Queue, Stage, Use, Wanted};
 use darthog_reference::random::Random;
 use darthog_reference::stated::backlogs::printed;
 use darthog_reference::stated::images;
@@ -161,7 +162,7 @@ fn the_numbers_stand_where_the_layout_has_them() {
     let processor = &image[processor_at(1)..][..PROCESSOR_BYTES];
     assert_eq!(
         processor,
-        [5, 0, 0, 0, 3, 0, 0, 0, 0, 0, 0, 0, 0, 0, 0, 0, 6]
+        [5, 0, 0, 0, 3, 0, 0, 0, 0, 0, 0, 0, 0, 0, 0, 0, 6, 0, 0, 0, 0, 0, 0, 0, 0, 0]
     );
     assert_eq!(node_at(2, 5), image.len());
 }
@@ -173,12 +174,17 @@ fn every_stage_has_its_own_tag() {
     let mut stages = stages_at(a, 9);
     stages.extend(walk_stages_at(a));
     stages.extend(stages_without_place());
+    let wanted = Wanted { due: 3, ticket: 4 };
+    let of_remove = remove_stages_at(a, wanted);
+    stages.extend(&of_remove);
     stages.push(Stage::Idle);
     let mut tags: Vec<u8> = stages.iter().map(|stage| tag_of(*stage)).collect();
     tags.sort_unstable();
     tags.dedup();
-    assert_eq!(tags, (0..=28).collect::<Vec<u8>>());
+    assert_eq!(tags, (0..=32).collect::<Vec<u8>>());
     assert_eq!([Stage::RW1Read(a), Stage::RW3Mark(a)].map(tag_of), [27, 28]);
+    let of_remove: Vec<u8> = of_remove.into_iter().map(tag_of).collect();
+    assert_eq!(of_remove, [29, 30, 31, 32]);
 }
 
 fn tag_of(stage: Stage) -> u8 {
@@ -202,32 +208,37 @@ fn another_length_is_no_image() {
     }
 }
 
+/// Bytes of a fresh node that make it none: of its stamp, a stamp's time, its use
+/// and a retirement's time.
+const WRONG_NODE: [(usize, u8); 6] = [(18, 2), (19, 1), (22, 1), (36, 3), (37, 1), (40, 1)];
+
+/// Bytes of an idle processor that make it none: of its stage, place, level and
+/// node of G3, and of the job, due minute and ticket of a Remove.
+const WRONG_PROCESSOR: [(usize, u8); 12] = [
+    (5, 33),
+    (5, 255),
+    (6, 1),
+    (7, 1),
+    (8, 1),
+    (17, 1),
+    (17, 2),
+    (17, 255),
+    (18, 1),
+    (21, 1),
+    (22, 1),
+    (25, 1),
+];
+
 #[test]
 fn wrong_tags_are_no_image() {
     let image = encode(&fresh(2, 3, 4).unwrap());
-    let damage = [
-        // stamp, a stamp's time, use, a retirement's time
-        (18, 2),
-        (19, 1),
-        (22, 1),
-        (36, 3),
-        (37, 1),
-        (40, 1),
-    ];
-    for node in 0..5 {
-        for (at, byte) in damage {
+    let nodes = (0..5).map(|node| (node_at(2, node), &WRONG_NODE[..]));
+    let processors = (0..2).map(|p| (processor_at(p), &WRONG_PROCESSOR[..]));
+    for (start, wrong) in nodes.chain(processors) {
+        for (at, byte) in wrong {
             let mut damaged = image.clone();
-            damaged[node_at(2, node) + at] = byte;
-            assert!(decode(&damaged).is_none(), "node {node}: {at} is {byte}");
-        }
-    }
-    // stage, place, level, node of G3
-    for processor in 0..2 {
-        for (at, byte) in [(5, 29), (5, 255), (6, 1), (7, 1), (8, 1)] {
-            let mut damaged = image.clone();
-            damaged[processor_at(processor) + at] = byte;
-            let whose = format!("processor {processor}");
-            assert!(decode(&damaged).is_none(), "{whose}: {at} is {byte}");
+            damaged[start + at] = *byte;
+            assert!(decode(&damaged).is_none(), "{start}: {at} is {byte}");
         }
     }
 }

@@ -88,7 +88,9 @@ fn the_inner_form_does_the_same() {
         assert!(first == second, "another record");
         codes.extend(told.chunks(5).map(|answer| answer[0]));
     }
-    let all = [0, 1, 2, 3, 4, 5, 6, 31, 32, 33, 34, 35, 36, 37, 39];
+    let all = [
+        0, 1, 2, 3, 4, 5, 6, 7, 8, 31, 32, 33, 34, 35, 36, 37, 38, 39,
+    ];
     assert_eq!(codes, BTreeSet::from(all));
 }
 

@@ -1,15 +1,20 @@
 //! Each mistake of document 01's "Where an implementer goes astray", two of
-//! document 02's marks and those about its Relaxed Delete_Min, put in on purpose,
-//! are caught, and the right queue passes the very same calls.
+//! document 02's marks and those about its Relaxed Delete_Min and its Remove, put
+//! in on purpose, are caught, and the right queue passes the very same calls.
 
 use darthog_reference::book::Book;
 use darthog_reference::calls::Call;
 use darthog_reference::lists::{call_of, numbers_of};
+use darthog_reference::misled::{Misled, MISLED};
 use darthog_reference::mistakes::{Astray, Mistake, Wrong, ASTRAY};
-use darthog_reference::queue::fresh;
+use darthog_reference::queue::{fresh, Queue};
 use darthog_reference::random::Random;
 use darthog_reference::schedule::Sizes;
+use darthog_reference::stated::items::no_node_free;
+use darthog_reference::stated::lists::Turn;
 use darthog_reference::stated::relaxed;
+use darthog_reference::stated::removes;
+use darthog_reference::stated::seeks;
 use darthog_reference::stated::walks;
 use darthog_reference::trial::{drain_bound, fresh_of, Failure, Machine, Trial};
 
@@ -231,4 +236,147 @@ fn a_relaxed_walk_astray_fails_what_is_stated() {
         let about_steps = matches!(astray, Astray::StampTested | Astray::HeadMarked);
         assert_eq!(steps > 0, about_steps, "{astray:?}: {steps}");
     }
+}
+
+/// What the book and the drain say of a mistake about the Remove; nothing of one
+/// that is refused another number, reads or searches more or less, or changes what
+/// no answer tells.
+#[test]
+fn the_book_notices_what_it_can_of_a_remove() {
+    for (misled, words) in [
+        (Misled::FutureUnsound, "does not end"),
+        (Misled::ZeroTaken, "another key than that of this Remove"),
+        (Misled::BegunAsDeleteMin, "but no Delete_Min is open"),
+        (Misled::BegunAsDeleteMin, "not the key of this Remove"),
+        (Misled::KeyLeft, "not there, but it was answered"),
+        (Misled::GivesUp, "not there, but it was answered"),
+        (Misled::HeadIsAnother, "not there, but it was answered"),
+        (Misled::DueAlone, "not the key of this Remove"),
+        (Misled::TicketAlone, "not the key of this Remove"),
+        (
+            Misled::StampNotTested,
+            "it was not answered before the begin",
+        ),
+        (Misled::MarkNotTested, "marked, but"),
+        (Misled::MarkedAsZero, "markers with"),
+        (Misled::HandedOut, "handed out, but no Delete_Min is open"),
+        (Misled::OtherItem, "taken back, but not the entry that was"),
+        (Misled::NoTicketTold, "another key than that of this Remove"),
+    ] {
+        let faults = faults_of(Mistake::Remove(misled));
+        // X1 seldom reads a node before the key
+        let seldom = matches!(misled, Misled::GivesUp | Misled::HeadIsAnother);
+        let least = if seldom { 1 } else { 10 };
+        assert!(count(&faults, words) >= least, "{misled:?}: {faults:?}");
+    }
+    for misled in [
+        Misled::FutureRefused,
+        Misled::KeyBeforeBusy,
+        Misled::ReadsFromHead,
+        Misled::StampAtBegin,
+        Misled::NoSecondSearch,
+        Misled::SavedLeft,
+    ] {
+        let faults = faults_of(Mistake::Remove(misled));
+        assert_eq!(faults, Vec::<String>::new(), "{misled:?}");
+    }
+}
+
+/// The watchers of the record see more: another refusal than the calls ask for,
+/// another stage than the book says, a place or a mark that is not what it must be.
+/// Where the read begins and whether a second Search is made is nothing to them,
+/// nor what a processor has saved that is idle.
+#[test]
+fn the_watchers_notice_what_they_can_of_a_remove() {
+    for misled in MISLED {
+        let mut faults = Vec::new();
+        for (seed, sizes) in runs().into_iter().take(50) {
+            let wrong = Wrong::new(fresh_of(sizes), Mistake::Remove(misled));
+            let mut trial = Trial::new(wrong, seed, sizes);
+            if let Err(failure) = trial.play(CALLS, 1) {
+                faults.push(failure.fault);
+            }
+        }
+        let words = match misled {
+            Misled::FutureRefused => "gave Refused(38), but refusal None was due",
+            Misled::FutureUnsound => "gave Refused(21), but refusal",
+            Misled::ZeroTaken => "but refusal Some(38) was due",
+            Misled::KeyBeforeBusy => "gave Refused(38), but refusal Some(33) was due",
+            Misled::BegunAsDeleteMin => "conjunct BookOpen does not hold",
+            Misled::KeyLeft | Misled::GivesUp | Misled::HeadIsAnother => "not there, but it was",
+            Misled::DueAlone | Misled::TicketAlone => "conjunct XKey does not hold",
+            Misled::StampNotTested => "conjunct X3Stamp does not hold",
+            Misled::MarkNotTested => "marked, but",
+            Misled::MarkedAsZero => "has the marker 0",
+            Misled::HandedOut => "conjunct BookOpen does not hold",
+            Misled::OtherItem => "taken back, but not the entry that was marked",
+            Misled::NoTicketTold => "another key than that of this Remove",
+            Misled::ReadsFromHead
+            | Misled::StampAtBegin
+            | Misled::NoSecondSearch
+            | Misled::SavedLeft => {
+                assert_eq!(faults, Vec::<String>::new(), "{misled:?}");
+                continue;
+            }
+        };
+        println!("{misled:?}: noticed in {} of 50 runs", faults.len());
+        let right = count(&faults, words);
+        assert_eq!(right, faults.len(), "{misled:?}: {faults:?}");
+        let seldom = matches!(misled, Misled::GivesUp | Misled::HeadIsAnother);
+        assert!(seldom || right > 5, "{misled:?}: {faults:?}");
+    }
+}
+
+/// Calls of a stated run that do not go as stated.
+fn fails(queue: Queue, mistake: Mistake, turns: &[Turn]) -> bool {
+    let mut wrong = Wrong::new(queue, mistake);
+    let right = |(call, answer): &Turn| numbers_of(&wrong.call(&call_of(*call))) == answer[..4];
+    !turns.iter().all(right)
+}
+
+/// How many stated runs, steps and refusals of Removes a mistake fails.
+fn stated_failures(mistake: Mistake) -> [u64; 3] {
+    let mut failed = [0; 3];
+    for (run, _) in removes::runs() {
+        let [p, n, l] = run.sizes.map(u64::from);
+        let queue = fresh(p, n, l).expect("the sizes are in range");
+        failed[0] += u64::from(fails(queue, mistake, &run.turns));
+    }
+    for case in seeks::cases() {
+        let mut wrong = Wrong::new(case.queue.clone(), mistake);
+        let processor = u64::from(case.processor);
+        let outcome = wrong.call(&Call::Step { processor });
+        let same = numbers_of(&outcome) == case.reply && *wrong.queue() == case.after;
+        failed[1] += u64::from(!same);
+    }
+    let remove = |[p, due, ticket]: [u32; 3]| [5, p, due, ticket, 0];
+    let refused = removes::REFUSED_CALLS.map(|(call, number)| (remove(call), number));
+    let taken = removes::TAKEN_KEYS.map(|[due, ticket]| (remove([1, due, ticket]), 0));
+    for (call, code) in refused.into_iter().chain(taken) {
+        let first = if code == 0 { 2 } else { 0 };
+        let turn = (call, [code, first, 0, 0, 0]);
+        failed[2] += u64::from(fails(no_node_free(), mistake, &[turn]));
+    }
+    failed
+}
+
+/// Every one of these mistakes fails something that is stated: here which of runs,
+/// steps and refusals.
+#[test]
+fn a_remove_misled_fails_what_is_stated() {
+    for misled in MISLED {
+        let failed = stated_failures(Mistake::Remove(misled));
+        println!("{misled:?}: {failed:?} runs, steps, refusals");
+        let expected = match misled {
+            Misled::ZeroTaken | Misled::KeyBeforeBusy => [false, false, true],
+            Misled::FutureRefused => [true, false, true],
+            Misled::FutureUnsound => [true, true, false],
+            Misled::BegunAsDeleteMin => [true, false, false],
+            Misled::StampAtBegin | Misled::MarkedAsZero | Misled::SavedLeft => [false, true, false],
+            _ => [true, true, false],
+        };
+        assert_eq!(failed.map(|count| count > 0), expected, "{misled:?}");
+    }
+    let right = Mistake::Remove(Misled::ZeroTaken);
+    assert_eq!(stated_failures(right)[..2], [0, 0]);
 }

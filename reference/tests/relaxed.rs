@@ -2,11 +2,9 @@
 //! hand, one call at a time, as lists and as sheets, with backlog, images and the
 //! whole invariant along the way.
 
-use darthog_reference::book::Book;
-use darthog_reference::calls::{Call, Outcome};
-use darthog_reference::ghost::Ghost;
+use darthog_reference::calls::Call;
+use darthog_reference::followed::Followed;
 use darthog_reference::image::encode;
-use darthog_reference::invariant::all_broken;
 use darthog_reference::lists::{call_of, numbers_of, run, run_inner};
 use darthog_reference::queue::{fresh, Queue};
 use darthog_reference::sheet;
@@ -25,35 +23,6 @@ fn stated(spans: &[Span], time: u32) -> u32 {
     spans.iter().find(within).expect("the time is stated").2
 }
 
-/// A queue with its book and its ghost.
-struct Followed {
-    queue: Queue,
-    book: Book,
-    ghost: Ghost,
-}
-
-impl Followed {
-    fn new(queue: Queue) -> Followed {
-        let (book, ghost) = (Book::new(), Ghost::new(&queue));
-        Followed { queue, book, ghost }
-    }
-
-    /// Makes a call; the book takes its answer, and every conjunct holds.
-    fn call(&mut self, call: &Call, what: &str) -> Outcome {
-        let was = match *call {
-            Call::Step { processor } => self.queue.processors[processor as usize],
-            _ => self.queue.processors[0],
-        };
-        let outcome = self.queue.call(call);
-        self.ghost.follow(&was, call, &outcome, &self.queue);
-        let entered = self.book.enter(call, &outcome);
-        assert_eq!(entered, Ok(()), "{what}, {call:?} gave {outcome:?}");
-        let broken = all_broken(&self.queue, &self.ghost, &self.book);
-        assert!(broken.is_empty(), "{what}, {call:?}: {broken:?}");
-        outcome
-    }
-}
-
 #[test]
 fn the_stated_runs_go_as_stated() {
     let (mut late, mut waits) = (0, 0);
@@ -62,7 +31,9 @@ fn the_stated_runs_go_as_stated() {
         let mut followed = Followed::new(start(one.sizes));
         let mut handed = Vec::new();
         for (call, [code, first, second, third, clock]) in &one.turns {
-            let got = numbers_of(&followed.call(&call_of(*call), what));
+            let outcome = followed.call(&call_of(*call));
+            let got = outcome.map(|outcome| numbers_of(&outcome));
+            let got = got.unwrap_or_else(|fault| panic!("{what}: {fault}"));
             assert_eq!(got, [*code, *first, *second, *third], "{what}, at {clock}");
             assert_eq!(followed.queue.clock, *clock, "{what}");
             let count = stated(&spans, *clock);

@@ -6,7 +6,7 @@
 use darthog_reference::queue::MAX_NUMBER;
 use darthog_reference::random::Random;
 use darthog_reference::schedule::Sizes;
-use darthog_reference::tally::{Relaxed, Tally};
+use darthog_reference::tally::{Relaxed, Removes, Tally};
 use darthog_reference::trial::{fresh_of, Trial};
 
 /// Calls of each of the two tests.
@@ -33,13 +33,13 @@ fn play_many(seed: u64) -> Tally {
     total
 }
 
-/// Steps waited at G2 of both operations, at L1 and at L2, and for every
+/// Steps waited at G2 of an Insert and of a removal, at L1 and at L2, and for every
 /// processor. At L1 it is the remover of an entry that a Relaxed walk has marked
 /// before its Insert gave the node lock back.
 fn assert_waits(total: &Tally) {
     let [insert, removal, node, own] = total.waits_at;
     assert!(
-        insert > 10_000 && removal > 10_000 && node > 10_000 && own > 300,
+        insert > 10_000 && removal > 5_000 && node > 5_000 && own > 300,
         "{total:?}"
     );
     assert_eq!(insert + removal + node + own, total.waits, "{total:?}");
@@ -70,6 +70,30 @@ fn assert_relaxed(relaxed: &Relaxed) {
     }
 }
 
+/// Removes began, took entries back and ended without one often, for each cause,
+/// and met other Removes and walks (document 02, W5).
+fn assert_removes(removes: &Removes) {
+    for count in [removes.begun, removes.tail, removes.other_key] {
+        assert!(count > 10_000, "{removes:?}");
+    }
+    for count in [
+        removes.future,
+        removes.marked,
+        removes.taken_back,
+        removes.unanswered,
+        removes.answered_late,
+        removes.marks_lost,
+        removes.lost_to_remove,
+        removes.beaten_walks,
+        removes.waits,
+    ] {
+        assert!(count > 1_000, "{removes:?}");
+    }
+    assert!(removes.read_on > 100 && removes.led_back > 100);
+    let ended = removes.taken_back + removes.not_there();
+    assert!(ended <= removes.begun && removes.taken_back <= removes.marked);
+}
+
 /// Every kind of answer and refusal but 31 came up, and often, and so did the
 /// rarer turns of an operation.
 fn assert_rich(total: &Tally) {
@@ -78,6 +102,7 @@ fn assert_rich(total: &Tally) {
     assert!(total.calls >= CALLS);
     assert_waits(total);
     assert_relaxed(&total.relaxed);
+    assert_removes(&total.removes);
     for count in [
         total.moved,
         total.waits,
@@ -96,7 +121,7 @@ fn assert_rich(total: &Tally) {
     for count in [total.moved_on, total.marks_lost, total.led_back] {
         assert!(count > 300, "{total:?}");
     }
-    for number in [2, 3, 4, 5, 6, 7, 9, 13] {
+    for number in [2, 3, 4, 5, 6, 7, 8, 9, 13] {
         assert!(total.refused[number] > 1000, "{total:?}");
     }
 }

@@ -107,7 +107,7 @@ fn a_history_fits_into_the_stated_areas() {
         }
     }
     println!("{fitted} areas with room, {short} without");
-    assert_eq!((fitted, short), (50, 52));
+    assert_eq!((fitted, short), (57, 59));
 }
 
 #[test]

@@ -3,7 +3,7 @@
 // every byte as it was. Bytes that are the image of no record are refused with 21.
 ghost use mathlib.Core.Path.{_≡_};
 ghost use Rattle.rules.specs.Calls.{called, beginInsert, beginDeleteMin, beginRelaxed};
-ghost use Rattle.rules.specs.Calls.{step as stepOf};
+ghost use Rattle.rules.specs.Calls.{beginRemove, step as stepOf};
 ghost use Rattle.host_calls.specs.Entries.{plainOutcome, onBytes, bytesAfter};
 use crate::replies::refusal;
 use image_call::call_at;
@@ -72,6 +72,25 @@ pub extern "C" fn darthog_begin_relaxed(image: &mut [u8], processor: u32) -> Pla
         (onBytes (now (image .entry)) (λ q. beginRelaxed q processor)) ⌝ }
 {
     call_on(image, Call::Relaxed(processor))
+}
+
+// The begin of a Remove by a processor (02, W5).
+#[no_mangle]
+pub extern "C" fn darthog_begin_remove(
+    image: &mut [u8],
+    processor: u32,
+    due: u32,
+    ticket: u32,
+) -> PlainAnswer
+    ensures { λ r.
+        ⌜ r ≡ plainOutcome
+        (onBytes (now (image .entry)) (λ q. beginRemove q processor due ticket)) ⌝ }
+    ensures { λ _.
+        ⌜ now (image .exit)
+        ≡ bytesAfter (now (image .entry))
+        (onBytes (now (image .entry)) (λ q. beginRemove q processor due ticket)) ⌝ }
+{
+    call_on(image, Call::Remove(processor, due, ticket))
 }
 
 // A step of a processor.

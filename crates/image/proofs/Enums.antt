@@ -11,15 +11,19 @@ use Rattle.record.specs.declared.nodes.Use.{Use}
 use Rattle.record.specs.declared.nodes.Use.the-variants as use′
 use Rattle.record.specs.declared.stages.Seek.the-variants as seek
 use Rattle.record.specs.declared.stages.Insert.the-variants as ins
+use Rattle.record.specs.declared.stages.Removal.{Removal}
 use Rattle.record.specs.declared.stages.Removal.the-variants as rem
+use Rattle.record.specs.declared.stages.Job.{Job}
 use Rattle.record.specs.declared.stages.Job.the-variants as jobs
 use Rattle.record.specs.declared.stages.Delete.the-variants as del
 use Rattle.record.specs.declared.stages.Relaxed.the-variants as rlx
+use Rattle.record.specs.declared.stages.Remove.the-variants as rmv
 use Rattle.record.specs.declared.stages.Stage.{Stage}
 use Rattle.record.specs.declared.stages.Stage.the-variants as stage
+use Rattle.record.specs.Stages.{jobNumber}
 use Rattle.image.specs.Tags.{Timed, Code, timed, timedSame, stampTimed, stampOf}
 use Rattle.image.specs.Tags.{useTimed, useOf, stampTaken, useTaken, code, codeSame, stageCode}
-use Rattle.image.specs.Tags.{stageOf, stageTaken}
+use Rattle.image.specs.Tags.{jobOf, stageOf, stageTaken}
 
 pub timed-same : (x : Timed) → timedSame x x ≡ true
 timed-same x =
@@ -51,30 +55,60 @@ use-taken s = rw (use-back s) (timed-same (useTimed s))
 
 pub code-same : (x : Code) → codeSame x x ≡ true
 code-same x =
-    and-both _ _
-    (and-both (eqb (x .tag) (x .tag)) (eqb (x .node) (x .node)) (eq-eqb (x .tag) (x .tag) refl)
-    (eq-eqb (x .node) (x .node) refl))
-    (and-both (eqb (x .level) (x .level)) (eqb (x .ahead) (x .ahead))
-    (eq-eqb (x .level) (x .level) refl) (eq-eqb (x .ahead) (x .ahead) refl))
+    rw (
+      eq-eqb (x .tag) (x .tag) refl,
+      eq-eqb (x .node) (x .node) refl,
+      eq-eqb (x .level) (x .level) refl,
+      eq-eqb (x .ahead) (x .ahead) refl,
+      eq-eqb (x .job) (x .job) refl,
+      eq-eqb (x .due) (x .due) refl,
+      eq-eqb (x .ticket) (x .ticket) refl,
+    )
+    refl
+
+-- two pairs of numbers that are the same
+pair-same : (a b c d : ℕ) → (eqb a b && eqb c d) ≡ true → (a ≡ b) × (c ≡ d)
+pair-same a b c d h = (
+  eqb-true a b (and-left (eqb a b) (eqb c d) h),
+  eqb-true c d (and-right (eqb a b) (eqb c d) h),
+)
 
 pub code-eq : (x y : Code) → codeSame x y ≡ true → x ≡ y
 code-eq x y h =
     let tn = eqb (x .tag) (y .tag) && eqb (x .node) (y .node) in
     let la = eqb (x .level) (y .level) && eqb (x .ahead) (y .ahead) in
-    let p = and-left tn la h in
-    let q = and-right tn la h in
-    let t : x .tag ≡ y .tag =
-    eqb-true _ _ (and-left (eqb (x .tag) (y .tag)) (eqb (x .node) (y .node)) p) in
-    let n : x .node ≡ y .node =
-    eqb-true _ _ (and-right (eqb (x .tag) (y .tag)) (eqb (x .node) (y .node)) p) in
-    let l : x .level ≡ y .level =
-    eqb-true _ _ (and-left (eqb (x .level) (y .level)) (eqb (x .ahead) (y .ahead)) q) in
-    let a : x .ahead ≡ y .ahead =
-    eqb-true _ _ (and-right (eqb (x .level) (y .level)) (eqb (x .ahead) (y .ahead)) q) in
-    ap (λ (v : ℕ). code v (x .node) (x .level) (x .ahead)) t
-    ∙ ap (λ (v : ℕ). code (y .tag) v (x .level) (x .ahead)) n
-    ∙ ap (λ (v : ℕ). code (y .tag) (y .node) v (x .ahead)) l
-    ∙ ap (λ (v : ℕ). code (y .tag) (y .node) (y .level) v) a
+    let key = eqb (x .due) (y .due) && eqb (x .ticket) (y .ticket) in
+    let j = eqb (x .job) (y .job) in
+    let placed = and-left (tn && la) (j && key) h in
+    let errand = and-right (tn && la) (j && key) h in
+    let p = pair-same (x .tag) (y .tag) (x .node) (y .node) (and-left tn la placed) in
+    let q = pair-same (x .level) (y .level) (x .ahead) (y .ahead) (and-right tn la placed) in
+    let e = eqb-true (x .job) (y .job) (and-left j key errand) in
+    let k = pair-same (x .due) (y .due) (x .ticket) (y .ticket) (and-right j key errand) in
+    let same :
+    code (x .tag) (x .node) (x .level) (x .ahead) (x .job) (x .due) (x .ticket)
+    ≡ code (y .tag) (y .node) (y .level) (y .ahead) (y .job) (y .due) (y .ticket) = cc in
+    same
+
+pub job-back : (j : Job) → jobOf (jobNumber j) ≡ j
+job-back jobs.Deliver = refl
+job-back jobs.TakeBack = refl
+
+removal-back : (j : Job) (r : Removal) →
+    stageOf (stageCode (stage.Removal j r)) ≡ stage.Removal (jobOf (jobNumber j)) r
+removal-back j (rem.Search a) = refl
+removal-back j rem.HoldNode = refl
+removal-back j (rem.Seek (seek.Approach a)) = refl
+removal-back j (rem.Seek (seek.Take a)) = refl
+removal-back j (rem.Seek (seek.Confirm a)) = refl
+removal-back j (rem.Seek (seek.Release a b)) = refl
+removal-back j (rem.HoldOwn a) = refl
+removal-back j (rem.Unlink a) = refl
+removal-back j (rem.LeadBack a) = refl
+removal-back j (rem.FreeOwn a) = refl
+removal-back j (rem.FreeLevel a) = refl
+removal-back j rem.FreeNode = refl
+removal-back j rem.Retire = refl
 
 pub stage-back : (s : Stage) → stageOf (stageCode s) ≡ s
 stage-back stage.Idle = refl
@@ -93,32 +127,39 @@ stage-back (stage.Delete (del.TestStamp a)) = refl
 stage-back (stage.Delete (del.SetMark a)) = refl
 stage-back (stage.Relaxed (rlx.ReadNext a)) = refl
 stage-back (stage.Relaxed (rlx.SetMark a)) = refl
-stage-back (stage.Removal jobs.Deliver (rem.Search a)) = refl
-stage-back (stage.Removal jobs.Deliver rem.HoldNode) = refl
-stage-back (stage.Removal jobs.Deliver (rem.Seek (seek.Approach a))) = refl
-stage-back (stage.Removal jobs.Deliver (rem.Seek (seek.Take a))) = refl
-stage-back (stage.Removal jobs.Deliver (rem.Seek (seek.Confirm a))) = refl
-stage-back (stage.Removal jobs.Deliver (rem.Seek (seek.Release a b))) = refl
-stage-back (stage.Removal jobs.Deliver (rem.HoldOwn a)) = refl
-stage-back (stage.Removal jobs.Deliver (rem.Unlink a)) = refl
-stage-back (stage.Removal jobs.Deliver (rem.LeadBack a)) = refl
-stage-back (stage.Removal jobs.Deliver (rem.FreeOwn a)) = refl
-stage-back (stage.Removal jobs.Deliver (rem.FreeLevel a)) = refl
-stage-back (stage.Removal jobs.Deliver rem.FreeNode) = refl
-stage-back (stage.Removal jobs.Deliver rem.Retire) = refl
+stage-back (stage.Remove w (rmv.Search a)) = refl
+stage-back (stage.Remove w (rmv.ReadNext a)) = refl
+stage-back (stage.Remove w (rmv.TestStamp a)) = refl
+stage-back (stage.Remove w (rmv.SetMark a)) = refl
+stage-back (stage.Removal j r) =
+    removal-back j r ∙ ap (λ (k : Job). stage.Removal k r) (job-back j)
 
 pub stage-taken : (s : Stage) → stageTaken (stageCode s) ≡ true
 stage-taken s = rw (stage-back s) (code-same (stageCode s))
 
--- some of what is refused: an unknown tag, a time where there is none, a place where the stage has none, a node of G3 at another stage
-unknown-stage : (n l b : ℕ) → stageTaken (code 29 n l b) ≡ false
-unknown-stage n l b = refl
+-- what a stage does not carry is written as 0
+idle-zeros : stageCode stage.Idle ≡ code 0 0 0 0 0 0 0
+idle-zeros = refl
 
-idle-with-a-place : stageTaken (code 0 1 1 0) ≡ false
+-- some of what is refused: an unknown tag or job, a time where there is none, a place where the
+-- stage has none, a node of G3, a job or a key at another stage
+unknown-stage : (n l b j d t : ℕ) → stageTaken (code 33 n l b j d t) ≡ false
+unknown-stage n l b j d t = refl
+
+unknown-job : stageTaken (code 26 0 0 0 2 0 0) ≡ false
+unknown-job = refl
+
+idle-with-a-place : stageTaken (code 0 1 1 0 0 0 0) ≡ false
 idle-with-a-place = refl
 
-search-with-the-node-of-g3 : stageTaken (code 1 3 1 7) ≡ false
+search-with-the-node-of-g3 : stageTaken (code 1 3 1 7 0 0 0) ≡ false
 search-with-the-node-of-g3 = refl
+
+walk-with-a-job : stageTaken (code 30 3 1 0 1 5 7) ≡ false
+walk-with-a-job = refl
+
+removal-with-a-key : stageTaken (code 14 3 1 0 1 5 7) ≡ false
+removal-with-a-key = refl
 
 unknown-stamp : (t : ℕ) → stampTaken (timed 2 t) ≡ false
 unknown-stamp t = refl

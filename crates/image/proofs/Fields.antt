@@ -13,7 +13,7 @@ use Rattle.record.specs.declared.queues.Processor.{Processor}
 use Rattle.record.specs.Limits.{maxProcessors, nodeSlots}
 use Rattle.record.specs.Nodes.{freshNode}
 use Rattle.record.specs.Queues.{freshProcessor, nodeAt, processorAt}
-use Rattle.image.specs.Tags.{timed, stampOf, useOf, code, stageOf}
+use Rattle.image.specs.Tags.{Code, timed, stampOf, useOf, code, stageOf}
 use Rattle.image.specs.Numbers.{number32}
 use Rattle.image.specs.Pieces.{readNode, readProcessor}
 use Rattle.image.proofs.Parts.{getD-listed}
@@ -41,15 +41,14 @@ nodeFrom f = record {
   state = useOf (timed (f 36) (number f 37));
 }
 
+-- the numbers of a processor's stage
+abbrev pub codeFrom : (ℕ → ℕ) → Code
+codeFrom f = code (f 5) (f 6) (f 7) (f 8) (f 17) (number f 18) (number f 22)
+
 abbrev pub processorFrom : (ℕ → ℕ) → Processor
 processorFrom f =
-    record {
-      begin = number f 0;
-      own = f 4;
-      stage = stageOf (code (f 5) (f 6) (f 7) (f 8));
-      saved =
-          eightFrom f 9;
-    }
+    record
+    { begin = number f 0; own = f 4; stage = stageOf (codeFrom f); saved = eightFrom f 9 }
 
 -- the bytes of a part, 0 past its end
 pub part-bytes : (b : List ℕ) (w o : ℕ) →
@@ -93,9 +92,10 @@ module _ (b : List ℕ) where
       ∙ ap (λ (o : ℕ). nodeFrom (piece b (o + 41 * x))) (sym start)
 
   pub processor-is : (p : ℕ) → getD b 0 0 ≤ 16 → p < getD b 0 0 → processorAt (queueIn b) p
-      ≡ processorFrom (piece b (7 + 17 * p))
+      ≡ processorFrom (piece b (7 + 26 * p))
   processor-is p n h =
-      processor-at p n h ∙ read-processor (processorPart b p) ∙ ap processorFrom (part-bytes b 17 (7 + 17 * p))
+      processor-at p n h ∙ read-processor (processorPart b p)
+      ∙ ap processorFrom (part-bytes b 26 (7 + 26 * p))
 
 -- one of eight bytes
 pub eight-at : (f : ℕ → ℕ) (j k : ℕ) → k < 8 → getD (eightFrom f j) k 0 ≡ f (j + k)

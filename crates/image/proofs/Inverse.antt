@@ -34,18 +34,19 @@ module _ (q : Queue) where
   pub processor-part : (p : ℕ) → p < q .processorCount → processorPart (imageOf q) p
       ≡ processorImage (processorAt q p)
   processor-part p h =
-      rw (sym (drop-drop (17 * p) 7 (imageOf q)))
-      (joined-part (λ k. processorImage (processorAt q k)) 17
+      rw (sym (drop-drop (26 * p) 7 (imageOf q)))
+      (joined-part (λ k. processorImage (processorAt q k)) 26
       (λ k. length-processor (processorAt q k)) (q .processorCount) p
       (nodesImage q (q .nodeCount + 2)) h)
 
   node-part : (x : ℕ) → x < q .nodeCount + 2 → nodePart (imageOf q) x ≡ nodeImage (nodeAt q x)
   node-part x h =
-      let cut : drop (7 + 17 * q .processorCount) (imageOf q) ≡ nodesImage q (q .nodeCount + 2) ++ [] =
+      let cut : drop (7 + 26 * q .processorCount) (imageOf q)
+      ≡ nodesImage q (q .nodeCount + 2) ++ [] =
       drop-at (headed q ++ processorsImage q (q .processorCount)) (nodesImage q (q .nodeCount + 2))
-      (7 + 17 * q .processorCount) (length-front q)
+      (7 + 26 * q .processorCount) (length-front q)
       ∙ sym (append-nil (nodesImage q (q .nodeCount + 2))) in
-      rw (sym (drop-drop (41 * x) (7 + 17 * q .processorCount) (imageOf q)), cut)
+      rw (sym (drop-drop (41 * x) (7 + 26 * q .processorCount) (imageOf q)), cut)
       (joined-part (λ k. nodeImage (nodeAt q k)) 41 (λ k. length-node (nodeAt q k))
       (q .nodeCount + 2) x [] h)
 
@@ -162,8 +163,8 @@ module _ (b : List ℕ) (low : Bytes b) (is : IsImage b) where
       ≡ processorPart b p
   kept-processor p h =
       ap processorImage (processor-at b p (is .few) h)
-      ∙ processor-kept (processorPart b p) (part-low b low 17 (7 + 17 * p))
-      (part-long b 17 (7 + 17 * p) (omega (arith, is .long)))
+      ∙ processor-kept (processorPart b p) (part-low b low 26 (7 + 26 * p))
+      (part-long b 26 (7 + 26 * p) (omega (arith, is .long)))
       (all-at (λ k. readProcessor (processorPart b k) .ok) (getD b 0 0) p (is .called) h)
 
   node-same-bytes : (x : ℕ) → x < getD b 1 0 + 2 → nodeImage (nodeAt (queueIn b) x) ≡ nodePart b x
@@ -182,12 +183,12 @@ module _ (b : List ℕ) (low : Bytes b) (is : IsImage b) where
   unfolding queueIn
   write-read =
       let c = joined-same (λ p. processorImage (processorAt (queueIn b) p)) (processorPart b)
-      (getD b 0 0) kept-processor ∙ joined-parts b 17 7 (getD b 0 0) in
+      (getD b 0 0) kept-processor ∙ joined-parts b 26 7 (getD b 0 0) in
       let n = joined-same (λ x. nodeImage (nodeAt (queueIn b) x)) (nodePart b) (getD b 1 0 + 2)
       node-same-bytes ∙ joined-parts b 41 (startOf b) (getD b 1 0 + 2) in
       joined-up header-same c n
       ∙ ap (λ (r : List ℕ). r ++ take (41 * (getD b 1 0 + 2)) (drop (startOf b) b))
-      (sym (take-add 7 (17 * getD b 0 0) b))
+      (sym (take-add 7 (26 * getD b 0 0) b))
       ∙ sym (take-add (startOf b) (41 * (getD b 1 0 + 2)) b)
       ∙ take-all (lengthOf b) b (omega (arith, is .long))
     where

@@ -16,7 +16,7 @@ pub length-node : (n : Node) → length (nodeImage n) ≡ 41
 unfolding nodeImage
 length-node n = refl
 
-pub length-processor : (c : Processor) → length (processorImage c) ≡ 17
+pub length-processor : (c : Processor) → length (processorImage c) ≡ 26
 unfolding processorImage
 length-processor c = refl
 
@@ -24,16 +24,17 @@ pub length-nodes : (q : Queue) (i : ℕ) → length (nodesImage q i) ≡ 41 * i
 length-nodes q i =
     length-joined (λ k. nodeImage (nodeAt q k)) 41 (λ k. length-node (nodeAt q k)) i
 
-pub length-processors : (q : Queue) (p : ℕ) → length (processorsImage q p) ≡ 17 * p
+pub length-processors : (q : Queue) (p : ℕ) → length (processorsImage q p) ≡ 26 * p
 length-processors q p =
-    length-joined (λ k. processorImage (processorAt q k)) 17
+    length-joined (λ k. processorImage (processorAt q k)) 26
     (λ k. length-processor (processorAt q k)) p
 
 abbrev pub headed : Queue → List ℕ
 headed q = headerImage (q .processorCount) (q .nodeCount) (q .levelCount) (q .clock)
 
 pub length-front :
-    (q : Queue) → length (headed q ++ processorsImage q (q .processorCount)) ≡ 7 + 17 * q .processorCount
+    (q : Queue) → length (headed q ++ processorsImage q (q .processorCount))
+    ≡ 7 + 26 * q .processorCount
 length-front q =
     length-append (headed q) (processorsImage q (q .processorCount))
     ∙ ap (λ (k : ℕ). 7 + k) (length-processors q (q .processorCount))

@@ -10,8 +10,8 @@ use Rattle.record.specs.declared.queues.Processor.{Processor}
 use Rattle.image.specs.Numbers.{bytesOf32, number32, eight}
 use Rattle.image.specs.Tags.{stampTimed, stampOf, stampTaken, useTimed, useOf, useTaken}
 use Rattle.image.specs.Tags.{Code, stageCode, stageOf}
-use Rattle.image.specs.Pieces.{timedBytes, timedAt, codeBytes, codeAt, nodeImage, readNode}
-use Rattle.image.specs.Pieces.{processorImage, readProcessor}
+use Rattle.image.specs.Pieces.{timedBytes, timedAt, codeBytes, errandBytes, codeAt}
+use Rattle.image.specs.Pieces.{nodeImage, readNode, processorImage, readProcessor}
 use Rattle.image.specs.OneToOne.{Bytes}
 use Rattle.image.proofs.Bytes.{number-back, four-back, from-whole, eight-back}
 use Rattle.image.proofs.Enums.{timed-eq, stamp-back}
@@ -46,11 +46,13 @@ unfolding processorImage readProcessor
 processor-back c saved =
     rw (
       number-back (c .begin),
+      number-back (stageCode (c .stage) .due),
+      number-back (stageCode (c .stage) .ticket),
       stage-taken (c .stage),
       stage-back (c .stage),
-      eight-back
-          (c .saved) saved,
-    ) refl
+      eight-back (c .saved) saved,
+    )
+    refl
 
 -- what is written of what is read and taken: the bytes of a node, but for the pieces that are not single bytes
 glued : List ℕ → List ℕ → List ℕ → List ℕ → List ℕ → List ℕ → List ℕ
@@ -62,6 +64,16 @@ module _ (b : List ℕ) (s s′ d d′ t t′ i i′ u u′ : List ℕ) where
   glued-same :
       s ≡ s′ → d ≡ d′ → t ≡ t′ → i ≡ i′ → u ≡ u′ → glued b s d t i u ≡ glued b s′ d′ t′ i′ u′
   glued-same es ed et ei eu = rw (es, ed, et, ei, eu) refl
+
+-- the same of a processor: its begin, and a Remove's due and ticket
+joint : List ℕ → List ℕ → List ℕ → List ℕ → List ℕ
+joint b t d k =
+    t ++ (getD b 4 0 ∷ []) ++ codeBytes (codeAt b) ++ eight (eight b 9) 0
+    ++ ((getD b 17 0 ∷ []) ++ d ++ k)
+
+module _ (b t t′ d d′ k k′ : List ℕ) where
+  joint-same : t ≡ t′ → d ≡ d′ → k ≡ k′ → joint b t d k ≡ joint b t′ d′ k′
+  joint-same et ed ek = rw (et, ed, ek) refl
 
 module _ (b : List ℕ) (low : Bytes b) where
   pub node-kept : length b ≡ 41 → readNode b .ok ≡ true → nodeImage (readNode b .node) ≡ b
@@ -81,13 +93,12 @@ module _ (b : List ℕ) (low : Bytes b) where
       (ap timedBytes u ∙ ap (λ (r : List ℕ). getD b 36 0 ∷ r) (four-back b low 37))
       ∙ from-whole b 41 long
 
-  pub processor-kept : length b ≡ 17 → readProcessor b .ok ≡ true →
+  pub processor-kept : length b ≡ 26 → readProcessor b .ok ≡ true →
       processorImage (readProcessor b .processor) ≡ b
-  unfolding processorImage readProcessor
+  unfolding processorImage readProcessor joint
   processor-kept long ok =
-      let e = code-eq (stageCode (stageOf (codeAt b 5))) (codeAt b 5) ok in
+      let e = code-eq (stageCode (stageOf (codeAt b))) (codeAt b) ok in
       ap (λ (x : Code). bytesOf32 (number32 b 0) ++ (getD b 4 0 ∷ []) ++ codeBytes x ++ eight
-      (eight b 9) 0) e
-      ∙ ap (λ (r : List ℕ). r ++ (getD b 4 0 ∷ []) ++ codeBytes (codeAt b 5) ++ eight (eight b 9) 0)
-      (four-back b low 0)
-      ∙ from-whole b 17 long
+      (eight b 9) 0 ++ errandBytes x) e
+      ∙ joint-same b _ _ _ _ _ _ (four-back b low 0) (four-back b low 18) (four-back b low 22)
+      ∙ from-whole b 26 long

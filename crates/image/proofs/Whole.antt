@@ -54,17 +54,17 @@ withClock q t =
 
 module _ (q : Queue) (es : List (ℕ × ℕ)) where
   pub put-processor :
-      (p : ℕ) (c : Processor) → p < q .processorCount → p < length (q .processors) → Below 17 es →
+      (p : ℕ) (c : Processor) → p < q .processorCount → p < length (q .processors) → Below 26 es →
       putsIn (processorImage (processorAt q p)) es ≡ processorImage c →
-      puts (imageOf q) (7 + 17 * p) es ≡ imageOf (withProcessor q p c)
+      puts (imageOf q) (7 + 26 * p) es ≡ imageOf (withProcessor q p c)
   put-processor p c low long fits here =
-      ap (λ (r : List ℕ). puts r (7 + 17 * p) es)
+      ap (λ (r : List ℕ). puts r (7 + 26 * p) es)
       (append-assoc (headed q) (processorsImage q (q .processorCount)) (nodesImage q (q .nodeCount + 2)))
       ∙ puts-after (headed q) (processorsImage q (q .processorCount) ++ nodesImage q (q .nodeCount + 2)) 7
-      (17 * p) es refl
+      (26 * p) es refl
       ∙ ap (λ (r : List ℕ). headed q ++ r)
       (puts-piece (λ k. processorImage (processorAt q k))
-      (λ k. processorImage (processorAt (withProcessor q p c) k)) 17
+      (λ k. processorImage (processorAt (withProcessor q p c) k)) 26
       (λ k. length-processor (processorAt q k)) p es fits
       (here ∙ ap processorImage (sym (getD-set-same (q .processors) p c freshProcessor long)))
       (λ k ne. ap processorImage (sym (getD-set-other (q .processors) p k c freshProcessor ne)))
@@ -73,7 +73,7 @@ module _ (q : Queue) (es : List (ℕ × ℕ)) where
       (nodesImage q (q .nodeCount + 2)))
 
   pub put-node :
-      (base x : ℕ) (n : Node) → base ≡ 7 + 17 * q .processorCount → x < q .nodeCount + 2 →
+      (base x : ℕ) (n : Node) → base ≡ 7 + 26 * q .processorCount → x < q .nodeCount + 2 →
       x < length (q .nodes) → Below 41 es →
       putsIn (nodeImage (nodeAt q x)) es ≡ nodeImage n →
       puts (imageOf q) (base + 41 * x) es ≡ imageOf (withNode q x n)

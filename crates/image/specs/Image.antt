@@ -3,8 +3,8 @@
 --
 --              0  P, N and L               1 byte each
 --              3  clock                    4 bytes
---              7  processor 0 to P - 1     17 bytes each, specs/Pieces.antt
---   7 + 17 * P    node 0 to node N + 1     41 bytes each
+--              7  processor 0 to P - 1     26 bytes each, specs/Pieces.antt
+--   7 + 26 * P    node 0 to node N + 1     41 bytes each
 --
 -- Slots past P and N + 1 are not in the bytes: the record that bytes are read as has them as they
 -- are made. Bytes are an image only where they are that of the record that they are read as.

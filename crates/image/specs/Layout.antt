@@ -1,16 +1,17 @@
--- Where the parts of an image stand: 7 bytes for the sizes and the clock, then the processors, 17
+-- Where the parts of an image stand: 7 bytes for the sizes and the clock, then the processors, 26
 -- bytes each, then the nodes, 41 bytes each. specs/Pieces.antt has what stands in each of them.
 -- src/layout.rt has these numbers for the code.
 use Prim.Native.Nat.{ℕ, _+_, _*_}
 use mathlib.Core.List.{List}
 use lib.ListN.{getD}
 use Rattle.record.specs.Limits.{maxProcessors, maxNodes}
+use Rattle.image.specs.Numbers.{number32}
 
 abbrev pub headerBytes : ℕ
 headerBytes = 7
 
 abbrev pub processorBytes : ℕ
-processorBytes = 17
+processorBytes = 26
 
 abbrev pub nodeBytes : ℕ
 nodeBytes = 41
@@ -38,3 +39,10 @@ placeIn b p = getD b (processorStart p + 6) 0
 
 abbrev pub levelIn : List ℕ → ℕ → ℕ
 levelIn b p = getD b (processorStart p + 7) 0
+
+-- the due minute and the ticket that a Remove carries
+abbrev pub wantedDueIn : List ℕ → ℕ → ℕ
+wantedDueIn b p = number32 b (processorStart p + 18)
+
+abbrev pub wantedTicketIn : List ℕ → ℕ → ℕ
+wantedTicketIn b p = number32 b (processorStart p + 22)

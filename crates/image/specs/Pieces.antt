@@ -1,6 +1,6 @@
 -- The image of one node and of one processor, and how they are read back.
 --
---   node, 41 bytes                            processor, 17 bytes
+--   node, 41 bytes                            processor, 26 bytes
 --      0  forward, by level       8 bytes        0  begin              4 bytes
 --      8  locks, by level         8              4  own node           1
 --     16  node lock               1              5  stage: tag         1
@@ -8,9 +8,9 @@
 --     18  stamp: tag              1              7         place level 1
 --     19         time             4              8         node of G3  1
 --     23  due                     4              9  saved, by level    8
---     27  ticket                  4
---     31  item                    4
---     35  height                  1
+--     27  ticket                  4             17  a removal's job    1
+--     31  item                    4             18  a Remove's due     4
+--     35  height                  1             22  a Remove's ticket  4
 --     36  use: tag                1
 --     37       time               4
 use Prim.Native.Nat.{ℕ, _+_}
@@ -38,11 +38,17 @@ timedBytes x = x .tag ∷ bytesOf32 (x .time)
 abbrev pub timedAt : List ℕ → ℕ → Timed
 timedAt b i = timed (getD b i 0) (number32 b (i + 1))
 
+-- a stage stands in two parts of a processor
 abbrev pub codeBytes : Code → List ℕ
 codeBytes x = x .tag ∷ x .node ∷ x .level ∷ x .ahead ∷ []
 
-abbrev pub codeAt : List ℕ → ℕ → Code
-codeAt b i = code (getD b i 0) (getD b (i + 1) 0) (getD b (i + 2) 0) (getD b (i + 3) 0)
+abbrev pub errandBytes : Code → List ℕ
+errandBytes x = (x .job ∷ []) ++ bytesOf32 (x .due) ++ bytesOf32 (x .ticket)
+
+abbrev pub codeAt : List ℕ → Code
+codeAt b =
+    code (getD b 5 0) (getD b 6 0) (getD b 7 0) (getD b 8 0) (getD b 17 0) (number32 b 18)
+    (number32 b 22)
 
 abbrev pub linksImage : Node → List ℕ
 linksImage n =
@@ -80,12 +86,16 @@ readNode b = record {
 
 unfoldable pub processorImage : Processor → List ℕ
 processorImage c =
-    bytesOf32 (c .begin) ++ (c .own ∷ []) ++ codeBytes (stageCode (c .stage)) ++ eight (c .saved) 0
+    bytesOf32 (c .begin)
+    ++ (c .own ∷ [])
+    ++ codeBytes (stageCode (c .stage))
+    ++ eight (c .saved) 0
+    ++ errandBytes (stageCode (c .stage))
 
--- the processor in 17 bytes, and whether they are taken: the stage is one that is written
+-- the processor in 26 bytes, and whether they are taken: the stage is one that is written
 unfoldable pub readProcessor : List ℕ → ProcessorRead
 readProcessor b = record {
-  ok = stageTaken (codeAt b 5);
+  ok = stageTaken (codeAt b);
   processor = record
-      { begin = number32 b 0; own = getD b 4 0; stage = stageOf (codeAt b 5); saved = eight b 9 };
+      { begin = number32 b 0; own = getD b 4 0; stage = stageOf (codeAt b); saved = eight b 9 };
 }

@@ -29,3 +29,7 @@ clears (suc k) = clears k ++ ((9 + k, 0) ∷ [])
 -- zeros for its begin, its own node and its stage
 abbrev pub rests : List (ℕ × ℕ)
 rests = (0, 0) ∷ (1, 0) ∷ (2, 0) ∷ (3, 0) ∷ (4, 0) ∷ (5, 0) ∷ (6, 0) ∷ (7, 0) ∷ (8, 0) ∷ []
+
+-- the key that a Remove carries; zeros where it carries none any more
+abbrev pub wants : ℕ → ℕ → List (ℕ × ℕ)
+wants due ticket = four 18 due ++ four 22 ticket

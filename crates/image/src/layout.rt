@@ -7,7 +7,7 @@ use record::limits::MAX_PROCESSORS;
 
 pub const HEADER: usize = 7;
 
-pub const PROCESSOR_BYTES: usize = 17;
+pub const PROCESSOR_BYTES: usize = 26;
 
 pub const NODE_BYTES: usize = 41;
 

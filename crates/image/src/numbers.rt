@@ -4,7 +4,7 @@ ghost use mathlib.Core.List.{_++_};
 ghost use Prim.Native.Nat.{_+_, _≤_, _<_};
 ghost use lib.ListN.{length};
 ghost use Rattle.image.specs.Numbers.{number32};
-ghost use Rattle.image.specs.Puts.{puts, four, clears, rests};
+ghost use Rattle.image.specs.Puts.{puts, four, clears, rests, wants};
 ghost use Rattle.image.specs.Layout.{headerBytes, maxImageLength, processorBytes};
 ghost use Rattle.record.specs.Limits.{maxLevels, maxNumber};
 use crate::header;
@@ -41,6 +41,15 @@ pub fn put_number(b: &mut [u8], o: usize, j: usize, v: u32)
     b[o + (j + 1)] = (v / 256 % 256) as u8;
     b[o + (j + 2)] = (v / 65536 % 256) as u8;
     b[o + (j + 3)] = (v / 16777216) as u8;
+}
+
+// The key that a Remove carries, in the bytes of the processor at o; 0 and 0 where it ends.
+pub fn put_wanted(b: &mut [u8], o: usize, due: u32, ticket: u32)
+    requires { ⌜ (o + processorBytes ≤ length (now b)) × (length (now b) ≤ maxImageLength) ⌝ }
+    ensures { λ _. ⌜ now (b .exit) ≡ puts (now (b .entry)) o (wants due ticket) ⌝ }
+{
+    put_number(b, o, processor::WANTED_DUE, due);
+    put_number(b, o, processor::WANTED_TICKET, ticket);
 }
 
 // An idle processor's bytes; the saved nodes of the levels past l stay.

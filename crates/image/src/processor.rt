@@ -15,3 +15,15 @@ pub const AHEAD: usize = 8;
 
 // The saved nodes, by level.
 pub const SAVED: usize = 9;
+
+// A removal's job, and the due minute and the ticket that a Remove carries; each 0 at other stages.
+pub const JOB: usize = 17;
+
+pub const WANTED_DUE: usize = 18;
+
+pub const WANTED_TICKET: usize = 22;
+
+// The job's numbers: the entry is handed out, or taken back.
+pub const DELIVER: u8 = 0;
+
+pub const TAKE_BACK: u8 = 1;

@@ -47,5 +47,14 @@ pub const RELAXED_READ_NEXT: u8 = 27;
 
 pub const RELAXED_SET_MARK: u8 = 28;
 
+// A Remove: its Search, the read of the next node, the test of the stamp, the mark.
+pub const REMOVE_SEARCH: u8 = 29;
+
+pub const REMOVE_READ_NEXT: u8 = 30;
+
+pub const REMOVE_TEST_STAMP: u8 = 31;
+
+pub const REMOVE_SET_MARK: u8 = 32;
+
 // How many there are.
-pub const COUNT: usize = 29;
+pub const COUNT: usize = 33;

@@ -239,17 +239,17 @@ module _ (b : List ℕ) (base : ℕ) (p : Based b base) (s : Sound b) where
           (used-here used) t (f ∙ ap endOf word-here) l)
 
 module _ (b : List ℕ) (p : ℕ) (many : getD b 0 0 ≤ 16) (low : p < getD b 0 0) where
-  pub after-idle : (t : ℕ) → getD b (7 + 17 * p + 5) 0 ≡ 0 → true
+  pub after-idle : (t : ℕ) → getD b (7 + 26 * p + 5) 0 ≡ 0 → true
       ≡ beganAfter t (processorAt (queueIn b) p .stage) (processorAt (queueIn b) p .begin)
-  after-idle t h = sym (rw (idle-is b p many low, eq-eqb (getD b (7 + 17 * p + 5) 0) 0 h) refl)
+  after-idle t h = sym (rw (idle-is b p many low, eq-eqb (getD b (7 + 26 * p + 5) 0) 0 h) refl)
 
   pub after-busy :
-      (t : ℕ) → (getD b (7 + 17 * p + 5) 0 ≡ 0 → ⊥) → ltb t (number32 b (7 + 17 * p + 0))
+      (t : ℕ) → (getD b (7 + 26 * p + 5) 0 ≡ 0 → ⊥) → ltb t (number32 b (7 + 26 * p + 0))
       ≡ beganAfter t (processorAt (queueIn b) p .stage) (processorAt (queueIn b) p .begin)
   after-busy t h =
-      sym (rw (idle-is b p many low, ne-eqb (getD b (7 + 17 * p + 5) 0) 0 h)
+      sym (rw (idle-is b p many low, ne-eqb (getD b (7 + 26 * p + 5) 0) 0 h)
       (ap (λ (c : Processor). ltb t (c .begin)) (processor-is b p many low)
-      ∙ rw (number-at b (7 + 17 * p) 0) refl))
+      ∙ rw (number-at b (7 + 26 * p) 0) refl))
 
 -- after the last node
 module _ (b : List ℕ) (i best least : ℕ) (all : i ≡ getD b 1 0)

@@ -20,21 +20,23 @@ use image::layout::HEADER;
 use image::layout::NODE_BYTES;
 use image::layout::PROCESSOR_BYTES;
 use image::numbers::number_from;
+use image::numbers::put_wanted;
 use image::numbers::tick;
 use image::tag;
 use image_parts::refused::refusal_at;
 use rules::Answer;
 use rules::Call;
 
-// A walk begins at the head, on level 1; `first` is the tag of its W1.
-fn begin_walk(image: &mut [u8], processor: u32, first: u8) -> Answer
+// An operation that takes no node begins at the head, on this level; `first` is its first stage's
+// tag.
+fn begin_walk(image: &mut [u8], processor: u32, first: u8, level: u8) -> Answer
     requires { ⌜ Sound (now image) × (processor < getD (now image) 0 0)
         × (number32 (now image) 3 < maxNumber) ⌝ }
     ensures { λ r. ⌜ r ≡ ans.Began (number32 (now (image .entry)) 3 + 1) ⌝ }
     ensures { λ _.
         ⌜ now (image .exit)
         ≡ puts (puts (now (image .entry)) 0 (four 3 (number32 (now (image .entry)) 3 + 1)))
-        (processorStart processor) (begun (number32 (now (image .entry)) 3 + 1) 0 first 1) ⌝ }
+        (processorStart processor) (begun (number32 (now (image .entry)) 3 + 1) 0 first level) ⌝ }
 {
     let time = number_from(image, header::CLOCK) + 1;
     tick(image);
@@ -44,7 +46,7 @@ fn begin_walk(image: &mut [u8], processor: u32, first: u8) -> Answer
         time,
         0,
         first,
-        1,
+        level,
     );
     Answer::Began(time)
 }
@@ -59,7 +61,7 @@ pub fn begin_delete_min_at(image: &mut [u8], processor: u32) -> Answer
     if 0 < refusal {
         return Answer::Refused(refusal);
     }
-    begin_walk(image, processor, tag::READ_NEXT)
+    begin_walk(image, processor, tag::READ_NEXT, 1)
 }
 
 // The begin of a Relaxed Delete_Min (02, W3).
@@ -72,7 +74,24 @@ pub fn begin_relaxed_at(image: &mut [u8], processor: u32) -> Answer
     if 0 < refusal {
         return Answer::Refused(refusal);
     }
-    begin_walk(image, processor, tag::RELAXED_READ_NEXT)
+    begin_walk(image, processor, tag::RELAXED_READ_NEXT, 1)
+}
+
+// The begin of a Remove (02, W5): its Search, with the key of the entry that it takes back.
+pub fn begin_remove_at(image: &mut [u8], processor: u32, due: u32, ticket: u32) -> Answer
+    requires { ⌜ Sound (now image) ⌝ }
+    ensures { λ r.
+        ⌜ Called (now (image .entry)) (call.Remove processor due ticket) (now (image .exit)) r ⌝ }
+{
+    let refusal = refusal_at(image, Call::Remove(processor, due, ticket));
+    if 0 < refusal {
+        return Answer::Refused(refusal);
+    }
+    let l = image[header::LEVEL_COUNT];
+    let began = begin_walk(image, processor, tag::REMOVE_SEARCH, l);
+    let at = HEADER + PROCESSOR_BYTES * (processor as usize);
+    put_wanted(image, at, due, ticket);
+    began
 }
 
 // The begin of an Insert.

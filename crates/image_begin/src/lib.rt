@@ -6,3 +6,4 @@ pub mod stores;
 pub use begins::begin_delete_min_at;
 pub use begins::begin_insert_at;
 pub use begins::begin_relaxed_at;
+pub use begins::begin_remove_at;

@@ -5,6 +5,7 @@ ghost use Rattle.image_parts.specs.Given.{Called};
 use image_begin::begin_delete_min_at;
 use image_begin::begin_insert_at;
 use image_begin::begin_relaxed_at;
+use image_begin::begin_remove_at;
 use image_step::step_at;
 use rules::Answer;
 use rules::Call;
@@ -19,6 +20,7 @@ pub fn call_at(image: &mut [u8], c: Call) -> Answer
         }
         Call::DeleteMin(p) => return begin_delete_min_at(image, p),
         Call::Relaxed(p) => return begin_relaxed_at(image, p),
+        Call::Remove(p, due, ticket) => return begin_remove_at(image, p, due, ticket),
         Call::Step(p) => return step_at(image, p),
     }
 }

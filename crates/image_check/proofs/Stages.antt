@@ -9,10 +9,14 @@ use lib.Dec.{eqb, leb}
 use borrow.Author.Tests.{eq-eqb, ne-eqb, le-leb, lt-leb, leb-true, eqb-true, eqb-false, not-true}
 use Rattle.laws.proofs.Counting.{and-left, and-right, every-at}
 use Rattle.record_check.specs.declared.check.Sizes.{Sizes}
-use Rattle.record_check.specs.Check.{within, carriedValid}
-use Rattle.record.specs.Stages.{Row, place, rowOf, carriedOf, carried}
-use Rattle.image.specs.Tags.{code, codeOf, codeSame, stageOf, stageTaken}
-use Rattle.image_check.specs.Bounds.{rowAt, between, inBounds}
+use Rattle.record.specs.declared.stages.Wanted.{Wanted}
+use Rattle.record_check.specs.Check.{within, ownValid, placeValid, markingValid, wantedValid}
+use Rattle.record_check.specs.Check.{carriedValid}
+use Rattle.record.specs.Limits.{maxNumber}
+use Rattle.record.specs.Stages.{Row, place, wantedOf, noneWanted, jobNumber, rowOf, carriedOf}
+use Rattle.record.specs.Stages.{carried}
+use Rattle.image.specs.Tags.{Code, code, codeOf, codeSame, jobOf, stageOf, stageTaken}
+use Rattle.image_check.specs.Bounds.{rowAt, between, inBounds, errandInBounds}
 
 pub flip : (a b : ℕ) → eqb a b ≡ eqb b a
 flip a b = go (eqb a b) refl
@@ -93,7 +97,8 @@ lower a n = go (within a n) refl
         rw (le-leb a (n + 1) (omega arith)) refl
     go false e = and-false (leb a (n + 1))
 
--- a row with these columns, for the numbers a, i, x
+-- a row with these columns, for the numbers a, i, x; the columns removes and seeks with them, for
+-- the numbers job, due and ticket
 module _ (s : Sizes) (t a i x own : ℕ) (tall : 1 ≤ s .levelCount) where
   abbrev line : Bool → Bool → Bool → Bool → Row
   line owns placed marks releases = record {
@@ -108,10 +113,27 @@ module _ (s : Sizes) (t a i x own : ℕ) (tall : 1 ≤ s .levelCount) where
     place = cond placed (place a i) (place 0 1);
     releases = releases;
     ahead = cond releases x 0;
+    removes = false;
+    job = 0;
+    seeks = false;
+    wanted = noneWanted;
   }
 
+  -- what is read and what is asked of the place, the node of G3 and the own node
+  abbrev placeSame : Row → Bool
+  placeSame r =
+      (eqb (codeOf r .tag) t && eqb (codeOf r .node) a)
+      && (eqb (codeOf r .level) i && eqb (codeOf r .ahead) x)
+
+  abbrev placeAsked : Row → Bool
+  placeAsked r =
+      ownValid s (carriedOf r .own) own
+      && placeValid s (carriedOf r .place)
+      && leb (carriedOf r .ahead) (s .nodeCount + 1)
+      && markingValid s (carriedOf r .marking) (carriedOf r .place .node)
+
   abbrev taken : Row → Bool
-  taken r = codeSame (codeOf r) (code t a i x) && carriedValid s (carriedOf r) own
+  taken r = placeSame r && placeAsked r
 
   abbrev A : Bool
   A = leb a (s .nodeCount + 1)
@@ -179,6 +201,48 @@ module _ (s : Sizes) (t a i x own : ℕ) (tall : 1 ≤ s .levelCount) where
       (λ a i x O u. i && x && a && O) refl (leb a 0) (leb i 0) X (owned o) true)
   line-tests o false true e h = absurd (false≢true (h refl))
 
+-- the same of the job and the key
+module _ (job due ticket : ℕ) where
+  abbrev keySame : Row → Bool
+  keySame r = eqb (codeOf r .due) due && eqb (codeOf r .ticket) ticket
+
+  job-tests : (r : Bool) (n : ℕ) → eqb (cond r (jobNumber (jobOf n)) 0) n ≡ leb n (cond r 1 0)
+  job-tests false n = zero-low n
+  job-tests true zero = refl
+  job-tests true (suc zero) = refl
+  job-tests true (suc (suc n)) =
+      rw (
+        ne-eqb (suc (suc n)) 0 (λ e. omega arith),
+        ne-eqb 1 (suc (suc n)) (λ e. omega arith),
+        lt-leb (suc (suc n)) 1 (omega arith),
+      )
+      refl
+
+  -- with this column of the table
+  abbrev sought : Bool → Wanted
+  sought k = cond k (wantedOf due ticket) noneWanted
+
+  key-tests :
+      (k : Bool) →
+      (eqb (cond k (sought k .due) 0) due && eqb (cond k (sought k .ticket) 0) ticket
+      && wantedValid (sought k))
+      ≡ (leb due (cond k maxNumber 0) && between (cond k 1 0) ticket (cond k maxNumber 0))
+  key-tests true = rw (same due, same ticket) refl
+  key-tests false =
+      rw (zero-low due, zero-low ticket, le-leb 0 ticket (omega arith))
+      (all-ways (λ d k u v w. d && k && true) (λ d k u v w. d && k) refl (leb due 0) (leb ticket 0)
+      true true true)
+
+-- a test of all that is read and asked in two parts
+parted : (w e c v : Bool) → ((w && e) && (c && v)) ≡ ((e && v) && (w && c))
+parted w e c v =
+    all-ways (λ w e c v u. (w && e) && (c && v)) (λ w e c v u. (e && v) && (w && c)) refl w e c v
+    true
+
+grouped : (j k v : Bool) → ((j && k) && v) ≡ (j && (k && v))
+grouped true k v = refl
+grouped false k v = refl
+
 -- one proof for each number below n
 data Each (P : ℕ → Type 0) : ℕ → Type 0 where
   none : Each P zero
@@ -194,9 +258,9 @@ below P (suc n) (l ⊕ p) t h = go (ℕ-discrete t n) (below P n l t)
     go (no ne) r = r (omega arith)
 
 -- the row of the stage that a code is read as: its columns are the tag's, its numbers the code's
-abbrev filled : Row → ℕ → ℕ → ℕ → ℕ → Row
-filled r t a i x = record {
-  tag = t;
+abbrev filled : Row → Code → Row
+filled r c = record {
+  tag = c .tag;
   owns = r .owns;
   placed = r .placed;
   walks = r .walks;
@@ -204,32 +268,42 @@ filled r t a i x = record {
   holdsPlace = r .holdsPlace;
   holdsOwn = r .holdsOwn;
   holdsNode = r .holdsNode;
-  place = cond (r .placed) (place a i) (place 0 1);
+  place = cond (r .placed) (place (c .node) (c .level)) (place 0 1);
   releases = r .releases;
-  ahead = cond (r .releases) x 0;
+  ahead = cond (r .releases) (c .ahead) 0;
+  removes = r .removes;
+  job = cond (r .removes) (jobNumber (jobOf (c .job))) 0;
+  seeks = r .seeks;
+  wanted = cond (r .seeks) (wantedOf (c .due) (c .ticket)) noneWanted;
 }
 
-rows : (a i x t : ℕ) → t < 29 → rowOf (stageOf (code t a i x)) ≡ filled (rowAt t) t a i x
-rows a i x =
-    below (λ t. rowOf (stageOf (code t a i x)) ≡ filled (rowAt t) t a i x) 29
-    (none ⊕ refl ⊕ refl ⊕ refl ⊕ refl ⊕ refl ⊕ refl ⊕ refl ⊕ refl ⊕ refl ⊕ refl ⊕ refl ⊕ refl
-    ⊕ refl ⊕ refl ⊕ refl ⊕ refl ⊕ refl ⊕ refl ⊕ refl ⊕ refl ⊕ refl ⊕ refl ⊕ refl ⊕ refl ⊕ refl
-    ⊕ refl ⊕ refl ⊕ refl ⊕ refl)
+module _ (a i x job due ticket : ℕ) where
+  abbrev coded : ℕ → Code
+  coded t = code t a i x job due ticket
+
+  rows : (t : ℕ) → t < 33 → rowOf (stageOf (coded t)) ≡ filled (rowAt t) (coded t)
+  rows =
+      below (λ t. rowOf (stageOf (coded t)) ≡ filled (rowAt t) (coded t)) 33
+      (none ⊕ refl ⊕ refl ⊕ refl ⊕ refl ⊕ refl ⊕ refl ⊕ refl ⊕ refl ⊕ refl ⊕ refl ⊕ refl ⊕ refl
+      ⊕ refl ⊕ refl ⊕ refl ⊕ refl ⊕ refl ⊕ refl ⊕ refl ⊕ refl ⊕ refl ⊕ refl ⊕ refl ⊕ refl ⊕ refl
+      ⊕ refl ⊕ refl ⊕ refl ⊕ refl ⊕ refl ⊕ refl ⊕ refl ⊕ refl)
 
 -- a column of the table, at each tag but some
-module _ (t : ℕ) (low : t < 29) where
+module _ (t : ℕ) (low : t < 33) where
   marks-placed : rowAt t .marks ≡ true → rowAt t .placed ≡ true
   marks-placed h =
       go (rowAt t .marks) (rowAt t .placed) h
-      (every-at (λ t. not (rowAt t .marks) || rowAt t .placed) 29 t refl low)
+      (every-at (λ t. not (rowAt t .marks) || rowAt t .placed) 33 t refl low)
     where
       go : (m p : Bool) → m ≡ true → (not m || p) ≡ true → p ≡ true
       go true p h e = e
       go false p h e = absurd (false≢true h)
 
-  pub owned-rest : (t ≡ 0 → ⊥) → (t ≡ 11 → ⊥) → (t ≡ 12 → ⊥) → (t ≡ 13 → ⊥) → (t ≡ 27 → ⊥) →
-      (t ≡ 28 → ⊥) → rowAt t .owns ≡ true
-  owned-rest n0 n11 n12 n13 n27 n28 =
+  pub owned-rest :
+      (t ≡ 0 → ⊥) → (t ≡ 11 → ⊥) → (t ≡ 12 → ⊥) → (t ≡ 13 → ⊥) → (t ≡ 27 → ⊥) →
+      (t ≡ 28 → ⊥) → (t ≡ 29 → ⊥) → (t ≡ 30 → ⊥) → (t ≡ 31 → ⊥) → (t ≡ 32 → ⊥) →
+      rowAt t .owns ≡ true
+  owned-rest n0 n11 n12 n13 n27 n28 n29 n30 n31 n32 =
       subst (λ (b : Bool). b ≡ true)
       (rw (
         ne-eqb t 0 n0,
@@ -238,10 +312,15 @@ module _ (t : ℕ) (low : t < 29) where
         ne-eqb t 13 n13,
         ne-eqb t 27 n27,
         ne-eqb t 28 n28,
+        ne-eqb t 29 n29,
+        ne-eqb t 30 n30,
+        ne-eqb t 31 n31,
+        ne-eqb t 32 n32,
       ) refl)
       (every-at
-      (λ t. eqb t 0 || eqb t 11 || eqb t 12 || eqb t 13 || eqb t 27 || eqb t 28 || rowAt t .owns)
-      29 t refl low)
+      (λ t. eqb t 0 || eqb t 11 || eqb t 12 || eqb t 13 || eqb t 27 || eqb t 28
+      || eqb t 29 || eqb t 30 || eqb t 31 || eqb t 32 || rowAt t .owns)
+      33 t refl low)
 
   pub placed-rest : (t ≡ 0 → ⊥) → (t ≡ 9 → ⊥) → (t ≡ 10 → ⊥) → (t ≡ 15 → ⊥) → (t ≡ 25 → ⊥) →
       (t ≡ 26 → ⊥) → rowAt t .placed ≡ true
@@ -257,25 +336,53 @@ module _ (t : ℕ) (low : t < 29) where
       ) refl)
       (every-at
       (λ t. eqb t 0 || eqb t 9 || eqb t 10 || eqb t 15 || eqb t 25 || eqb t 26 || rowAt t .placed)
-      29 t refl low)
+      33 t refl low)
 
   pub releases-rest : (t ≡ 5 → ⊥) → (t ≡ 19 → ⊥) → rowAt t .releases ≡ false
   releases-rest n5 n19 =
       not-true (rowAt t .releases)
       (subst (λ (b : Bool). b ≡ true) (rw (ne-eqb t 5 n5, ne-eqb t 19 n19) refl)
-      (every-at (λ t. eqb t 5 || eqb t 19 || not (rowAt t .releases)) 29 t refl low))
+      (every-at (λ t. eqb t 5 || eqb t 19 || not (rowAt t .releases)) 33 t refl low))
 
-  pub marks-rest : (t ≡ 13 → ⊥) → (t ≡ 28 → ⊥) → rowAt t .marks ≡ false
-  marks-rest n13 n28 =
+  pub marks-rest : (t ≡ 13 → ⊥) → (t ≡ 28 → ⊥) → (t ≡ 32 → ⊥) → rowAt t .marks ≡ false
+  marks-rest n13 n28 n32 =
       not-true (rowAt t .marks)
-      (subst (λ (b : Bool). b ≡ true) (rw (ne-eqb t 13 n13, ne-eqb t 28 n28) refl)
-      (every-at (λ t. eqb t 13 || eqb t 28 || not (rowAt t .marks)) 29 t refl low))
+      (subst (λ (b : Bool). b ≡ true) (rw (ne-eqb t 13 n13, ne-eqb t 28 n28, ne-eqb t 32 n32) refl)
+      (every-at (λ t. eqb t 13 || eqb t 28 || eqb t 32 || not (rowAt t .marks)) 33 t refl low))
+
+  -- the tags with a job, and those with a key
+  pub removed : rowAt t .removes ≡ (leb 14 t && leb t 26)
+  removed =
+      agrees (rowAt t .removes) (leb 14 t && leb t 26)
+      (every-at (λ t. agree (rowAt t .removes) (leb 14 t && leb t 26)) 33 t refl low)
+
+  pub sought-from : rowAt t .seeks ≡ leb 29 t
+  sought-from =
+      agrees (rowAt t .seeks) (leb 29 t)
+      (every-at (λ t. agree (rowAt t .seeks) (leb 29 t)) 33 t refl low)
 
   pub stage-tests :
-      (s : Sizes) (a i x own : ℕ) → 1 ≤ s .levelCount →
-      (stageTaken (code t a i x) && carriedValid s (carried (stageOf (code t a i x))) own)
-      ≡ inBounds (rowAt t) a i x own (s .nodeCount) (s .levelCount)
-  stage-tests s a i x own tall =
-      ap (taken s t a i x own tall) (rows a i x t low)
-      ∙ line-tests s t a i x own tall (rowAt t .owns) (rowAt t .placed) (rowAt t .marks)
-      (rowAt t .releases) marks-placed
+      (s : Sizes) (a i x job due ticket own : ℕ) → 1 ≤ s .levelCount →
+      (stageTaken (code t a i x job due ticket)
+      && carriedValid s (carried (stageOf (code t a i x job due ticket))) own)
+      ≡ (errandInBounds (rowAt t) job due ticket
+      && inBounds (rowAt t) a i x own (s .nodeCount) (s .levelCount))
+  stage-tests s a i x job due ticket own tall =
+      let c = code t a i x job due ticket in
+      let r = rowAt t in
+      let g = filled r c in
+      let j = eqb (g .job) job in
+      let k = keySame job due ticket g in
+      let v = wantedValid (g .wanted) in
+      let w = placeSame s t a i x own tall g in
+      let p = placeAsked s t a i x own tall g in
+      ap (λ (r : Row). codeSame (codeOf r) c && carriedValid s (carriedOf r) own)
+      (rows a i x job due ticket t low)
+      ∙ parted w (j && k) p v
+      ∙ ap (λ (b : Bool). b && (w && p))
+      (grouped j k v
+      ∙ ap (λ (b : Bool). b && (k && v)) (job-tests job due ticket (r .removes) job)
+      ∙ ap (λ (b : Bool). leb job (cond (r .removes) 1 0) && b)
+      (key-tests job due ticket (r .seeks)))
+      ∙ ap (λ (b : Bool). errandInBounds r job due ticket && b)
+      (line-tests s t a i x own tall (r .owns) (r .placed) (r .marks) (r .releases) marks-placed)

@@ -11,7 +11,7 @@ use Rattle.laws.specs.Every.{everyBelow, allAtMost}
 use Rattle.laws.proofs.Counting.{and-left, and-right, and-both}
 use Rattle.record_check.specs.Check.{within, stampValid, useValid, sizesOf, sizesValid, nodeValid}
 use Rattle.record_check.specs.Check.{carriedValid, processorValid, valid}
-use Rattle.image.specs.Tags.{timed, stampOf, stampTaken, useOf, useTaken, code}
+use Rattle.image.specs.Tags.{Code, timed, stampOf, stampTaken, useOf, useTaken}
 use Rattle.image.specs.Tags.{stageOf, stageTaken}
 use Rattle.record.specs.declared.nodes.Node.{Node}
 use Rattle.record.specs.declared.queues.Processor.{Processor}
@@ -24,10 +24,10 @@ use Rattle.image.specs.OneToOne.{Bytes}
 use Rattle.image.specs.Puts.{piece}
 use Rattle.image.specs.Image.{startOf, lengthOf, processorPart, nodePart, queueIn, hasRoom, isImage}
 use Rattle.image.specs.Image.{passesOf, Sound}
-use Rattle.image.proofs.Fields.{number, eightFrom, nodeFrom, processorFrom, part-bytes, node-is}
-use Rattle.image.proofs.Fields.{processor-is, eight-at, number-at}
+use Rattle.image.proofs.Fields.{number, eightFrom, nodeFrom, codeFrom, processorFrom, part-bytes}
+use Rattle.image.proofs.Fields.{node-is, processor-is, eight-at, number-at}
 use Rattle.image.proofs.Inverse.{image-facts, read-is-written}
-use Rattle.image_check.specs.Bounds.{rowAt, inBounds}
+use Rattle.image_check.specs.Bounds.{rowAt, inBounds, errandInBounds}
 use Rattle.image_check.specs.Tests.{sizes, linksTest, entryTest, nodeOk, processorOk}
 use Rattle.image_check.proofs.Stages.{stage-tests}
 
@@ -41,7 +41,7 @@ abbrev nodeTaken : (ℕ → ℕ) → Bool
 nodeTaken f = stampTaken (timed (f 18) (number f 19)) && useTaken (timed (f 36) (number f 37))
 
 abbrev processorTaken : (ℕ → ℕ) → Bool
-processorTaken f = stageTaken (code (f 5) (f 6) (f 7) (f 8))
+processorTaken f = stageTaken (codeFrom f)
 
 node-ok : (b : List ℕ) → readNode b .ok ≡ nodeTaken (λ (j : ℕ). getD b j 0)
 unfolding readNode
@@ -112,41 +112,46 @@ swap : (e t v : Bool) → (e && (t && v)) ≡ (t && (e && v))
 swap true t v = refl
 swap false t v = sym (and-false t)
 
-tag-past : (t a i x : ℕ) → 28 < t → stageTaken (code t a i x) ≡ false
-tag-past t a i x h =
+tag-past : (x : Code) → 32 < x .tag → stageTaken x ≡ false
+tag-past x h =
+    let t = x .tag in
     rw (
       ne-eqb t 0 (λ e. omega arith),
       lt-leb t 10 (omega arith),
       lt-leb t 13 (omega arith),
       lt-leb t 26 (omega arith),
-      ne-eqb t 27 (λ e. omega arith),
-      ne-eqb 28 t (λ e. omega arith),
+      lt-leb t 28 (omega arith),
+      ne-eqb t 29 (λ e. omega arith),
+      ne-eqb t 30 (λ e. omega arith),
+      ne-eqb t 31 (λ e. omega arith),
+      ne-eqb 32 t (λ e. omega arith),
     )
     refl
 
 -- processor p
 module _ (b : List ℕ) (p : ℕ) (low : p < getD b 0 0) (many : getD b 0 0 ≤ 16)
     (tall : 1 ≤ getD b 2 0) (few : getD b 2 0 ≤ 8) where
-  processor-taken : readProcessor (processorPart b p) .ok ≡ processorTaken (piece b (7 + 17 * p))
-  processor-taken = processor-ok (processorPart b p) ∙ ap processorTaken (part-bytes b 17 (7 + 17 * p))
+  processor-taken : readProcessor (processorPart b p) .ok ≡ processorTaken (piece b (7 + 26 * p))
+  processor-taken =
+      processor-ok (processorPart b p) ∙ ap processorTaken (part-bytes b 26 (7 + 26 * p))
 
   abbrev saved : Bool
-  saved = everyBelow (λ (k : ℕ). leb (piece b (7 + 17 * p) (9 + k)) (getD b 1 0 + 1)) (getD b 2 0)
+  saved = everyBelow (λ (k : ℕ). leb (piece b (7 + 26 * p) (9 + k)) (getD b 1 0 + 1)) (getD b 2 0)
 
   -- the begin time and the saved nodes
   abbrev early : Bool
-  early = leb (number32 b (7 + 17 * p + 0)) (number32 b 3) && saved
+  early = leb (number32 b (7 + 26 * p + 0)) (number32 b 3) && saved
 
   -- the stage and the own node
   abbrev late : (ℕ → ℕ) → Bool
   late f =
-      stageTaken (code (f 5) (f 6) (f 7) (f 8))
-      && carriedValid (sizesOf (queueIn b)) (carried (stageOf (code (f 5) (f 6) (f 7) (f 8)))) (f 4)
+      stageTaken (codeFrom f)
+      && carriedValid (sizesOf (queueIn b)) (carried (stageOf (codeFrom f))) (f 4)
 
-  processor-parts : (early && late (piece b (7 + 17 * p))) ≡ processorOk b p
+  processor-parts : (early && late (piece b (7 + 26 * p))) ≡ processorOk b p
   unfolding queueIn processorOk
   processor-parts =
-      let o = 7 + 17 * p in
+      let o = 7 + 26 * p in
       let f = piece b o in
       let s = sizesOf (queueIn b) in
       rw (number-at b o 0, sym (levels-same f 9 (getD b 2 0) (getD b 1 0 + 1) few))
@@ -158,41 +163,62 @@ module _ (b : List ℕ) (p : ℕ) (low : p < getD b 0 0) (many : getD b 0 0 ≤ 
 
   processor-early : early ≡ false → false ≡ processorOk b p
   processor-early h =
-      sym (ap (λ (t : Bool). t && late (piece b (7 + 17 * p))) h) ∙ processor-parts
+      sym (ap (λ (t : Bool). t && late (piece b (7 + 26 * p))) h) ∙ processor-parts
 
   -- a begin time past the clock, and saved nodes past the tail
   pub processor-begun :
-      {v w : ℕ} → v ≡ number32 b 3 → w ≡ number32 b (7 + 17 * p + 0) → v < w → false ≡ processorOk b p
+      {v w : ℕ} → v ≡ number32 b 3 → w ≡ number32 b (7 + 26 * p + 0) → v < w →
+      false ≡ processorOk b p
   processor-begun e f h =
       processor-early (ap (λ (t : Bool). t && saved)
-      (lt-leb (number32 b (7 + 17 * p + 0)) (number32 b 3) (rw (sym e, sym f) h)))
+      (lt-leb (number32 b (7 + 26 * p + 0)) (number32 b 3) (rw (sym e, sym f) h)))
 
   pub processor-saved : {t : Bool} → t ≡ saved → t ≡ false → false ≡ processorOk b p
   processor-saved e h =
-      processor-early (ap (λ (t : Bool). leb (number32 b (7 + 17 * p + 0)) (number32 b 3) && t)
-      (sym e ∙ h) ∙ and-false (leb (number32 b (7 + 17 * p + 0)) (number32 b 3)))
+      processor-early (ap (λ (t : Bool). leb (number32 b (7 + 26 * p + 0)) (number32 b 3) && t)
+      (sym e ∙ h) ∙ and-false (leb (number32 b (7 + 26 * p + 0)) (number32 b 3)))
 
-  pub processor-past : 28 < getD b (7 + 17 * p + 5) 0 → false ≡ processorOk b p
+  pub processor-past : 32 < getD b (7 + 26 * p + 5) 0 → false ≡ processorOk b p
   unfolding processorOk
   processor-past h =
-      let f = piece b (7 + 17 * p) in
+      let f = piece b (7 + 26 * p) in
       sym (ap (λ (t : Bool). t && processorValid (sizesOf (queueIn b)) (processorAt (queueIn b) p))
-      (processor-taken ∙ tag-past (f 5) (f 6) (f 7) (f 8) h))
+      (processor-taken ∙ tag-past (codeFrom f) h))
 
-  pub processor-tests :
-      {v w : ℕ} {t : Bool} → v ≡ number32 b 3 → w ≡ number32 b (7 + 17 * p + 0) → w ≤ v →
-      t ≡ saved → t ≡ true → getD b (7 + 17 * p + 5) 0 < 29 →
-      inBounds (rowAt (getD b (7 + 17 * p + 5) 0)) (getD b (7 + 17 * p + 6) 0)
-      (getD b (7 + 17 * p + 7) 0) (getD b (7 + 17 * p + 8) 0) (getD b (7 + 17 * p + 4) 0)
+  -- where the begin time and the saved nodes pass: the job and the key, the place and the own node
+  abbrev errand : ℕ → ℕ → Bool
+  errand due ticket =
+      errandInBounds (rowAt (getD b (7 + 26 * p + 5) 0)) (getD b (7 + 26 * p + 17) 0) due ticket
+
+  abbrev placing : Bool
+  placing =
+      inBounds (rowAt (getD b (7 + 26 * p + 5) 0)) (getD b (7 + 26 * p + 6) 0)
+      (getD b (7 + 26 * p + 7) 0) (getD b (7 + 26 * p + 8) 0) (getD b (7 + 26 * p + 4) 0)
       (getD b 1 0) (getD b 2 0)
-      ≡ processorOk b p
-  unfolding queueIn
-  processor-tests e f h g k low =
-      let f′ = piece b (7 + 17 * p) in
-      let begun = le-leb (number32 b (7 + 17 * p + 0)) (number32 b 3) (rw (sym e, sym f) h) in
-      sym (stage-tests (f′ 5) low (sizesOf (queueIn b)) (f′ 6) (f′ 7) (f′ 8) (f′ 4) tall)
-      ∙ sym (ap (λ (t : Bool). t && late f′) (and-both _ saved begun (sym g ∙ k)))
-      ∙ processor-parts
+
+  module _ {v w : ℕ} {t : Bool} (e : v ≡ number32 b 3) (f : w ≡ number32 b (7 + 26 * p + 0))
+      (h : w ≤ v) (g : t ≡ saved) (k : t ≡ true) (known : getD b (7 + 26 * p + 5) 0 < 33) where
+    processor-tests :
+        (errand (number32 b (7 + 26 * p + 18)) (number32 b (7 + 26 * p + 22)) && placing)
+        ≡ processorOk b p
+    unfolding queueIn
+    processor-tests =
+        let o = 7 + 26 * p in
+        let f′ = piece b o in
+        let begun = le-leb (number32 b (o + 0)) (number32 b 3) (rw (sym e, sym f) h) in
+        rw (number-at b o 18, number-at b o 22)
+        (sym (stage-tests (f′ 5) known (sizesOf (queueIn b)) (f′ 6) (f′ 7) (f′ 8) (f′ 17)
+        (number f′ 18) (number f′ 22) (f′ 4) tall)
+        ∙ sym (ap (λ (t : Bool). t && late f′) (and-both _ saved begun (sym g ∙ k)))
+        ∙ processor-parts)
+
+    module _ {d n : ℕ} {u : Bool} (due : d ≡ number32 b (7 + 26 * p + 18))
+        (ticket : n ≡ number32 b (7 + 26 * p + 22)) (is : u ≡ errand d n) where
+      pub processor-errand : {z : Bool} → u ≡ z → (z && placing) ≡ processorOk b p
+      processor-errand passed =
+          ap (λ (t : Bool). t && placing)
+          (sym passed ∙ is ∙ ap (λ (x : ℕ). errand x n) due ∙ ap (errand _) ticket)
+          ∙ processor-tests
 
 -- all bytes
 every-both : (f g : ℕ → Bool) (n : ℕ) → everyBelow (λ k. f k && g k) n

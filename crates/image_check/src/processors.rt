@@ -7,6 +7,7 @@ ghost use Rattle.image.specs.Image.{lengthOf};
 ghost use Rattle.image_check.specs.Tests.{processorOk};
 ghost use Rattle.record.specs.Limits.{maxLevels, maxNodes, maxProcessors};
 use crate::levels::levels_low;
+use crate::tags::errand_passes;
 use crate::tags::stage_passes;
 use image::header;
 use image::layout::HEADER;
@@ -33,6 +34,11 @@ pub(crate) fn processor_passes(b: &[u8], p: usize) -> bool
     }
     let tag = b[at + processor::TAG] as usize;
     if tag::COUNT <= tag {
+        return false;
+    }
+    let due = number_from(b, at + processor::WANTED_DUE);
+    let ticket = number_from(b, at + processor::WANTED_TICKET);
+    if !errand_passes(tag, b[at + processor::JOB], due, ticket) {
         return false;
     }
     stage_passes(

@@ -8,82 +8,42 @@ use native.Mathlib.Omega.{arith}
 use lib.Dec.{ltb, eqb}
 use lib.ListN.{getD}
 use borrow.Author.Tests.{eq-eqb, ne-eqb, lt-ltb, le-ltb}
-use Rattle.record.specs.declared.nodes.Node.{Node}
-use Rattle.record.specs.declared.queues.Processor.{Processor}
-use Rattle.record.specs.declared.nodes.Stamp.the-variants as stamp
 use Rattle.record.specs.declared.stages.Removal.the-variants as rem
 use Rattle.record.specs.declared.stages.Job.the-variants as jobs
 use Rattle.record.specs.declared.stages.Delete.the-variants as del
 use Rattle.record.specs.declared.stages.Stage.the-variants as stage
-use Rattle.record.specs.Nodes.{stampedBefore}
 use Rattle.record.specs.Queues.{nodeAt, processorAt}
 use Rattle.record.specs.Stages.{place}
-use Rattle.image.specs.Tags.{timed, stampOf}
 use Rattle.image.specs.Numbers.{number32}
 use Rattle.image.specs.Pieces.{processorImage}
 use Rattle.rules.specs.declared.answers.Answer.{Answer}
 use Rattle.rules.specs.declared.answers.Answer.the-variants as ans
 use Rattle.rules.specs.declared.answers.Deed.the-variants as deed
 use Rattle.rules.specs.declared.decisions.Effect.the-variants as eff
-use Rattle.rules.specs.Calls.{nextOf, stepViewOf}
+use Rattle.rules.specs.Calls.{stepViewOf}
 use Rattle.rules.specs.Decide.{moved, answers, removing}
 use Rattle.image.specs.Puts.{puts, four, piece, clears, rests}
 use Rattle.image.specs.Image.{queueIn}
 use Rattle.image_parts.specs.Given.{Stepped}
-use Rattle.image.proofs.Fields.{number, nodeFrom, node-is, processor-is, number-at}
 use Rattle.image_parts.specs.Ready.{Walked}
 use Rattle.image_parts.proofs.Pieces.{moves, put-mark}
 use Rattle.image_parts.proofs.Pieces.{put-idle}
 use Rattle.rules.specs.declared.decisions.ProcessorChange.the-variants as change
 use Rattle.image.proofs.Sizes.{sized-in}
-use Rattle.image_parts.proofs.Readings.{mine, arm, levels-is, clears-below}
+use Rattle.image_parts.proofs.Readings.{mine, arm, levels-is, clears-below, fits-below}
 use Rattle.image_parts.proofs.Readings.{entryIn, entry-is}
+use Rattle.image_parts.proofs.Walks.{after-is, stamped-is, marked-is, entries-is}
 use Rattle.image_delete.proofs.Tags.{reading, setting, onto, readTag, setTag, ontoTag}
 use Rattle.image_delete.proofs.Tags.{read-tag, set-tag, read-busy, set-busy, read-ends}
 use Rattle.image_delete.proofs.Tags.{read-goes, set-passes, set-marks, reads-next}
-use Rattle.image_delete.proofs.Tags.{reads-again, set-starts}
-
-stamped-cases : (t u g : ℕ) → stampedBefore (stampOf (timed t u)) g ≡ cond (eqb t 1) (ltb u g) false
-stamped-cases t u g = go (eqb t 1)
-  where
-    go : (x : Bool) → stampedBefore (cond x (stamp.At u) stamp.Unset) g ≡ cond x (ltb u g) false
-    go true = refl
-    go false = refl
-
-module _ (b : List ℕ) (base p tag : ℕ) (r : Walked b base p tag) where
-  after-is : nextOf (queueIn b) (place (mine b p 6) 1) ≡ getD b (base + 41 * mine b p 6 + 0) 0
-  after-is =
-      ap (λ (n : Node). getD (n .forward) 0 0)
-      (node-is b base (r .start) (r .nodes-high) (mine b p 6) (omega (arith, r .node-low)))
-
-  stamped-is :
-      stampedBefore (nodeAt (queueIn b) (mine b p 6) .stamp) (processorAt (queueIn b) p .begin)
-      ≡ cond (eqb (getD b (base + 41 * mine b p 6 + 18) 0) 1)
-      (ltb (number32 b (base + 41 * mine b p 6 + 19)) (number32 b (7 + 17 * p + 0))) false
-  stamped-is =
-      ap (λ (n : Node). stampedBefore (n .stamp) (processorAt (queueIn b) p .begin))
-      (node-is b base (r .start) (r .nodes-high) (mine b p 6) (omega (arith, r .node-low)))
-      ∙ ap (λ (c : Processor). stampedBefore (nodeFrom (piece b (base + 41 * mine b p 6)) .stamp)
-      (c .begin)) (processor-is b p (r .processors-high) (r .low))
-      ∙ stamped-cases (getD b (base + 41 * mine b p 6 + 18) 0)
-      (number (piece b (base + 41 * mine b p 6)) 19) (number (piece b (7 + 17 * p)) 0)
-      ∙ rw (number-at b (base + 41 * mine b p 6) 19, number-at b (7 + 17 * p) 0) refl
-
-  marked-is : nodeAt (queueIn b) (mine b p 6) .mark ≡ getD b (base + 41 * mine b p 6 + 17) 0
-  marked-is =
-      ap (λ (n : Node). n .mark)
-      (node-is b base (r .start) (r .nodes-high) (mine b p 6) (omega (arith, r .node-low)))
-
-entries-is : (b : List ℕ) → queueIn b .nodeCount ≡ getD b 1 0
-unfolding queueIn
-entries-is b = refl
+use Rattle.image_delete.proofs.Tags.{reads-again, set-starts, read-plain}
 
 -- W1
 module _ (w : Bool) (b : List ℕ) (base p : ℕ) (r : Walked b base p (readTag w)) (after : List ℕ)
     (answer : Answer) where
   pub walks-empty :
       getD b (base + 41 * mine b p 6 + 0) 0 ≡ getD b 1 0 + 1 →
-      after ≡ puts (puts b 0 (four 3 (number32 b 3 + 1))) (7 + 17 * p)
+      after ≡ puts (puts b 0 (four 3 (number32 b 3 + 1))) (7 + 26 * p)
       (clears (getD b 2 0) ++ rests) →
       answer ≡ ans.Empty →
       Stepped b p after answer
@@ -93,32 +53,20 @@ module _ (w : Bool) (b : List ℕ) (base p : ℕ) (r : Walked b base p (readTag 
       let a = place (mine b p 6) (mine b p 7) in
       arm b base p (readTag w) (r .sound) (r .start) (r .nodes-high) (r .processors-high) (r .low)
       (r .few) (r .early) (r .tagged) (reading w a)
-      (read-tag w (mine b p 6) (mine b p 7) (mine b p 8)) (read-busy w a)
+      (read-tag b p w) (read-busy w a)
       (answers eff.Keep ans.Empty)
       (read-ends (stepViewOf q c) a w
       (rw (after-is b base p (readTag w) r, entries-is b, eq-eqb _ _ h) refl))
       ([]) (clears (getD b 2 0) ++ rests) (omega arith) tt
-      (clears-below (getD b 2 0) rests (r .levels-high) (
-        omega arith,
-        (
-          omega arith,
-          (
-            omega arith,
-            (
-              omega arith,
-              (omega arith, (omega arith, (omega arith, (omega arith, (omega arith, tt))))),
-            ),
-          ),
-        ),
-      ))
+      (clears-below (getD b 2 0) rests (r .levels-high) (fits-below 26 rests refl))
       (refl) (rw (levels-is b)
-      (put-idle (moves c (reading w a) (c .saved)) (getD b 2 0)
-      (sized-in b .saved-long p (r .few)))) after e answer f
+      (put-idle (moves c (reading w a) (c .saved)) (getD b 2 0) (r .levels-high)
+      (sized-in b .saved-long p (r .few)) (read-plain w a))) after e answer f
 
   pub walks-on :
       (getD b (base + 41 * mine b p 6 + 0) 0 ≡ getD b 1 0 + 1 → ⊥) →
       (v : ℕ) → v ≡ ontoTag w (getD b (base + 41 * mine b p 6 + 0) 0) →
-      after ≡ puts (puts b 0 (four 3 (number32 b 3 + 1))) (7 + 17 * p)
+      after ≡ puts (puts b 0 (four 3 (number32 b 3 + 1))) (7 + 26 * p)
       ((5, v) ∷ (6, getD b (base + 41 * mine b p 6 + 0) 0) ∷ (7, 1) ∷ []) →
       answer ≡ ans.Moved →
       Stepped b p after answer
@@ -130,7 +78,7 @@ module _ (w : Bool) (b : List ℕ) (base p : ℕ) (r : Walked b base p (readTag 
       let x = getD b (base + 41 * mine b p 6 + 0) 0 in
       arm b base p (readTag w) (r .sound) (r .start) (r .nodes-high) (r .processors-high) (r .low)
       (r .few) (r .early) (r .tagged) (reading w a)
-      (read-tag w (mine b p 6) (mine b p 7) (mine b p 8)) (read-busy w a)
+      (read-tag b p w) (read-busy w a)
       (moved s eff.Keep (onto w x))
       (read-goes (stepViewOf q c) a w
       (rw (after-is b base p (readTag w) r, entries-is b, ne-eqb _ _ h) refl)
@@ -138,14 +86,14 @@ module _ (w : Bool) (b : List ℕ) (base p : ℕ) (r : Walked b base p (readTag 
       ([]) ((5, ontoTag w x) ∷ (6, x) ∷ (7, 1) ∷ []) (omega arith) tt
       (omega arith, (omega arith, (omega arith, tt)))
       (refl) (reads-next c a w x) after
-      (e ∙ ap (λ (n : ℕ). puts (puts b 0 (four 3 (number32 b 3 + 1))) (7 + 17 * p)
+      (e ∙ ap (λ (n : ℕ). puts (puts b 0 (four 3 (number32 b 3 + 1))) (7 + 26 * p)
       ((5, n) ∷ (6, x) ∷ (7, 1) ∷ [])) is) answer f
 
 -- W2
 module _ (b : List ℕ) (base p : ℕ) (r : Walked b base p 12) (after : List ℕ) (answer : Answer) where
   pub stamp-none :
       (getD b (base + 41 * mine b p 6 + 18) 0 ≡ 1 → ⊥) →
-      after ≡ puts (puts b 0 (four 3 (number32 b 3 + 1))) (7 + 17 * p) ((5, 11) ∷ []) →
+      after ≡ puts (puts b 0 (four 3 (number32 b 3 + 1))) (7 + 26 * p) ((5, 11) ∷ []) →
       answer ≡ ans.Moved →
       Stepped b p after answer
   unfolding processorImage
@@ -163,8 +111,8 @@ module _ (b : List ℕ) (base p : ℕ) (r : Walked b base p 12) (after : List �
 
   pub stamp-late :
       getD b (base + 41 * mine b p 6 + 18) 0 ≡ 1 →
-      number32 b (7 + 17 * p + 0) ≤ number32 b (base + 41 * mine b p 6 + 19) →
-      after ≡ puts (puts b 0 (four 3 (number32 b 3 + 1))) (7 + 17 * p) ((5, 11) ∷ []) →
+      number32 b (7 + 26 * p + 0) ≤ number32 b (base + 41 * mine b p 6 + 19) →
+      after ≡ puts (puts b 0 (four 3 (number32 b 3 + 1))) (7 + 26 * p) ((5, 11) ∷ []) →
       answer ≡ ans.Moved →
       Stepped b p after answer
   unfolding processorImage
@@ -182,8 +130,8 @@ module _ (b : List ℕ) (base p : ℕ) (r : Walked b base p 12) (after : List �
 
   pub stamp-early :
       getD b (base + 41 * mine b p 6 + 18) 0 ≡ 1 →
-      number32 b (base + 41 * mine b p 6 + 19) < number32 b (7 + 17 * p + 0) →
-      after ≡ puts (puts b 0 (four 3 (number32 b 3 + 1))) (7 + 17 * p) ((5, 13) ∷ []) →
+      number32 b (base + 41 * mine b p 6 + 19) < number32 b (7 + 26 * p + 0) →
+      after ≡ puts (puts b 0 (four 3 (number32 b 3 + 1))) (7 + 26 * p) ((5, 13) ∷ []) →
       answer ≡ ans.Moved →
       Stepped b p after answer
   unfolding processorImage
@@ -205,7 +153,7 @@ module _ (w : Bool) (b : List ℕ) (base p : ℕ) (r : Walked b base p (setTag w
   pub mark-set :
       (getD b (base + 41 * mine b p 6 + 17) 0 ≡ 0 → ⊥) →
       (v : ℕ) → v ≡ readTag w →
-      after ≡ puts (puts b 0 (four 3 (number32 b 3 + 1))) (7 + 17 * p) ((5, v) ∷ []) →
+      after ≡ puts (puts b 0 (four 3 (number32 b 3 + 1))) (7 + 26 * p) ((5, v) ∷ []) →
       answer ≡ ans.Moved →
       Stepped b p after answer
   mark-set h v is e f =
@@ -216,20 +164,20 @@ module _ (w : Bool) (b : List ℕ) (base p : ℕ) (r : Walked b base p (setTag w
       let m = getD b (base + 41 * mine b p 6 + 17) 0 in
       arm b base p (setTag w) (r .sound) (r .start) (r .nodes-high) (r .processors-high) (r .low)
       (r .few) (r .early) (r .tagged) (setting w a)
-      (set-tag w (mine b p 6) (mine b p 7) (mine b p 8)) (set-busy w a)
+      (set-tag b p w) (set-busy w a)
       (moved s eff.Keep (reading w a))
       (set-passes (stepViewOf q c) a w
       (rw (marked-is b base p (setTag w) r, lt-ltb 0 m (omega arith)) refl))
       ([]) ((5, readTag w) ∷ []) (omega arith) tt (omega arith, tt)
       (refl) (reads-again c a w) after
-      (e ∙ ap (λ (n : ℕ). puts (puts b 0 (four 3 (number32 b 3 + 1))) (7 + 17 * p)
+      (e ∙ ap (λ (n : ℕ). puts (puts b 0 (four 3 (number32 b 3 + 1))) (7 + 26 * p)
       ((5, n) ∷ [])) is) answer f
 
   pub marks :
       getD b (base + 41 * mine b p 6 + 17) 0 ≡ 0 →
       after ≡ puts
       (puts (puts b 0 (four 3 (number32 b 3 + 1))) (base + 41 * mine b p 6) ((17, p + 1) ∷ []))
-      (7 + 17 * p) ((4, mine b p 6) ∷ (5, 14) ∷ (6, 0) ∷ (7, getD b 2 0) ∷ []) →
+      (7 + 26 * p) ((4, mine b p 6) ∷ (5, 14) ∷ (6, 0) ∷ (7, getD b 2 0) ∷ []) →
       answer ≡ ans.Did deed.Marked (entryIn b (base + 41 * mine b p 6)) →
       Stepped b p after answer
   marks h e f =
@@ -238,7 +186,7 @@ module _ (w : Bool) (b : List ℕ) (base p : ℕ) (r : Walked b base p (setTag w
       let a = place (mine b p 6) (mine b p 7) in
       arm b base p (setTag w) (r .sound) (r .start) (r .nodes-high) (r .processors-high) (r .low)
       (r .few) (r .early) (r .tagged) (setting w a)
-      (set-tag w (mine b p 6) (mine b p 7) (mine b p 8)) (set-busy w a)
+      (set-tag b p w) (set-busy w a)
       (record {
         effect = eff.Mark (mine b p 6);
         stage =

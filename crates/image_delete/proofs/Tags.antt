@@ -19,10 +19,11 @@ use Rattle.rules.specs.declared.decisions.Effect.the-variants as eff
 use Rattle.rules.specs.declared.decisions.StepView.{StepView}
 use Rattle.rules.specs.Calls.{readingPlace}
 use Rattle.rules.specs.Decide.{moved, answers, marking, removing, decide}
-use Rattle.image.specs.Tags.{code, stageOf}
-use Rattle.image.specs.Pieces.{processorImage}
+use Rattle.image.specs.Tags.{stageCode, stageOf}
+use Rattle.image.specs.Pieces.{processorImage, errandBytes}
 use Rattle.image.specs.Puts.{putsIn}
 use Rattle.image_parts.proofs.Pieces.{moves}
+use Rattle.image_parts.proofs.Readings.{mine, codeIn}
 
 -- W1, W3, and where W1 goes on to at the node x
 abbrev pub reading : Bool → Place → Stage
@@ -47,13 +48,17 @@ setTag w = cond w 28 13
 abbrev pub ontoTag : Bool → ℕ → ℕ
 ontoTag w x = cond w (cond (eqb x 0) 27 28) 12
 
-pub read-tag : (w : Bool) (a i x : ℕ) → stageOf (code (readTag w) a i x) ≡ reading w (place a i)
-read-tag true a i x = refl
-read-tag false a i x = refl
+module _ (b : List ℕ) (p : ℕ) where
+  abbrev here : Place
+  here = place (mine b p 6) (mine b p 7)
 
-pub set-tag : (w : Bool) (a i x : ℕ) → stageOf (code (setTag w) a i x) ≡ setting w (place a i)
-set-tag true a i x = refl
-set-tag false a i x = refl
+  pub read-tag : (w : Bool) → stageOf (codeIn b p (readTag w)) ≡ reading w here
+  read-tag true = refl
+  read-tag false = refl
+
+  pub set-tag : (w : Bool) → stageOf (codeIn b p (setTag w)) ≡ setting w here
+  set-tag true = refl
+  set-tag false = refl
 
 pub read-busy : (w : Bool) (a : Place) → isIdle (reading w a) ≡ false
 read-busy true a = refl
@@ -96,6 +101,12 @@ module _ (see : Place → StepView) (a : Place) where
       decide (see (readingPlace (setting w a))) (setting w a) ≡ marking jobs.Deliver s a
   set-marks true h = rw h refl
   set-marks false h = rw h refl
+
+-- they have neither a job nor a key
+pub read-plain : (w : Bool) (a : Place) →
+    errandBytes (stageCode (reading w a)) ≡ errandBytes (stageCode stage.Idle)
+read-plain true a = refl
+read-plain false a = refl
 
 -- what is stored for it in the processor's bytes
 module _ (c : Processor) (a : Place) where

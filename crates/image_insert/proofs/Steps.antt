@@ -27,14 +27,14 @@ use Rattle.image_parts.proofs.Pieces.{moves, put-forward, put-lock, put-holder,
 use Rattle.image.proofs.Sizes.{sized-in}
 use Rattle.image_parts.proofs.Readings.{mine, onward, arm, clock-is, levels-is, clears-below}
 use Rattle.image_parts.proofs.Readings.{own-is, next-is, height-is, up-is, mine-is, own-low}
-use Rattle.image_parts.proofs.Readings.{entryIn, entry-is}
+use Rattle.image_parts.proofs.Readings.{entryIn, entry-is, fits-below}
 
 -- I1
 module _ (b : List ℕ) (base p : ℕ) (r : Placed b base p 6) (after : List ℕ) (answer : Answer) where
   pub copies :
       after ≡ puts
       (puts (puts b 0 (four 3 (number32 b 3 + 1))) (base + 41 * mine b p 4)
-      ((mine b p 7 - 1, onward b base p) ∷ [])) (7 + 17 * p) ((5, 7) ∷ []) →
+      ((mine b p 7 - 1, onward b base p) ∷ [])) (7 + 26 * p) ((5, 7) ∷ []) →
       answer ≡ ans.Moved →
       Stepped b p after answer
   unfolding processorImage
@@ -60,7 +60,7 @@ module _ (b : List ℕ) (base p : ℕ) (r : Placed b base p 7) (after : List ℕ
   pub links :
       after ≡ puts
       (puts (puts b 0 (four 3 (number32 b 3 + 1))) (base + 41 * mine b p 6)
-      ((mine b p 7 - 1, mine b p 4) ∷ [])) (7 + 17 * p) ((5, 8) ∷ []) →
+      ((mine b p 7 - 1, mine b p 4) ∷ [])) (7 + 26 * p) ((5, 8) ∷ []) →
       answer ≡ ans.Moved →
       Stepped b p after answer
   unfolding processorImage
@@ -87,7 +87,7 @@ module _ (b : List ℕ) (base p : ℕ) (r : Placed b base p 8) (after : List ℕ
       mine b p 7 < getD b (base + 41 * mine b p 4 + 35) 0 →
       after ≡ puts
       (puts (puts b 0 (four 3 (number32 b 3 + 1))) (base + 41 * mine b p 6)
-      ((8 + (mine b p 7 - 1), 0) ∷ [])) (7 + 17 * p)
+      ((8 + (mine b p 7 - 1), 0) ∷ [])) (7 + 26 * p)
       ((5, 2) ∷ (6, mine b p (9 + mine b p 7)) ∷ (7, mine b p 7 + 1) ∷ []) →
       answer ≡ ans.Moved →
       Stepped b p after answer
@@ -120,7 +120,7 @@ module _ (b : List ℕ) (base p : ℕ) (r : Placed b base p 8) (after : List ℕ
       getD b (base + 41 * mine b p 4 + 35) 0 ≤ mine b p 7 →
       after ≡ puts
       (puts (puts b 0 (four 3 (number32 b 3 + 1))) (base + 41 * mine b p 6)
-      ((8 + (mine b p 7 - 1), 0) ∷ [])) (7 + 17 * p) ((5, 9) ∷ (6, 0) ∷ (7, 0) ∷ []) →
+      ((8 + (mine b p 7 - 1), 0) ∷ [])) (7 + 26 * p) ((5, 9) ∷ (6, 0) ∷ (7, 0) ∷ []) →
       answer ≡ ans.Moved →
       Stepped b p after answer
   unfolding processorImage
@@ -145,7 +145,7 @@ module _ (b : List ℕ) (base p : ℕ) (r : Owned b base p 9) (after : List ℕ)
   pub frees-node :
       after ≡ puts
       (puts (puts b 0 (four 3 (number32 b 3 + 1))) (base + 41 * mine b p 4) ((16, 0) ∷ []))
-      (7 + 17 * p) ((5, 10) ∷ []) →
+      (7 + 26 * p) ((5, 10) ∷ []) →
       answer ≡ ans.Moved →
       Stepped b p after answer
   unfolding processorImage
@@ -164,7 +164,7 @@ module _ (b : List ℕ) (base p : ℕ) (r : Owned b base p 10) (after : List ℕ
   pub stamps :
       after ≡ puts
       (puts (puts b 0 (four 3 (number32 b 3 + 1))) (base + 41 * mine b p 4)
-      ((18, 1) ∷ four 19 (number32 b 3 + 1))) (7 + 17 * p) (clears (getD b 2 0) ++ rests) →
+      ((18, 1) ∷ four 19 (number32 b 3 + 1))) (7 + 26 * p) (clears (getD b 2 0) ++ rests) →
       answer ≡ ans.Did deed.Inserted (entryIn b (base + 41 * mine b p 4)) →
       Stepped b p after answer
   stamps e f =
@@ -181,20 +181,9 @@ module _ (b : List ℕ) (base p : ℕ) (r : Owned b base p 10) (after : List ℕ
       (entry-is b base (r .start) (r .nodes-high) (mine b p 4) (own-low b base p 10 r)))
       ((18, 1) ∷ four 19 (number32 b 3 + 1)) (clears (getD b 2 0) ++ rests) (own-low b base p 10 r)
       (omega arith, (omega arith, (omega arith, (omega arith, (omega arith, tt)))))
-      (clears-below (getD b 2 0) rests (r .levels-high) (
-        omega arith,
-        (
-          omega arith,
-          (
-            omega arith,
-            (
-              omega arith,
-              (omega arith, (omega arith, (omega arith, (omega arith, (omega arith, tt))))),
-            ),
-          ),
-        ),
-      ))
+      (clears-below (getD b 2 0) rests (r .levels-high) (fits-below 26 rests refl))
       (rw (clock-is b) (put-stamp (nodeAt q (mine b p 4)) (number32 b 3 + 1)))
       (rw (levels-is b)
-      (put-idle (moves c g (c .saved)) (getD b 2 0) (sized-in b .saved-long p (r .few))))
+      (put-idle (moves c g (c .saved)) (getD b 2 0) (r .levels-high)
+      (sized-in b .saved-long p (r .few)) refl))
       after e answer f

@@ -1,6 +1,7 @@
 -- Calls and answers as plain numbers, five for each: of a call its kind, processor, due, item and
 -- height; of an answer its number, three values and the clock after the call. Kind 1 begins an
--- Insert, kind 2 a Delete_Min, kind 4 a Relaxed one; 3 and every other kind is a step.
+-- Insert, kind 2 a Delete_Min, kind 4 a Relaxed one, kind 5 a Remove, whose ticket stands in the
+-- place of the item; 3 and every other kind is a step.
 use Prim.Native.Nat.{ℕ, zero, suc, _+_, _*_, _/_}
 use mathlib.Core.Bool.{cond}
 use mathlib.Core.List.{List, [], _∷_, _++_}
@@ -19,7 +20,8 @@ abbrev pub byKind : ℕ → ℕ → ℕ → ℕ → ℕ → Call
 byKind kind p due item height =
     cond (eqb kind 1) (call.Insert p due item height)
     (cond (eqb kind 2) (call.DeleteMin p)
-    (cond (eqb kind 4) (call.Relaxed p) (call.Step p)))
+    (cond (eqb kind 4) (call.Relaxed p)
+    (cond (eqb kind 5) (call.Remove p due item) (call.Step p))))
 
 -- the call whose numbers begin at this place of the list
 abbrev pub callFrom : List ℕ → ℕ → Call

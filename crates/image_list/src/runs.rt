@@ -13,14 +13,15 @@ use image::numbers::number_from;
 use image_begin::begin_delete_min_at;
 use image_begin::begin_insert_at;
 use image_begin::begin_relaxed_at;
+use image_begin::begin_remove_at;
 use image_step::step_at;
 use rules::Answer;
 use rules::PlainAnswer;
 use rules::answers::plain;
 
 // The call whose five numbers begin at this place of the list: kind 1 begins an Insert, 2 a
-// Delete_Min, 4 a Relaxed one; 3 and every other is a step. No `Call` is made of them: to store one
-// and read it takes as long as a step.
+// Delete_Min, 4 a Relaxed one, 5 a Remove; 3 and every other is a step. No `Call` is made of them:
+// to store one and read it takes as long as a step.
 fn turn(image: &mut [u8], calls: &[u32], i: usize) -> Answer
     requires { ⌜ Sound (now image) × (i + 5 ≤ length (now calls)) ⌝ }
     ensures { λ r.
@@ -36,6 +37,9 @@ fn turn(image: &mut [u8], calls: &[u32], i: usize) -> Answer
     }
     if kind == 4 {
         return begin_relaxed_at(image, p);
+    }
+    if kind == 5 {
+        return begin_remove_at(image, p, calls[i + 2], calls[i + 3]);
     }
     step_at(image, p)
 }

@@ -40,16 +40,16 @@ one-repeated a l o k v h =
 pub none-called : (b : List ℕ) → b ≡ storedAt b 7 (freshProcessors 0)
 none-called b = rw (none-joined (λ (k : ℕ). processorImage freshProcessor)) (written-none b 7)
 
-idle-bytes : repeated 0 17 ≡ processorImage freshProcessor
+idle-bytes : repeated 0 26 ≡ processorImage freshProcessor
 unfolding joined processorImage
 idle-bytes = refl
 
 pub one-called :
-    (a l m : List ℕ) (p : ℕ) → m ≡ storedAt l (7 + 17 * p) (repeated 0 17) →
+    (a l m : List ℕ) (p : ℕ) → m ≡ storedAt l (7 + 26 * p) (repeated 0 26) →
     l ≡ storedAt a 7 (freshProcessors p) → m ≡ storedAt a 7 (freshProcessors (p + 1))
 one-called a l m p e h =
-    joined-next (λ (k : ℕ). processorImage freshProcessor) 17 (λ k. length-processor freshProcessor)
-    7 p a l m (e ∙ ap (storedAt l (7 + 17 * p)) idle-bytes) h
+    joined-next (λ (k : ℕ). processorImage freshProcessor) 26 (λ k. length-processor freshProcessor)
+    7 p a l m (e ∙ ap (storedAt l (7 + 26 * p)) idle-bytes) h
 
 pub none-noded : (b : List ℕ) (o tail : ℕ) → b ≡ storedAt b o (freshNodes tail 0)
 none-noded b o tail =
@@ -120,7 +120,7 @@ module _ (P N L : ℕ) where
   pub all-stored :
       (a b c d : List ℕ) → length a ≡ imageLength P N → N ≤ 200 →
       b ≡ storedAt a 0 (headerImage P N L 0) → c ≡ storedAt b 7 (freshProcessors P) →
-      d ≡ storedAt c (7 + 17 * P) (freshNodes (N + 1) (N + 2)) →
+      d ≡ storedAt c (7 + 26 * P) (freshNodes (N + 1) (N + 2)) →
       d ≡ imageOf made
   all-stored a b c d long short f g h =
       let cs : freshProcessors P ≡ processorsImage made P =
@@ -130,11 +130,11 @@ module _ (P N L : ℕ) where
       let ns : freshNodes (N + 1) (N + 2) ≡ nodesImage made (N + 2) =
       joined-same (λ (k : ℕ). nodeImage (freshNode (N + 1))) (λ k. nodeImage (nodeAt made k))
       (N + 2) (λ k l. ap nodeImage (sym (node-fresh P N L k (omega arith)))) in
-      let z : 7 + 17 * P ≡ 0 + (7 + 17 * P) = omega arith in
+      let z : 7 + 26 * P ≡ 0 + (7 + 26 * P) = omega arith in
       let e = next a 0 b c 7 (headed made) (processorsImage made P) (g ∙ ap (storedAt b 7) cs) f refl in
       let i =
-      next a 0 c d (7 + 17 * P) (headed made ++ processorsImage made P) (nodesImage made (N + 2))
-      (h ∙ ap (storedAt c (7 + 17 * P)) ns
+      next a 0 c d (7 + 26 * P) (headed made ++ processorsImage made P) (nodesImage made (N + 2))
+      (h ∙ ap (storedAt c (7 + 26 * P)) ns
       ∙ ap (λ (j : ℕ). storedAt c j (nodesImage made (N + 2))) z) e
       (length-front made) in
       i ∙ written-whole a (imageOf made) (length-image made ∙ sym long)

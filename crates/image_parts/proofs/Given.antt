@@ -19,12 +19,12 @@ use Rattle.image.proofs.Whole.{withNode, withClock, put-node, put-processor, pu
 use Rattle.image_parts.specs.Given.{Gives}
 
 -- an accepted call: the stores of the clock, of one node and of the processor
-module _ (b : List ℕ) (base p : ℕ) (s : Sound b) (start : base ≡ 7 + 17 * queueIn b .processorCount)
+module _ (b : List ℕ) (base p : ℕ) (s : Sound b) (start : base ≡ 7 + 26 * queueIn b .processorCount)
     (low : p < queueIn b .processorCount) (d : Decision) (o : Outcome)
     (is : o ≡ accepted (queueIn b) p d) where
   pub gives :
       (es fs : List (ℕ × ℕ)) → nodeOf (d .effect) < queueIn b .nodeCount + 2 → Below 41 es →
-      Below 17 fs →
+      Below 26 fs →
       putsIn (nodeImage (nodeAt (queueIn b) (nodeOf (d .effect)))) es
       ≡ nodeImage
       (changed (queueIn b .levelCount) (queueIn b .nodeCount + 1) (p + 1) (queueIn b .clock + 1)
@@ -36,7 +36,7 @@ module _ (b : List ℕ) (base p : ℕ) (s : Sound b) (start : base ≡ 7 + 17 * 
       (after : List ℕ) →
       after ≡ puts
       (puts (puts b 0 (four 3 (queueIn b .clock + 1))) (base + 41 * nodeOf (d .effect)) es)
-      (7 + 17 * p) fs →
+      (7 + 26 * p) fs →
       (r : Answer) → r ≡ d .answer →
       Gives o after r
   gives es fs x< es< fs< node processor after e r f =
@@ -54,9 +54,9 @@ module _ (b : List ℕ) (base p : ℕ) (s : Sound b) (start : base ≡ 7 + 17 * 
       ap (λ (l : List ℕ). puts l (base + 41 * x) es) e1
       ∙ put-node (withClock q t) es base x m start x<
       (omega (arith, S .nodes-long, v .nodeCount .high)) es< node in
-      let e3 : puts (puts (puts b 0 (four 3 t)) (base + 41 * x) es) (7 + 17 * p) fs
+      let e3 : puts (puts (puts b 0 (four 3 t)) (base + 41 * x) es) (7 + 26 * p) fs
       ≡ imageOf (applied q p d) =
-      ap (λ (l : List ℕ). puts l (7 + 17 * p) fs) e2
+      ap (λ (l : List ℕ). puts l (7 + 26 * p) fs) e2
       ∙ put-processor (withNode (withClock q t) x m) fs p c low
       (omega (arith, S .processors-long, v .processorCount .high)) fs< processor in
       record {

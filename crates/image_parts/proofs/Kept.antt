@@ -16,6 +16,9 @@ use Rattle.record.specs.declared.stages.Delete.{Delete}
 use Rattle.record.specs.declared.stages.Delete.the-variants as del
 use Rattle.record.specs.declared.stages.Relaxed.{Relaxed}
 use Rattle.record.specs.declared.stages.Relaxed.the-variants as rlx
+use Rattle.record.specs.declared.stages.Wanted.{Wanted}
+use Rattle.record.specs.declared.stages.Remove.{Remove}
+use Rattle.record.specs.declared.stages.Remove.the-variants as rmv
 use Rattle.record.specs.declared.stages.Job.{Job}
 use Rattle.record.specs.declared.stages.Job.the-variants as jobs
 use Rattle.record.specs.declared.stages.Stage.{Stage}
@@ -35,7 +38,7 @@ use Rattle.rules.specs.Calls.{decisionOf, processorOf, called}
 use Rattle.rules.proofs.Allowed.{of-call}
 use Rattle.rules.specs.Decide.{searchStep, seekStep, insertSearched, insertSought, insertStep}
 use Rattle.rules.specs.Decide.{removalSearched, removalSought, removalStep, deleteStep, decide}
-use Rattle.rules.specs.Decide.{nodeTried, ownTried, relaxedStep}
+use Rattle.rules.specs.Decide.{nodeTried, ownTried, relaxedStep, removeSearched, removeStep}
 use Rattle.rules.specs.Effects.{accepted}
 use Rattle.rules.specs.Runs.{Turn, calls, backlog, markers, after}
 use Rattle.image_parts.proofs.Arrays.{applied-sized}
@@ -91,6 +94,7 @@ removal-answers j s (rem.FreeOwn a) = refl
 removal-answers j s (rem.FreeLevel a) = cond-elim Answers (leb (a .level) 1) _ _ refl refl
 removal-answers j s rem.FreeNode = refl
 removal-answers jobs.Deliver s rem.Retire = refl
+removal-answers jobs.TakeBack s rem.Retire = refl
 
 delete-answers : (s : StepView) (d : Delete) → Answers (deleteStep s d)
 delete-answers s (del.ReadNext a) = cond-elim Answers (s .nextIsTail) _ _ refl refl
@@ -103,11 +107,26 @@ relaxed-answers s (rlx.ReadNext a) =
     (cond-elim Answers (eqb (s .next) 0) _ _ refl refl)
 relaxed-answers s (rlx.SetMark a) = cond-elim Answers (s .marked) _ _ refl refl
 
+remove-searched :
+    (s : StepView) (w : Wanted) (a : Place) (x : Searched) → Answers (removeSearched s w a x)
+remove-searched s w a (srch.Ahead b) = refl
+remove-searched s w a (srch.Down b) = refl
+remove-searched s w a (srch.Done b) = refl
+
+remove-answers : (s : StepView) (w : Wanted) (x : Remove) → Answers (removeStep s w x)
+remove-answers s w (rmv.Search a) = remove-searched s w a (searchStep s a)
+remove-answers s w (rmv.ReadNext a) =
+    cond-elim Answers (s .nextBeforeKey) _ _ refl
+    (cond-elim Answers (s .nextHasKey) _ _ refl refl)
+remove-answers s w (rmv.TestStamp a) = cond-elim Answers (s .stamped) _ _ refl refl
+remove-answers s w (rmv.SetMark a) = cond-elim Answers (s .marked) _ _ refl refl
+
 decision-answers : (s : StepView) (g : Stage) → Answers (decide s g)
 decision-answers s stage.Idle = refl
 decision-answers s (stage.Insert i) = insert-answers s i
 decision-answers s (stage.Delete d) = delete-answers s d
 decision-answers s (stage.Relaxed d) = relaxed-answers s d
+decision-answers s (stage.Remove w x) = remove-answers s w x
 decision-answers s (stage.Removal j r) = removal-answers j s r
 
 module _ (q : Queue) (S : Sized q) where
@@ -123,6 +142,7 @@ module _ (q : Queue) (S : Sized q) where
   answers (call.Insert p due item height) = refl
   answers (call.DeleteMin p) = refl
   answers (call.Relaxed p) = refl
+  answers (call.Remove p due ticket) = refl
   answers (call.Step p) = decision-answers _ (processorAt q p .stage)
 
   pub kept-call : (c : Call) → Kept q (called q c)

@@ -8,3 +8,4 @@ pub mod Readings
 pub mod Sounds
 pub mod Reached
 pub mod Refusals
+pub mod Walks

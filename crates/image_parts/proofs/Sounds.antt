@@ -1,12 +1,12 @@
 -- What a step may take for granted, from check 21; and the bytes after it. Assumes nothing.
-use mathlib.Core.Path.{_≡_, refl, sym, _∙_, ap}
+use mathlib.Core.Path.{_≡_, refl, sym, _∙_, ap, subst}
 use mathlib.Core.Bool.{true}
 use mathlib.Core.List.{List}
 use Prim.Native.Nat.{ℕ, _+_, _*_, _-_, _≤_, _<_}
 use native.Mathlib.Omega.{arith}
-use lib.ListN.{getD, drop}
+use lib.ListN.{length, getD, drop}
 use lib.Seq.{getD-take, getD-drop}
-use Rattle.record_check.specs.Check.{valid}
+use Rattle.record_check.specs.Check.{sizesOf, valid}
 use Rattle.record.specs.declared.nodes.Node.{Node}
 use Rattle.record.specs.declared.queues.Processor.{Processor}
 use Rattle.record.specs.declared.queues.Queue.{Queue}
@@ -16,13 +16,14 @@ use Rattle.record.specs.declared.stages.Insert.the-variants as ins
 use Rattle.record.specs.declared.stages.Removal.the-variants as rem
 use Rattle.record.specs.declared.stages.Delete.the-variants as del
 use Rattle.record.specs.declared.stages.Relaxed.the-variants as rlx
-use Rattle.record.specs.declared.stages.Job.the-variants as jobs
+use Rattle.record.specs.declared.stages.Remove.the-variants as rmv
 use Rattle.record.specs.declared.stages.Stage.the-variants as stage
 use Rattle.record.specs.declared.stages.Stage.{Stage}
 use Rattle.record.specs.Nodes.{freshNode}
 use Rattle.record.specs.Queues.{nodeAt, processorAt}
-use Rattle.record.specs.Stages.{place, carried}
-use Rattle.image.specs.Tags.{code, stageCode, stageOf}
+use Rattle.record.specs.Stages.{place, wantedOf, carried}
+use Rattle.image.specs.Tags.{stageCode, stageOf}
+use Rattle.image.specs.Layout.{wantedDueIn, wantedTicketIn}
 use Rattle.image.specs.Numbers.{number32}
 use Rattle.image.specs.Pieces.{processorImage}
 use Rattle.rules.specs.declared.answers.Answer.{Answer}
@@ -31,7 +32,7 @@ use Rattle.rules.specs.declared.answers.Outcome.{Outcome}
 use Rattle.rules.specs.Answers.{refused}
 use Rattle.rules.specs.declared.calls.Call.{Call}
 use Rattle.rules.specs.Calls.{taken, nodeRefusal, firstOf, refusalOf, calledValid}
-use Rattle.rules.proofs.ValidFacts.{valid-facts}
+use Rattle.rules.proofs.ValidFacts.{ValidWanted, ValidCarried, ValidQueue, valid-facts}
 use Rattle.rules.proofs.Allowed.{first-told, first-none}
 use Rattle.rules.proofs.Inner.{call-inner, call-told}
 use Rattle.image_parts.proofs.Kept.{sized-after}
@@ -46,130 +47,166 @@ use Rattle.rules.specs.Runs.{Turn, calls, after}
 use Rattle.rules.proofs.Untouched.{untouched}
 use Rattle.rules.proofs.Valid.{kept-valid}
 use Rattle.image.proofs.Fields.{processor-is, node-is}
-use Rattle.image_parts.specs.Ready.{Placed, Owned, Walked}
-use Rattle.image_parts.proofs.Readings.{mine, next-at}
+use Rattle.image_parts.specs.Ready.{heightIn, nextIn, Placed, Owned, Walked, Seeking}
+use Rattle.image_parts.proofs.Readings.{mine, onward, codeIn, stage-is, next-from}
 
--- every stage that carries a place and has an own node, by its tag
+-- what each stage may take for granted, by what the stage of its tag carries
 module _ (b : List ℕ) (base p tag : ℕ) (s : Sound b) (start : base ≡ startOf b)
     (low : p < getD b 0 0) (early : number32 b 3 < 999999) (tagged : mine b p 5 ≡ tag) where
+  facts : ValidQueue (queueIn b)
+  facts = valid-facts (queueIn b) (s .passes)
+
+  many : getD b 0 0 ≤ 16
+  unfolding queueIn
+  many = facts .sizes .processorCount .high
+
+  short : getD b 1 0 ≤ 200
+  unfolding queueIn
+  short = facts .sizes .nodeCount .high
+
+  few : getD b 2 0 ≤ 8
+  unfolding queueIn
+  few = facts .sizes .levelCount .high
+
+  long : length b ≡ base + 41 * (getD b 1 0 + 2)
+  long = s .long ∙ ap (λ (k : ℕ). k + 41 * (getD b 1 0 + 2)) (sym start)
+
+  abbrev told : Stage
+  told = stageOf (codeIn b p tag)
+
+  at-stage : processorAt (queueIn b) p .stage ≡ told
+  at-stage = stage-is b p tag many low tagged
+
+  carries : ValidCarried (sizesOf (queueIn b)) (carried told) (mine b p 4)
+  unfolding queueIn
+  carries =
+      let c = processorAt (queueIn b) p in
+      let o : c .own ≡ mine b p 4 =
+      ap (λ (c : Processor). c .own) (processor-is b p many low) in
+      subst (λ (g : Stage). ValidCarried (sizesOf (queueIn b)) (carried g) (mine b p 4)) at-stage
+      (subst (λ (x : ℕ). ValidCarried (sizesOf (queueIn b)) (carried (c .stage)) x) o
+      (facts .processors p low .carries))
+
+  -- the own node, and its height
+  owning :
+      carried told .own ≡ true →
+      (1 ≤ mine b p 4) × (mine b p 4 ≤ getD b 1 0)
+      × (1 ≤ heightIn b base (mine b p 4)) × (heightIn b base (mine b p 4) ≤ 8)
+  unfolding queueIn
+  owning own =
+      let x = mine b p 4 in
+      let w = carries .has-own own in
+      let h = facts .nodes x (omega arith) .height in
+      let e : nodeAt (queueIn b) x .height ≡ heightIn b base x =
+      ap (λ (n : Node). n .height) (node-is b base start short x (omega arith)) in (
+        w .low,
+        w .high,
+        rw e at (h .low),
+        omega (arith, rw e at (h .high), few),
+      )
+
+  -- where a node leads at a level
+  leads : (x i : ℕ) → x ≤ getD b 1 0 + 1 → 1 ≤ i → i ≤ getD b 2 0 →
+      nextIn b base x i ≤ getD b 1 0 + 1
+  unfolding queueIn
+  leads x i h l m =
+      rw (next-from b base start short x i h l (omega (arith, few))) at
+      (facts .nodes x h .forward (i - 1) (omega arith))
+
+  -- the place, and where it leads at its level
+  placing :
+      carried told .place ≡ place (mine b p 6) (mine b p 7) →
+      (mine b p 6 ≤ getD b 1 0 + 1) × (1 ≤ mine b p 7) × (mine b p 7 ≤ getD b 2 0)
+      × (onward b base p ≤ getD b 1 0 + 1)
+  unfolding queueIn
+  placing at =
+      let v = carries .place in
+      let node : mine b p 6 ≤ getD b 1 0 + 1 = rw (ap (λ (x : Place). x .node) at) at (v .node) in
+      let l : 1 ≤ mine b p 7 = rw (ap (λ (x : Place). x .level) at) at (v .level .low) in
+      let h : mine b p 7 ≤ getD b 2 0 = rw (ap (λ (x : Place). x .level) at) at (v .level .high) in
+      (node, l, h, leads (mine b p 6) (mine b p 7) node l h)
+
+  -- a stage with a place and an own node
   pub placed :
-      carried (stageOf (code tag (mine b p 6) (mine b p 7) (mine b p 8))) .own ≡ true →
-      carried (stageOf (code tag (mine b p 6) (mine b p 7) (mine b p 8))) .place
-      ≡ place (mine b p 6) (mine b p 7) →
+      carried told .own ≡ true → carried told .place ≡ place (mine b p 6) (mine b p 7) →
       Placed b base p tag
-  unfolding queueIn
   placed own at =
-      let q = queueIn b in
-      let v = valid-facts q (s .passes) in
-      let many : getD b 0 0 ≤ 16 = v .sizes .processorCount .high in
-      let few : p < 16 = omega arith in
-      let is = processor-is b p many low in
-      let g : processorAt q p .stage ≡ stageOf (code tag (mine b p 6) (mine b p 7) (mine b p 8)) =
-      ap (λ (c : Processor). c .stage) is
-      ∙ ap (λ (t : ℕ). stageOf (code t (mine b p 6) (mine b p 7) (mine b p 8))) tagged in
-      let c = v .processors p low .carries in
-      let w = c .has-own (ap (λ (x : Stage). carried x .own) g ∙ own) in
-      let o : processorAt q p .own ≡ mine b p 4 = ap (λ (c : Processor). c .own) is in
-      let a : carried (processorAt q p .stage) .place ≡ place (mine b p 6) (mine b p 7) =
-      ap (λ (x : Stage). carried x .place) g ∙ at in
-      let node : mine b p 6 ≤ getD b 1 0 + 1 =
-      rw (ap (λ (x : Place). x .node) a) at (c .place .node) in
-      let l : 1 ≤ mine b p 7 = rw (ap (λ (x : Place). x .level) a) at (c .place .level .low) in
-      let h : mine b p 7 ≤ getD b 2 0 =
-      rw (ap (λ (x : Place). x .level) a) at (c .place .level .high) in
-      let n : getD b 1 0 ≤ 200 = v .sizes .nodeCount .high in
-      let m : getD b 2 0 ≤ 8 = v .sizes .levelCount .high in
-      let oh : mine b p 4 ≤ getD b 1 0 = rw o at (w .high) in
-      let height = v .nodes (mine b p 4) (omega arith) .height in
-      let h≡ : nodeAt q (mine b p 4) .height ≡ getD b (base + 41 * mine b p 4 + 35) 0 =
-      ap (λ (n : Node). n .height) (node-is b base start n (mine b p 4) (omega arith)) in
-      let next = v .nodes (mine b p 6) node .forward (mine b p 7 - 1) (omega arith) in
+      let o = owning own in
+      let a = placing at in
       record {
         sound = s;
         start = start;
-        long = s .long ∙ ap (λ (k : ℕ). k + 41 * (getD b 1 0 + 2)) (sym start);
+        long = long;
         processors-high = many;
         low = low;
-        few = few;
+        few = omega (arith, many);
         early = early;
         tagged = tagged;
-        node-low = node;
-        level-low = l;
-        level-high = omega arith;
-        own-low = rw o at (w .low);
-        own-high = rw o at (w .high);
-        nodes-high = n;
-        height-low = rw (h≡) at (height .low);
-        height-high = omega (arith, rw (h≡) at (height .high));
-        next-low = omega (arith, rw (next-at b base start n p node l (omega arith)) at next);
+        node-low = a .0;
+        level-low = a .1;
+        level-high = omega (arith, a .2, few);
+        own-low = o .0;
+        own-high = o .1;
+        nodes-high = short;
+        height-low = o .2;
+        height-high = o .3;
+        next-low = a .3;
+        owns = ap (λ (g : Stage). carried g .own) at-stage ∙ own;
       }
 
-  pub owned : carried (stageOf (code tag (mine b p 6) (mine b p 7) (mine b p 8))) .own ≡ true →
-      Owned b base p tag
-  unfolding queueIn
+  pub owned : carried told .own ≡ true → Owned b base p tag
   owned own =
-      let q = queueIn b in
-      let v = valid-facts q (s .passes) in
-      let many : getD b 0 0 ≤ 16 = v .sizes .processorCount .high in
-      let few : p < 16 = omega arith in
-      let is = processor-is b p many low in
-      let g : processorAt q p .stage ≡ stageOf (code tag (mine b p 6) (mine b p 7) (mine b p 8)) =
-      ap (λ (c : Processor). c .stage) is
-      ∙ ap (λ (t : ℕ). stageOf (code t (mine b p 6) (mine b p 7) (mine b p 8))) tagged in
-      let w = v .processors p low .carries .has-own (ap (λ (x : Stage). carried x .own) g ∙ own) in
-      let o : processorAt q p .own ≡ mine b p 4 = ap (λ (c : Processor). c .own) is in
-      let oh : mine b p 4 ≤ getD b 1 0 = rw o at (w .high) in
-      let n : getD b 1 0 ≤ 200 = v .sizes .nodeCount .high in
-      let m : getD b 2 0 ≤ 8 = v .sizes .levelCount .high in
-      let height = v .nodes (mine b p 4) (omega arith) .height in
-      let h≡ : nodeAt q (mine b p 4) .height ≡ getD b (base + 41 * mine b p 4 + 35) 0 =
-      ap (λ (n : Node). n .height) (node-is b base start n (mine b p 4) (omega arith)) in
+      let o = owning own in
       record {
-        height-low = rw h≡ at (height .low);
-        height-high = omega (arith, rw h≡ at (height .high));
         sound = s;
         start = start;
-        long = s .long ∙ ap (λ (k : ℕ). k + 41 * (getD b 1 0 + 2)) (sym start);
+        long = long;
         processors-high = many;
         low = low;
-        few = few;
+        few = omega (arith, many);
         early = early;
         tagged = tagged;
-        own-low = rw o at (w .low);
-        own-high = rw o at (w .high);
-        nodes-high = v .sizes .nodeCount .high;
-        levels-high = v .sizes .levelCount .high;
+        own-low = o .0;
+        own-high = o .1;
+        nodes-high = short;
+        levels-high = few;
+        height-low = o .2;
+        height-high = o .3;
       }
 
-  pub walked :
-      carried (stageOf (code tag (mine b p 6) (mine b p 7) (mine b p 8))) .place .node
-      ≡ mine b p 6 →
-      Walked b base p tag
+  pub walked : carried told .place .node ≡ mine b p 6 → Walked b base p tag
   unfolding queueIn
-  walked at =
-      let q = queueIn b in
-      let v = valid-facts q (s .passes) in
-      let many : getD b 0 0 ≤ 16 = v .sizes .processorCount .high in
-      let few : p < 16 = omega arith in
-      let g : processorAt q p .stage ≡ stageOf (code tag (mine b p 6) (mine b p 7) (mine b p 8)) =
-      ap (λ (c : Processor). c .stage) (processor-is b p many low)
-      ∙ ap (λ (t : ℕ). stageOf (code t (mine b p 6) (mine b p 7) (mine b p 8))) tagged in
-      let a : carried (processorAt q p .stage) .place .node ≡ mine b p 6 =
-      ap (λ (x : Stage). carried x .place .node) g ∙ at in
-      let node : mine b p 6 ≤ getD b 1 0 + 1 = rw a at (v .processors p low .carries .place .node) in
-      let n : getD b 1 0 ≤ 200 = v .sizes .nodeCount .high in
+  walked at = record {
+    sound = s;
+    start = start;
+    long = long;
+    processors-high = many;
+    low = low;
+    few = omega (arith, many);
+    early = early;
+    tagged = tagged;
+    node-low = rw at at (carries .place .node);
+    nodes-high = short;
+    levels-high = few;
+  }
+
+  pub seeking :
+      carried told .place ≡ place (mine b p 6) (mine b p 7) →
+      carried told .wanted ≡ wantedOf (wantedDueIn b p) (wantedTicketIn b p) →
+      Seeking b base p tag
+  seeking at key =
+      let a = placing at in
+      let w : ValidWanted (wantedOf (wantedDueIn b p) (wantedTicketIn b p)) =
+      subst ValidWanted key (carries .wanted) in
       record {
-        sound = s;
-        start = start;
-        long = s .long ∙ ap (λ (k : ℕ). k + 41 * (getD b 1 0 + 2)) (sym start);
-        processors-high = many;
-        low = low;
-        few = few;
-        early = early;
-        tagged = tagged;
-        node-low = node;
-        nodes-high = n;
-        levels-high = v .sizes .levelCount .high;
+        walked = walked (ap (λ (x : Place). x .node) at);
+        level-low = a .1;
+        level-high = omega (arith, a .2, few);
+        next-low = a .3;
+        first-low = leads (mine b p 6) 1 (a .0) (omega arith) (omega (arith, a .1, a .2));
+        due-high = w .due;
+        ticket-low = w .ticket .low;
+        ticket-high = w .ticket .high;
       }
 
 -- the record that a call gives: its image is read as it, and it passes check 21
@@ -251,8 +288,8 @@ module _ (b : List ℕ) (p : ℕ) (s : Sound b) (r : Answer) where
   unfolding queueIn
   processors-high = valid-facts (queueIn b) (s .passes) .sizes .processorCount .high
 
--- a stage's tag is at most 28
-tag-low : (g : Stage) → stageCode g .tag ≤ 28
+-- a stage's tag is at most 32
+tag-low : (g : Stage) → stageCode g .tag ≤ 32
 tag-low stage.Idle = omega arith
 tag-low (stage.Insert (ins.Search a)) = omega arith
 tag-low (stage.Insert (ins.Copy a)) = omega arith
@@ -261,37 +298,41 @@ tag-low (stage.Insert (ins.FreeLevel a)) = omega arith
 tag-low (stage.Insert ins.FreeNode) = omega arith
 tag-low (stage.Insert ins.Stamp) = omega arith
 tag-low (stage.Insert (ins.Seek (seek.Approach a))) = omega arith
-tag-low (stage.Removal jobs.Deliver (rem.Seek (seek.Approach a))) = omega arith
+tag-low (stage.Removal j (rem.Seek (seek.Approach a))) = omega arith
 tag-low (stage.Insert (ins.Seek (seek.Take a))) = omega arith
-tag-low (stage.Removal jobs.Deliver (rem.Seek (seek.Take a))) = omega arith
+tag-low (stage.Removal j (rem.Seek (seek.Take a))) = omega arith
 tag-low (stage.Insert (ins.Seek (seek.Confirm a))) = omega arith
-tag-low (stage.Removal jobs.Deliver (rem.Seek (seek.Confirm a))) = omega arith
+tag-low (stage.Removal j (rem.Seek (seek.Confirm a))) = omega arith
 tag-low (stage.Insert (ins.Seek (seek.Release a b))) = omega arith
-tag-low (stage.Removal jobs.Deliver (rem.Seek (seek.Release a b))) = omega arith
+tag-low (stage.Removal j (rem.Seek (seek.Release a b))) = omega arith
 tag-low (stage.Delete (del.ReadNext a)) = omega arith
 tag-low (stage.Delete (del.TestStamp a)) = omega arith
 tag-low (stage.Delete (del.SetMark a)) = omega arith
 tag-low (stage.Relaxed (rlx.ReadNext a)) = omega arith
 tag-low (stage.Relaxed (rlx.SetMark a)) = omega arith
-tag-low (stage.Removal jobs.Deliver (rem.Search a)) = omega arith
-tag-low (stage.Removal jobs.Deliver (rem.HoldOwn a)) = omega arith
-tag-low (stage.Removal jobs.Deliver (rem.Unlink a)) = omega arith
-tag-low (stage.Removal jobs.Deliver (rem.LeadBack a)) = omega arith
-tag-low (stage.Removal jobs.Deliver (rem.FreeOwn a)) = omega arith
-tag-low (stage.Removal jobs.Deliver (rem.FreeLevel a)) = omega arith
-tag-low (stage.Removal jobs.Deliver rem.HoldNode) = omega arith
-tag-low (stage.Removal jobs.Deliver rem.FreeNode) = omega arith
-tag-low (stage.Removal jobs.Deliver rem.Retire) = omega arith
+tag-low (stage.Removal j (rem.Search a)) = omega arith
+tag-low (stage.Removal j (rem.HoldOwn a)) = omega arith
+tag-low (stage.Removal j (rem.Unlink a)) = omega arith
+tag-low (stage.Removal j (rem.LeadBack a)) = omega arith
+tag-low (stage.Removal j (rem.FreeOwn a)) = omega arith
+tag-low (stage.Removal j (rem.FreeLevel a)) = omega arith
+tag-low (stage.Removal j rem.HoldNode) = omega arith
+tag-low (stage.Removal j rem.FreeNode) = omega arith
+tag-low (stage.Removal j rem.Retire) = omega arith
+tag-low (stage.Remove w (rmv.Search a)) = omega arith
+tag-low (stage.Remove w (rmv.ReadNext a)) = omega arith
+tag-low (stage.Remove w (rmv.TestStamp a)) = omega arith
+tag-low (stage.Remove w (rmv.SetMark a)) = omega arith
 
 tag-of : (c : Processor) → getD (processorImage c) 5 0 ≡ stageCode (c .stage) .tag
 unfolding processorImage
 tag-of c = refl
 
-pub tag-high : (b : List ℕ) (p : ℕ) → Sound b → p < getD b 0 0 → mine b p 5 ≤ 28
+pub tag-high : (b : List ℕ) (p : ℕ) → Sound b → p < getD b 0 0 → mine b p 5 ≤ 32
 unfolding queueIn
 tag-high b p s low =
     let e : mine b p 5 ≡ stageCode (processorAt (queueIn b) p .stage) .tag =
-    sym (getD-take 17 (drop (7 + 17 * p) b) 5 0 (omega arith) ∙ getD-drop (7 + 17 * p) b 5 0)
+    sym (getD-take 26 (drop (7 + 26 * p) b) 5 0 (omega arith) ∙ getD-drop (7 + 26 * p) b 5 0)
     ∙ ap (λ (l : List ℕ). getD (processorPart l p) 5 0) (sym (s .image))
     ∙ ap (λ (l : List ℕ). getD l 5 0) (processor-part (queueIn b) p low)
     ∙ tag-of (processorAt (queueIn b) p) in
@@ -305,9 +346,14 @@ pub beyond :
     (t ≡ 6 → ⊥) → (t ≡ 7 → ⊥) → (t ≡ 8 → ⊥) → (t ≡ 9 → ⊥) → (t ≡ 10 → ⊥) → (t ≡ 11 → ⊥) →
     (t ≡ 12 → ⊥) → (t ≡ 13 → ⊥) → (t ≡ 14 → ⊥) → (t ≡ 15 → ⊥) → (t ≡ 16 → ⊥) → (t ≡ 17 → ⊥) →
     (t ≡ 18 → ⊥) → (t ≡ 19 → ⊥) → (t ≡ 20 → ⊥) → (t ≡ 21 → ⊥) → (t ≡ 22 → ⊥) → (t ≡ 23 → ⊥) →
-    (t ≡ 24 → ⊥) → (t ≡ 25 → ⊥) → (t ≡ 26 → ⊥) → (t ≡ 27 → ⊥) → (t ≡ 28 → ⊥) → 28 < t
+    (t ≡ 24 → ⊥) → (t ≡ 25 → ⊥) → (t ≡ 26 → ⊥) → (t ≡ 27 → ⊥) → (t ≡ 28 → ⊥) → (t ≡ 29 → ⊥) →
+    (t ≡ 30 → ⊥) → (t ≡ 31 → ⊥) → (t ≡ 32 → ⊥) → 32 < t
 beyond t n0 n1 n2 n3 n4 n5 n6 n7 n8 n9 n10 n11 n12 n13 n14 n15 n16 n17 n18 n19 n20 n21 n22 n23 n24
-    n25 n26 n27 n28 =
+    n25 n26 n27 n28 n29 n30 n31 n32 =
+    (more t 32
+    (more t 31
+    (more t 30
+    (more t 29
     (more t 28
     (more t 27
     (more t 26
@@ -333,7 +379,7 @@ beyond t n0 n1 n2 n3 n4 n5 n6 n7 n8 n9 n10 n11 n12 n13 n14 n15 n16 n17 n18 n19 n
     (more t 6
     (more t 5 (more t 4 (more t 3 (more t 2 (more t 1 (more t 0 (omega arith) n0) n1) n2) n3) n4)
     n5) n6) n7) n8) n9) n10) n11) n12) n13) n14) n15) n16) n17) n18) n19) n20) n21) n22) n23) n24)
-    n25) n26) n27) n28)
+    n25) n26) n27) n28) n29) n30) n31) n32)
 
-pub never : (b : List ℕ) (p : ℕ) → Sound b → p < getD b 0 0 → 28 < mine b p 5 → ⊥
+pub never : (b : List ℕ) (p : ℕ) → Sound b → p < getD b 0 0 → 32 < mine b p 5 → ⊥
 never b p s low high = omega (arith, tag-high b p s low)

@@ -1,8 +1,10 @@
 -- What each stage of a removal stores is what the definition says. Assumes nothing.
-use mathlib.Core.Path.{_≡_, refl, _∙_, ap}
+use mathlib.Core.Path.{_≡_, refl, sym, _∙_, ap}
+use mathlib.Core.Bool.{Bool, true, false, cond}
 use mathlib.Core.List.{List, [], _∷_, _++_}
 use Prim.Native.Nat.{ℕ, _+_, _*_, _-_, _≤_, _<_}
 use native.Mathlib.Omega.{arith}
+use lib.Dec.{eqb}
 use lib.ListN.{getD}
 use borrow.Author.Tests.{le-leb, lt-leb}
 use Rattle.record.specs.declared.nodes.Node.{Node}
@@ -14,30 +16,34 @@ use Rattle.record.specs.declared.stages.Job.the-variants as jobs
 use Rattle.record.specs.declared.stages.Stage.{Stage}
 use Rattle.record.specs.Nodes.{forwardAt, lockAt}
 use Rattle.record.specs.Queues.{nodeAt, processorAt, savedAt}
-use Rattle.record.specs.Stages.{place}
+use Rattle.record.specs.Stages.{place, jobNumber}
+use Rattle.image.specs.Tags.{jobOf}
 use Rattle.image.specs.Numbers.{number32}
 use Rattle.image.specs.Pieces.{processorImage}
 use Rattle.rules.specs.declared.answers.Answer.{Answer}
 use Rattle.rules.specs.declared.answers.Answer.the-variants as ans
 use Rattle.rules.specs.declared.answers.Deed.the-variants as deed
+use Rattle.rules.specs.declared.answers.Entry.{Entry}
 use Rattle.rules.specs.declared.decisions.Attempt.the-variants as try
 use Rattle.rules.specs.declared.decisions.Effect.the-variants as eff
 use Rattle.rules.specs.Calls.{stepViewOf}
 use Rattle.rules.specs.Decide.{moved, waits, answers, removing, attempt, nodeTried, ownTried}
+use Rattle.rules.specs.Decide.{handing}
 use Rattle.image.specs.Puts.{puts, four, piece, clears, rests}
 use Rattle.image.specs.Image.{queueIn}
 use Rattle.image_parts.specs.Given.{Stepped}
 use Rattle.image.proofs.Fields.{node-is, processor-is, eight-at}
 use Rattle.image_parts.specs.Ready.{Placed, Owned}
 use Rattle.image_parts.proofs.Pieces.{moves, put-forward, put-lock, put-holder}
-use Rattle.image_parts.proofs.Pieces.{put-retired, put-idle}
+use Rattle.image_parts.proofs.Pieces.{put-retired, put-idle-job}
+use Rattle.image.proofs.Puts.{puts-append}
 use Rattle.image.proofs.Sizes.{sized-in}
-use Rattle.image_parts.proofs.Readings.{mine, arm, clock-is, levels-is, clears-below, own-is}
-use Rattle.image_parts.proofs.Readings.{mine-is, own-low, entryIn, entry-is}
+use Rattle.image_parts.proofs.Readings.{mine, jobAt, arm, clock-is, levels-is, fits-below}
+use Rattle.image_parts.proofs.Readings.{ends-below, own-is, mine-is, own-low, entryIn, entry-is}
 
--- a stage of a Delete_Min's removal
-abbrev deliver : Removal → Stage
-deliver r = removing jobs.Deliver r
+-- a stage of processor p's removal, whatever its job
+abbrev removal : List ℕ → ℕ → Removal → Stage
+removal b p r = removing (jobAt b p) r
 
 -- what the stages of a removal read besides
 module _ (b : List ℕ) (base p tag : ℕ) (r : Placed b base p tag) where
@@ -68,7 +74,7 @@ module _ (b : List ℕ) (base p tag : ℕ) (r : Placed b base p tag) where
   down-is =
       ap (λ (c : Processor). getD (c .saved) (mine b p 7 - 1 - 1) 0)
       (processor-is b p (r .processors-high) (r .low))
-      ∙ eight-at (piece b (7 + 17 * p)) 9 (mine b p 7 - 1 - 1)
+      ∙ eight-at (piece b (7 + 26 * p)) 9 (mine b p 7 - 1 - 1)
       (omega (arith, r .level-low, r .level-high))
 
 module _ (b : List ℕ) (base p tag : ℕ) (r : Owned b base p tag) where
@@ -91,7 +97,7 @@ module _ (b : List ℕ) (base p tag : ℕ) (r : Owned b base p tag) where
   top-is =
       let k = getD b (base + 41 * mine b p 4 + 35) 0 - 1 in
       ap (λ (c : Processor). getD (c .saved) k 0) (processor-is b p (r .processors-high) (r .low))
-      ∙ eight-at (piece b (7 + 17 * p)) 9 k (omega (arith, r .height-low, r .height-high))
+      ∙ eight-at (piece b (7 + 26 * p)) 9 k (omega (arith, r .height-low, r .height-high))
 
 -- L1
 module _ (b : List ℕ) (base p : ℕ) (r : Owned b base p 15) (after : List ℕ) (answer : Answer) where
@@ -99,7 +105,7 @@ module _ (b : List ℕ) (base p : ℕ) (r : Owned b base p 15) (after : List ℕ
       attempt (getD b (base + 41 * mine b p 4 + 16) 0) ≡ try.Taken →
       after ≡ puts
       (puts (puts b 0 (four 3 (number32 b 3 + 1))) (base + 41 * mine b p 4) ((16, p + 1) ∷ []))
-      (7 + 17 * p)
+      (7 + 26 * p)
       ((5, 16) ∷ (6, mine b p (9 + (getD b (base + 41 * mine b p 4 + 35) 0 - 1))) ∷
       (7, getD b (base + 41 * mine b p 4 + 35) 0) ∷ []) →
       answer ≡ ans.Moved →
@@ -110,14 +116,14 @@ module _ (b : List ℕ) (base p : ℕ) (r : Owned b base p 15) (after : List ℕ
       let c = processorAt q p in
       let s = stepViewOf q c (place 0 1) in
       arm b base p 15 (r .sound) (r .start) (r .nodes-high) (r .processors-high) (r .low)
-      (r .few) (r .early) (r .tagged) (deliver (rem.HoldNode)) refl refl
+      (r .few) (r .early) (r .tagged) (removal b p (rem.HoldNode)) refl refl
       (moved s (eff.HoldNode (mine b p 4))
-      (deliver
+      (removal b p
       (rem.Seek
       (seek.Approach
       (place (mine b p (9 + (getD b (base + 41 * mine b p 4 + 35) 0 - 1)))
       (getD b (base + 41 * mine b p 4 + 35) 0))))))
-      (ap (nodeTried jobs.Deliver s) (ap attempt (holder-is b base p 15 r) ∙ h)
+      (ap (nodeTried (jobAt b p) s) (ap attempt (holder-is b base p 15 r) ∙ h)
       ∙ rw (tall-is b base p 15 r, top-is b base p 15 r, mine-is b base p 15 r) refl)
       ((16, p + 1) ∷ [])
       ((5, 16) ∷ (6, mine b p (9 + (getD b (base + 41 * mine b p 4 + 35) 0 - 1))) ∷
@@ -127,7 +133,7 @@ module _ (b : List ℕ) (base p : ℕ) (r : Owned b base p 15) (after : List ℕ
 
   pub node-waits :
       (x : ℕ) → attempt (getD b (base + 41 * mine b p 4 + 16) 0) ≡ try.HeldBy x →
-      after ≡ puts (puts b 0 (four 3 (number32 b 3 + 1))) (7 + 17 * p) ([]) →
+      after ≡ puts (puts b 0 (four 3 (number32 b 3 + 1))) (7 + 26 * p) ([]) →
       answer ≡ ans.Waits x →
       Stepped b p after answer
   unfolding processorImage
@@ -136,9 +142,9 @@ module _ (b : List ℕ) (base p : ℕ) (r : Owned b base p 15) (after : List ℕ
       let c = processorAt q p in
       let s = stepViewOf q c (place 0 1) in
       arm b base p 15 (r .sound) (r .start) (r .nodes-high) (r .processors-high) (r .low)
-      (r .few) (r .early) (r .tagged) (deliver (rem.HoldNode)) refl refl
-      (waits s (deliver (rem.HoldNode)) x)
-      (ap (nodeTried jobs.Deliver s) (ap attempt (holder-is b base p 15 r) ∙ h))
+      (r .few) (r .early) (r .tagged) (removal b p (rem.HoldNode)) refl refl
+      (waits s (removal b p (rem.HoldNode)) x)
+      (ap (nodeTried (jobAt b p) s) (ap attempt (holder-is b base p 15 r) ∙ h))
       ([]) ([]) (omega arith) tt tt
       (refl) (refl) after e answer f
 
@@ -148,7 +154,7 @@ module _ (b : List ℕ) (base p : ℕ) (r : Placed b base p 20) (after : List �
       attempt (getD b (base + 41 * mine b p 4 + (8 + (mine b p 7 - 1))) 0) ≡ try.Taken →
       after ≡ puts
       (puts (puts b 0 (four 3 (number32 b 3 + 1))) (base + 41 * mine b p 4)
-      ((8 + (mine b p 7 - 1), p + 1) ∷ [])) (7 + 17 * p) ((5, 21) ∷ []) →
+      ((8 + (mine b p 7 - 1), p + 1) ∷ [])) (7 + 26 * p) ((5, 21) ∷ []) →
       answer ≡ ans.Moved →
       Stepped b p after answer
   unfolding processorImage
@@ -160,9 +166,9 @@ module _ (b : List ℕ) (base p : ℕ) (r : Placed b base p 20) (after : List �
       let s = stepViewOf q c a in
       let k< : k < 8 = omega (arith, r .level-high, r .level-low) in
       arm b base p 20 (r .sound) (r .start) (r .nodes-high) (r .processors-high) (r .low)
-      (r .few) (r .early) (r .tagged) (deliver (rem.HoldOwn a)) refl refl
-      (moved s (eff.HoldLevel (place (mine b p 4) (mine b p 7))) (deliver (rem.Unlink a)))
-      (ap (ownTried jobs.Deliver s a) (ap attempt (own-lock-is b base p 20 r) ∙ h)
+      (r .few) (r .early) (r .tagged) (removal b p (rem.HoldOwn a)) refl refl
+      (moved s (eff.HoldLevel (place (mine b p 4) (mine b p 7))) (removal b p (rem.Unlink a)))
+      (ap (ownTried (jobAt b p) s a) (ap attempt (own-lock-is b base p 20 r) ∙ h)
       ∙ rw (own-is b base p 20 r) refl)
       ((8 + k, p + 1) ∷ []) ((5, 21) ∷ []) (omega (arith, r .own-high, r .nodes-high))
       (omega arith, tt) (omega arith, tt)
@@ -173,7 +179,7 @@ module _ (b : List ℕ) (base p : ℕ) (r : Placed b base p 20) (after : List �
   pub own-waits :
       (x : ℕ) →
       attempt (getD b (base + 41 * mine b p 4 + (8 + (mine b p 7 - 1))) 0) ≡ try.HeldBy x →
-      after ≡ puts (puts b 0 (four 3 (number32 b 3 + 1))) (7 + 17 * p) ([]) →
+      after ≡ puts (puts b 0 (four 3 (number32 b 3 + 1))) (7 + 26 * p) ([]) →
       answer ≡ ans.Waits x →
       Stepped b p after answer
   unfolding processorImage
@@ -185,9 +191,9 @@ module _ (b : List ℕ) (base p : ℕ) (r : Placed b base p 20) (after : List �
       let s = stepViewOf q c a in
       let k< : k < 8 = omega (arith, r .level-high, r .level-low) in
       arm b base p 20 (r .sound) (r .start) (r .nodes-high) (r .processors-high) (r .low)
-      (r .few) (r .early) (r .tagged) (deliver (rem.HoldOwn a)) refl refl
-      (waits s (deliver (rem.HoldOwn a)) x)
-      (ap (ownTried jobs.Deliver s a) (ap attempt (own-lock-is b base p 20 r) ∙ h))
+      (r .few) (r .early) (r .tagged) (removal b p (rem.HoldOwn a)) refl refl
+      (waits s (removal b p (rem.HoldOwn a)) x)
+      (ap (ownTried (jobAt b p) s a) (ap attempt (own-lock-is b base p 20 r) ∙ h))
       ([]) ([]) (omega arith) tt tt
       (refl) (refl) after e answer f
 
@@ -197,7 +203,7 @@ module _ (b : List ℕ) (base p : ℕ) (r : Placed b base p 21) (after : List �
       after ≡ puts
       (puts (puts b 0 (four 3 (number32 b 3 + 1))) (base + 41 * mine b p 6)
       ((mine b p 7 - 1, getD b (base + 41 * mine b p 4 + (mine b p 7 - 1)) 0) ∷ []))
-      (7 + 17 * p) ((5, 22) ∷ []) →
+      (7 + 26 * p) ((5, 22) ∷ []) →
       answer ≡ ans.Moved →
       Stepped b p after answer
   unfolding processorImage
@@ -209,9 +215,9 @@ module _ (b : List ℕ) (base p : ℕ) (r : Placed b base p 21) (after : List �
       let s = stepViewOf q c a in
       let k< : k < 8 = omega (arith, r .level-high, r .level-low) in
       arm b base p 21 (r .sound) (r .start) (r .nodes-high) (r .processors-high) (r .low)
-      (r .few) (r .early) (r .tagged) (deliver (rem.Unlink a)) refl refl
+      (r .few) (r .early) (r .tagged) (removal b p (rem.Unlink a)) refl refl
       (moved s (eff.SetForward a (getD b (base + 41 * mine b p 4 + (mine b p 7 - 1)) 0))
-      (deliver (rem.LeadBack a))) (rw (onward-is b base p 21 r) refl)
+      (removal b p (rem.LeadBack a))) (rw (onward-is b base p 21 r) refl)
       ((k, getD b (base + 41 * mine b p 4 + (mine b p 7 - 1)) 0) ∷ []) ((5, 22) ∷ [])
       (omega (arith, r .node-low)) (omega arith, tt) (omega arith, tt)
       (put-forward (nodeAt q (mine b p 6)) (mine b p 7 - 1)
@@ -224,7 +230,7 @@ module _ (b : List ℕ) (base p : ℕ) (r : Placed b base p 22) (after : List �
   pub leads-back :
       after ≡ puts
       (puts (puts b 0 (four 3 (number32 b 3 + 1))) (base + 41 * mine b p 4)
-      ((mine b p 7 - 1, mine b p 6) ∷ [])) (7 + 17 * p) ((5, 23) ∷ []) →
+      ((mine b p 7 - 1, mine b p 6) ∷ [])) (7 + 26 * p) ((5, 23) ∷ []) →
       answer ≡ ans.Moved →
       Stepped b p after answer
   unfolding processorImage
@@ -236,9 +242,9 @@ module _ (b : List ℕ) (base p : ℕ) (r : Placed b base p 22) (after : List �
       let s = stepViewOf q c a in
       let k< : k < 8 = omega (arith, r .level-high, r .level-low) in
       arm b base p 22 (r .sound) (r .start) (r .nodes-high) (r .processors-high) (r .low)
-      (r .few) (r .early) (r .tagged) (deliver (rem.LeadBack a)) refl refl
+      (r .few) (r .early) (r .tagged) (removal b p (rem.LeadBack a)) refl refl
       (moved s (eff.SetForward (place (mine b p 4) (mine b p 7)) (mine b p 6))
-      (deliver (rem.FreeOwn a))) (rw (own-is b base p 22 r) refl)
+      (removal b p (rem.FreeOwn a))) (rw (own-is b base p 22 r) refl)
       ((k, mine b p 6) ∷ []) ((5, 23) ∷ []) (omega (arith, r .own-high, r .nodes-high))
       (omega arith, tt) (omega arith, tt)
       (put-forward (nodeAt q (mine b p 4)) (mine b p 7 - 1) (mine b p 6) [] k<
@@ -250,7 +256,7 @@ module _ (b : List ℕ) (base p : ℕ) (r : Placed b base p 23) (after : List �
   pub frees-own :
       after ≡ puts
       (puts (puts b 0 (four 3 (number32 b 3 + 1))) (base + 41 * mine b p 4)
-      ((8 + (mine b p 7 - 1), 0) ∷ [])) (7 + 17 * p) ((5, 24) ∷ []) →
+      ((8 + (mine b p 7 - 1), 0) ∷ [])) (7 + 26 * p) ((5, 24) ∷ []) →
       answer ≡ ans.Moved →
       Stepped b p after answer
   unfolding processorImage
@@ -262,8 +268,8 @@ module _ (b : List ℕ) (base p : ℕ) (r : Placed b base p 23) (after : List �
       let s = stepViewOf q c a in
       let k< : k < 8 = omega (arith, r .level-high, r .level-low) in
       arm b base p 23 (r .sound) (r .start) (r .nodes-high) (r .processors-high) (r .low)
-      (r .few) (r .early) (r .tagged) (deliver (rem.FreeOwn a)) refl refl
-      (moved s (eff.FreeLevel (place (mine b p 4) (mine b p 7))) (deliver (rem.FreeLevel a)))
+      (r .few) (r .early) (r .tagged) (removal b p (rem.FreeOwn a)) refl refl
+      (moved s (eff.FreeLevel (place (mine b p 4) (mine b p 7))) (removal b p (rem.FreeLevel a)))
       (rw (own-is b base p 23 r) refl)
       ((8 + k, 0) ∷ []) ((5, 24) ∷ []) (omega (arith, r .own-high, r .nodes-high))
       (omega arith, tt) (omega arith, tt)
@@ -277,7 +283,7 @@ module _ (b : List ℕ) (base p : ℕ) (r : Placed b base p 24) (after : List �
       mine b p 7 ≤ 1 →
       after ≡ puts
       (puts (puts b 0 (four 3 (number32 b 3 + 1))) (base + 41 * mine b p 6)
-      ((8 + (mine b p 7 - 1), 0) ∷ [])) (7 + 17 * p) ((5, 25) ∷ (6, 0) ∷ (7, 0) ∷ []) →
+      ((8 + (mine b p 7 - 1), 0) ∷ [])) (7 + 26 * p) ((5, 25) ∷ (6, 0) ∷ (7, 0) ∷ []) →
       answer ≡ ans.Moved →
       Stepped b p after answer
   unfolding processorImage
@@ -289,8 +295,8 @@ module _ (b : List ℕ) (base p : ℕ) (r : Placed b base p 24) (after : List �
       let s = stepViewOf q c a in
       let k< : k < 8 = omega (arith, r .level-high, r .level-low) in
       arm b base p 24 (r .sound) (r .start) (r .nodes-high) (r .processors-high) (r .low)
-      (r .few) (r .early) (r .tagged) (deliver (rem.FreeLevel a)) refl refl
-      (moved s (eff.FreeLevel a) (deliver (rem.FreeNode))) (rw (le-leb _ _ h) refl)
+      (r .few) (r .early) (r .tagged) (removal b p (rem.FreeLevel a)) refl refl
+      (moved s (eff.FreeLevel a) (removal b p (rem.FreeNode))) (rw (le-leb _ _ h) refl)
       ((8 + k, 0) ∷ []) ((5, 25) ∷ (6, 0) ∷ (7, 0) ∷ []) (omega (arith, r .node-low))
       (omega arith, tt) (omega arith, (omega arith, (omega arith, tt)))
       (put-lock (nodeAt q (mine b p 6)) (mine b p 7 - 1) 0 [] k<
@@ -301,7 +307,7 @@ module _ (b : List ℕ) (base p : ℕ) (r : Placed b base p 24) (after : List �
       1 < mine b p 7 →
       after ≡ puts
       (puts (puts b 0 (four 3 (number32 b 3 + 1))) (base + 41 * mine b p 6)
-      ((8 + (mine b p 7 - 1), 0) ∷ [])) (7 + 17 * p)
+      ((8 + (mine b p 7 - 1), 0) ∷ [])) (7 + 26 * p)
       ((5, 16) ∷ (6, mine b p (9 + ((mine b p 7 - 1) - 1))) ∷ (7, (mine b p 7 - 1)) ∷ []) →
       answer ≡ ans.Moved →
       Stepped b p after answer
@@ -314,9 +320,9 @@ module _ (b : List ℕ) (base p : ℕ) (r : Placed b base p 24) (after : List �
       let s = stepViewOf q c a in
       let k< : k < 8 = omega (arith, r .level-high, r .level-low) in
       arm b base p 24 (r .sound) (r .start) (r .nodes-high) (r .processors-high) (r .low)
-      (r .few) (r .early) (r .tagged) (deliver (rem.FreeLevel a)) refl refl
+      (r .few) (r .early) (r .tagged) (removal b p (rem.FreeLevel a)) refl refl
       (moved s (eff.FreeLevel a)
-      (deliver
+      (removal b p
       (rem.Seek
       (seek.Approach (place (mine b p (9 + (mine b p 7 - 1 - 1))) (mine b p 7 - 1))))))
       (rw (lt-leb _ _ h, down-is b base p 24 r) refl)
@@ -332,7 +338,7 @@ module _ (b : List ℕ) (base p : ℕ) (r : Owned b base p 25) (after : List ℕ
   pub frees-node :
       after ≡ puts
       (puts (puts b 0 (four 3 (number32 b 3 + 1))) (base + 41 * mine b p 4) ((16, 0) ∷ []))
-      (7 + 17 * p) ((5, 26) ∷ []) →
+      (7 + 26 * p) ((5, 26) ∷ []) →
       answer ≡ ans.Moved →
       Stepped b p after answer
   unfolding processorImage
@@ -341,49 +347,52 @@ module _ (b : List ℕ) (base p : ℕ) (r : Owned b base p 25) (after : List ℕ
       let c = processorAt q p in
       let s = stepViewOf q c (place 0 1) in
       arm b base p 25 (r .sound) (r .start) (r .nodes-high) (r .processors-high) (r .low)
-      (r .few) (r .early) (r .tagged) (deliver (rem.FreeNode)) refl refl
-      (moved s (eff.FreeNode (mine b p 4)) (deliver (rem.Retire)))
+      (r .few) (r .early) (r .tagged) (removal b p (rem.FreeNode)) refl refl
+      (moved s (eff.FreeNode (mine b p 4)) (removal b p (rem.Retire)))
       (rw (mine-is b base p 25 r) refl)
       ((16, 0) ∷ []) ((5, 26) ∷ []) (own-low b base p 25 r) (omega arith, tt) (omega arith, tt)
       (put-holder (nodeAt q (mine b p 4)) 0) (refl) after e answer f
 
--- L8
+-- L8: what it tells, by the job's number
+told : (n : ℕ) (e : Entry) →
+    handing (jobOf n) e ≡ ans.Did (cond (eqb n 0) deed.HandedOut deed.TakenBack) e
+told n e = go (eqb n 0)
+  where
+    go : (t : Bool) →
+        handing (cond t jobs.Deliver jobs.TakeBack) e
+        ≡ ans.Did (cond t deed.HandedOut deed.TakenBack) e
+    go true = refl
+    go false = refl
+
 module _ (b : List ℕ) (base p : ℕ) (r : Owned b base p 26) (after : List ℕ) (answer : Answer) where
   pub retires :
       after ≡ puts
+      (puts
       (puts (puts b 0 (four 3 (number32 b 3 + 1))) (base + 41 * mine b p 4)
-      ((36, 2) ∷ four 37 (number32 b 3 + 1))) (7 + 17 * p) (clears (getD b 2 0) ++ rests) →
-      answer ≡ ans.Did deed.HandedOut (entryIn b (base + 41 * mine b p 4)) →
+      ((36, 2) ∷ four 37 (number32 b 3 + 1))) (7 + 26 * p) (clears (getD b 2 0) ++ rests))
+      (7 + 26 * p) ((17, 0) ∷ []) →
+      answer
+      ≡ ans.Did (cond (eqb (mine b p 17) 0) deed.HandedOut deed.TakenBack)
+      (entryIn b (base + 41 * mine b p 4)) →
       Stepped b p after answer
   retires e f =
       let q = queueIn b in
       let c = processorAt q p in
-      let s = stepViewOf q c (place 0 1) in
+      let E = entryIn b (base + 41 * mine b p 4) in
+      let l = getD b 2 0 in
       arm b base p 26 (r .sound) (r .start) (r .nodes-high) (r .processors-high) (r .low)
-      (r .few) (r .early) (r .tagged) (deliver (rem.Retire)) refl refl
+      (r .few) (r .early) (r .tagged) (removal b p (rem.Retire)) refl refl
       (answers (eff.Retire (mine b p 4))
-      (ans.Did deed.HandedOut (entryIn b (base + 41 * mine b p 4))))
+      (ans.Did (cond (eqb (mine b p 17) 0) deed.HandedOut deed.TakenBack) E))
       (rw (
         mine-is b base p 26 r,
-        entry-is b base (r .start) (r .nodes-high) (mine b p 4)
-            (own-low b base p 26 r),
-      ) refl)
-      ((36, 2) ∷ four 37 (number32 b 3 + 1)) (clears (getD b 2 0) ++ rests) (own-low b base p 26 r)
-      (omega arith, (omega arith, (omega arith, (omega arith, (omega arith, tt)))))
-      (clears-below (getD b 2 0) rests (r .levels-high) (
-        omega arith,
-        (
-          omega arith,
-          (
-            omega arith,
-            (
-              omega arith,
-              (omega arith, (omega arith, (omega arith, (omega arith, (omega arith, tt))))),
-            ),
-          ),
-        ),
-      ))
+        entry-is b base (r .start) (r .nodes-high) (mine b p 4) (own-low b base p 26 r),
+      ) (ap (answers (eff.Retire (mine b p 4))) (told (mine b p 17) E)))
+      ((36, 2) ∷ four 37 (number32 b 3 + 1)) ((clears l ++ rests) ++ ((17, 0) ∷ []))
+      (own-low b base p 26 r) (fits-below 41 ((36, 2) ∷ four 37 (number32 b 3 + 1)) refl)
+      (ends-below l ((17, 0) ∷ []) (r .levels-high) (omega arith, tt))
       (rw (clock-is b) (put-retired (nodeAt q (mine b p 4)) (number32 b 3 + 1)))
       (rw (levels-is b)
-      (put-idle (moves c (deliver (rem.Retire)) (c .saved)) (getD b 2 0)
-      (sized-in b .saved-long p (r .few)))) after e answer f
+      (put-idle-job (moves c (removal b p (rem.Retire)) (c .saved)) l (r .levels-high)
+      (sized-in b .saved-long p (r .few)) (jobNumber (jobAt b p)) refl)) after
+      (e ∙ sym (puts-append _ (7 + 26 * p) (clears l ++ rests) ((17, 0) ∷ []))) answer f

@@ -1,5 +1,9 @@
 // The removal of a marked node, in place, but for its Search and its Lock-seek.
+ghost use mathlib.Core.Path.{_≡_};
+ghost use mathlib.Core.Bool.{cond};
+ghost use lib.Dec.{eqb};
 ghost use Rattle.record.specs.declared.stages.Removal.the-variants as rem;
+ghost use Rattle.rules.specs.declared.answers.Deed.the-variants as deed;
 ghost use Rattle.image.specs.Tags.{anywhere, removalTag};
 ghost use Rattle.image_parts.specs.Given.{Stepped};
 ghost use Rattle.image_parts.specs.Ready.{Placed, Owned};
@@ -149,6 +153,17 @@ pub fn free_node(image: &mut [u8], base: usize, p: usize) -> Answer
     Answer::Moved
 }
 
+// What L8 tells, by the job's number.
+fn deed_of(job: u8) -> Deed
+    ensures { λ r. ⌜ r ≡ cond (eqb job 0) deed.HandedOut deed.TakenBack ⌝ }
+{
+    if job == processor::DELIVER {
+        Deed::HandedOut
+    } else {
+        Deed::TakenBack
+    }
+}
+
 // L8.
 pub fn retire(image: &mut [u8], base: usize, p: usize) -> Answer
     requires { ⌜ Owned (now image) base p (removalTag rem.Retire) ⌝ }
@@ -156,6 +171,7 @@ pub fn retire(image: &mut [u8], base: usize, p: usize) -> Answer
 {
     let at = HEADER + PROCESSOR_BYTES * p;
     let own = image[at + processor::OWN];
+    let done = deed_of(image[at + processor::JOB]);
     let l = image[header::LEVEL_COUNT] as usize;
     let here = base + NODE_BYTES * (own as usize);
     let due = number_from(image, here + node::DUE);
@@ -166,8 +182,9 @@ pub fn retire(image: &mut [u8], base: usize, p: usize) -> Answer
     image[here + node::USE] = node::RETIRED;
     put_number(image, here, node::USE_TIME, t);
     clear(image, at, l);
+    image[at + processor::JOB] = 0;
     Answer::Did(
-        Deed::HandedOut,
+        done,
         Entry {
             due: due,
             item: item,

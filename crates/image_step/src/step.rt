@@ -29,6 +29,10 @@ use image_removal::removals::hold_own;
 use image_removal::removals::lead_back;
 use image_removal::removals::retire;
 use image_removal::removals::unlink;
+use image_remove::finds::read_next as remove_read_next;
+use image_remove::finds::search as remove_search;
+use image_remove::finds::set_mark as remove_set_mark;
+use image_remove::finds::test_stamp as remove_test_stamp;
 use image_walks::walks::approach;
 use image_walks::walks::confirm;
 use image_walks::walks::release;
@@ -73,6 +77,10 @@ fn stage_step(image: &mut [u8], base: usize, p: usize) -> Answer
         26 => return retire(image, base, p),
         27 => return read_next(image, base, p, true),
         28 => return set_mark(image, base, p, true),
+        29 => return remove_search(image, base, p),
+        30 => return remove_read_next(image, base, p),
+        31 => return remove_test_stamp(image, base, p),
+        32 => return remove_set_mark(image, base, p),
         _ => return Answer::Moved,
     }
 }

@@ -23,7 +23,8 @@ use Rattle.image.proofs.Sizes.{sized-in}
 use Rattle.image_parts.specs.Given.{Stepped}
 use Rattle.image_parts.specs.Ready.{keyIn, Placed}
 use Rattle.image_parts.proofs.Pieces.{put-lock}
-use Rattle.image_parts.proofs.Readings.{mine, onward, arm, next-is, before-is, place-lock-is}
+use Rattle.image_parts.proofs.Readings.{mine, jobAt, onward, arm, next-is, before-is}
+use Rattle.image_parts.proofs.Readings.{place-lock-is}
 use Rattle.image_walks.specs.Walks.{searchTag, seekTag}
 use Rattle.image_walks.proofs.Tags.{
   searching,
@@ -64,147 +65,153 @@ module _ (w : Bool) (b : List ℕ) (base p : ℕ) (r : Placed b base p (searchTa
     (answer : Answer) where
   pub search-ahead :
       true ≡ keyBefore (keyIn b base (onward b base p)) (keyIn b base (mine b p 4)) →
-      after ≡ puts (puts b 0 (four 3 (number32 b 3 + 1))) (7 + 17 * p) ((6, onward b base p) ∷ []) →
+      after ≡ puts (puts b 0 (four 3 (number32 b 3 + 1))) (7 + 26 * p) ((6, onward b base p) ∷ []) →
       answer ≡ ans.Moved →
       Stepped b p after answer
   search-ahead h e f =
       let q = queueIn b in
       let c = processorAt q p in
+      let j = jobAt b p in
       let a = place (mine b p 6) (mine b p 7) in
       let s = stepViewOf q c a in
       let k< : mine b p 7 - 1 < 8 = omega (arith, r .level-high, r .level-low) in
       arm b base p (searchTag w) (r .sound) (r .start) (r .nodes-high) (r .processors-high)
       (r .low) (r .few)
-      (r .early) (r .tagged) (searching w a) (search-tag w (mine b p 6) (mine b p 7) (mine b p 8))
-      (search-busy w a)
-      (moved s eff.Keep (searching w (place (onward b base p) (mine b p 7))))
-      (search-goes (stepViewOf q c) a w (before-is b base p (searchTag w) r ∙ sym h)
-      ∙ ap (λ (n : ℕ). moved s eff.Keep (searching w (place n (mine b p 7))))
+      (r .early) (r .tagged) (searching j w a) (search-tag b p w)
+      (search-busy j w a)
+      (moved s eff.Keep (searching j w (place (onward b base p) (mine b p 7))))
+      (search-goes (stepViewOf q c) a j w (before-is b base p (searchTag w) r ∙ sym h)
+      ∙ ap (λ (n : ℕ). moved s eff.Keep (searching j w (place n (mine b p 7))))
       (next-is b base p (searchTag w) r))
       [] ((6, onward b base p) ∷ []) (omega arith) tt (omega arith, tt)
       refl
-      (search-moves c a w (onward b base p)) after e answer f
+      (search-moves c a j w (onward b base p)) after e answer f
 
   pub search-down :
       false ≡ keyBefore (keyIn b base (onward b base p)) (keyIn b base (mine b p 4)) →
       1 < mine b p 7 →
-      after ≡ puts (puts b 0 (four 3 (number32 b 3 + 1))) (7 + 17 * p)
+      after ≡ puts (puts b 0 (four 3 (number32 b 3 + 1))) (7 + 26 * p)
       ((9 + (mine b p 7 - 1), mine b p 6) ∷ (7, mine b p 7 - 1) ∷ []) →
       answer ≡ ans.Moved →
       Stepped b p after answer
   search-down h i e f =
       let q = queueIn b in
       let c = processorAt q p in
+      let j = jobAt b p in
       let a = place (mine b p 6) (mine b p 7) in
       let s = stepViewOf q c a in
       let k< : mine b p 7 - 1 < 8 = omega (arith, r .level-high, r .level-low) in
       arm b base p (searchTag w) (r .sound) (r .start) (r .nodes-high) (r .processors-high)
       (r .low) (r .few)
-      (r .early) (r .tagged) (searching w a) (search-tag w (mine b p 6) (mine b p 7) (mine b p 8))
-      (search-busy w a)
-      (saving s a (searching w (place (mine b p 6) (mine b p 7 - 1))))
-      (search-falls (stepViewOf q c) a w (before-is b base p (searchTag w) r ∙ sym h)
+      (r .early) (r .tagged) (searching j w a) (search-tag b p w)
+      (search-busy j w a)
+      (saving s a (searching j w (place (mine b p 6) (mine b p 7 - 1))))
+      (search-falls (stepViewOf q c) a j w (before-is b base p (searchTag w) r ∙ sym h)
       (lt-leb _ _ i))
       [] ((9 + (mine b p 7 - 1), mine b p 6) ∷ (7, mine b p 7 - 1) ∷ []) (omega arith) tt
       (omega arith, (omega arith, tt))
       refl
-      (search-saves c a (sized-in b .saved-long p (r .few)) (mine b p 7 - 1) (mine b p 6) w
+      (search-saves c a j (sized-in b .saved-long p (r .few)) (mine b p 7 - 1) (mine b p 6) k< w
       (mine b p 7 - 1)) after e answer f
 
 module _ (b : List ℕ) (base p : ℕ) (r : Placed b base p 1) (after : List ℕ) (answer : Answer) where
   pub insert-searched :
       false ≡ keyBefore (keyIn b base (onward b base p)) (keyIn b base (mine b p 4)) →
       mine b p 7 ≤ 1 →
-      after ≡ puts (puts b 0 (four 3 (number32 b 3 + 1))) (7 + 17 * p)
+      after ≡ puts (puts b 0 (four 3 (number32 b 3 + 1))) (7 + 26 * p)
       ((9 + (mine b p 7 - 1), mine b p 6) ∷ (5, 2) ∷ []) →
       answer ≡ ans.Moved →
       Stepped b p after answer
   insert-searched h i e f =
       let q = queueIn b in
       let c = processorAt q p in
+      let j = jobAt b p in
       let a = place (mine b p 6) (mine b p 7) in
       let s = stepViewOf q c a in
       let k< : mine b p 7 - 1 < 8 = omega (arith, r .level-high, r .level-low) in
       arm b base p 1 (r .sound) (r .start) (r .nodes-high) (r .processors-high) (r .low) (r .few)
-      (r .early) (r .tagged) (searching false a) refl refl
-      (saving s a (left false a))
-      (search-ends (stepViewOf q c) a false (before-is b base p 1 r ∙ sym h) (le-leb _ _ i))
+      (r .early) (r .tagged) (searching j false a) refl refl
+      (saving s a (left j false a))
+      (search-ends (stepViewOf q c) a j false (before-is b base p 1 r ∙ sym h) (le-leb _ _ i))
       [] ((9 + (mine b p 7 - 1), mine b p 6) ∷ (5, 2) ∷ []) (omega arith) tt
       (omega arith, (omega arith, tt))
       refl
-      (insert-leaves c a (sized-in b .saved-long p (r .few)) (mine b p 7 - 1) (mine b p 6)) after e
-      answer f
+      (insert-leaves c a j (sized-in b .saved-long p (r .few)) (mine b p 7 - 1) (mine b p 6) k<)
+      after e answer f
 
 module _ (b : List ℕ) (base p : ℕ) (r : Placed b base p 14) (after : List ℕ) (answer : Answer) where
   pub removal-searched :
       false ≡ keyBefore (keyIn b base (onward b base p)) (keyIn b base (mine b p 4)) →
       mine b p 7 ≤ 1 →
-      after ≡ puts (puts b 0 (four 3 (number32 b 3 + 1))) (7 + 17 * p)
+      after ≡ puts (puts b 0 (four 3 (number32 b 3 + 1))) (7 + 26 * p)
       ((9 + (mine b p 7 - 1), mine b p 6) ∷ (5, 15) ∷ (6, 0) ∷ (7, 0) ∷ []) →
       answer ≡ ans.Moved →
       Stepped b p after answer
   removal-searched h i e f =
       let q = queueIn b in
       let c = processorAt q p in
+      let j = jobAt b p in
       let a = place (mine b p 6) (mine b p 7) in
       let s = stepViewOf q c a in
       let k< : mine b p 7 - 1 < 8 = omega (arith, r .level-high, r .level-low) in
       arm b base p 14 (r .sound) (r .start) (r .nodes-high) (r .processors-high) (r .low) (r .few)
-      (r .early) (r .tagged) (searching true a) refl refl
-      (saving s a (left true a))
-      (search-ends (stepViewOf q c) a true (before-is b base p 14 r ∙ sym h) (le-leb _ _ i))
+      (r .early) (r .tagged) (searching j true a) refl refl
+      (saving s a (left j true a))
+      (search-ends (stepViewOf q c) a j true (before-is b base p 14 r ∙ sym h) (le-leb _ _ i))
       [] ((9 + (mine b p 7 - 1), mine b p 6) ∷ (5, 15) ∷ (6, 0) ∷ (7, 0) ∷ []) (omega arith) tt
       (omega arith, (omega arith, (omega arith, (omega arith, tt))))
       refl
-      (removal-leaves c a (sized-in b .saved-long p (r .few)) (mine b p 7 - 1) (mine b p 6)) after
-      e answer f
+      (removal-leaves c a j (sized-in b .saved-long p (r .few)) (mine b p 7 - 1) (mine b p 6) k<)
+      after e answer f
 
 -- G1
 module _ (w : Bool) (b : List ℕ) (base p : ℕ) (r : Placed b base p (seekTag w)) (after : List ℕ)
     (answer : Answer) where
   pub approach-ahead :
       true ≡ keyBefore (keyIn b base (onward b base p)) (keyIn b base (mine b p 4)) →
-      after ≡ puts (puts b 0 (four 3 (number32 b 3 + 1))) (7 + 17 * p) ((6, onward b base p) ∷ []) →
+      after ≡ puts (puts b 0 (four 3 (number32 b 3 + 1))) (7 + 26 * p) ((6, onward b base p) ∷ []) →
       answer ≡ ans.Moved →
       Stepped b p after answer
   approach-ahead h e f =
       let q = queueIn b in
       let c = processorAt q p in
+      let j = jobAt b p in
       let a = place (mine b p 6) (mine b p 7) in
       let s = stepViewOf q c a in
       let k< : mine b p 7 - 1 < 8 = omega (arith, r .level-high, r .level-low) in
       arm b base p (seekTag w) (r .sound) (r .start) (r .nodes-high) (r .processors-high)
       (r .low) (r .few)
-      (r .early) (r .tagged) (seeking w (seek.Approach a))
-      (approach-tag w (mine b p 6) (mine b p 7) (mine b p 8)) (seek-busy w (seek.Approach a))
-      (moved s eff.Keep (seeking w (seek.Approach (place (onward b base p) (mine b p 7)))))
-      (approach-goes (stepViewOf q c) a w (before-is b base p (seekTag w) r ∙ sym h)
-      ∙ ap (λ (n : ℕ). moved s eff.Keep (seeking w (seek.Approach (place n (mine b p 7)))))
+      (r .early) (r .tagged) (seeking j w (seek.Approach a))
+      (approach-tag b p w) (seek-busy j w (seek.Approach a))
+      (moved s eff.Keep (seeking j w (seek.Approach (place (onward b base p) (mine b p 7)))))
+      (approach-goes (stepViewOf q c) a j w (before-is b base p (seekTag w) r ∙ sym h)
+      ∙ ap (λ (n : ℕ). moved s eff.Keep (seeking j w (seek.Approach (place n (mine b p 7)))))
       (next-is b base p (seekTag w) r))
       [] ((6, onward b base p) ∷ []) (omega arith) tt (omega arith, tt)
       refl
-      (approach-moves c a w (onward b base p)) after e answer f
+      (approach-moves c a j w (onward b base p)) after e answer f
 
   pub approach-there :
       false ≡ keyBefore (keyIn b base (onward b base p)) (keyIn b base (mine b p 4)) →
-      after ≡ puts (puts b 0 (four 3 (number32 b 3 + 1))) (7 + 17 * p) ((5, seekTag w + 1) ∷ []) →
+      after ≡ puts (puts b 0 (four 3 (number32 b 3 + 1))) (7 + 26 * p) ((5, seekTag w + 1) ∷ []) →
       answer ≡ ans.Moved →
       Stepped b p after answer
   approach-there h e f =
       let q = queueIn b in
       let c = processorAt q p in
+      let j = jobAt b p in
       let a = place (mine b p 6) (mine b p 7) in
       let s = stepViewOf q c a in
       let k< : mine b p 7 - 1 < 8 = omega (arith, r .level-high, r .level-low) in
       arm b base p (seekTag w) (r .sound) (r .start) (r .nodes-high) (r .processors-high)
       (r .low) (r .few)
-      (r .early) (r .tagged) (seeking w (seek.Approach a))
-      (approach-tag w (mine b p 6) (mine b p 7) (mine b p 8)) (seek-busy w (seek.Approach a))
-      (moved s eff.Keep (seeking w (seek.Take a)))
-      (approach-ends (stepViewOf q c) a w (before-is b base p (seekTag w) r ∙ sym h))
+      (r .early) (r .tagged) (seeking j w (seek.Approach a))
+      (approach-tag b p w) (seek-busy j w (seek.Approach a))
+      (moved s eff.Keep (seeking j w (seek.Take a)))
+      (approach-ends (stepViewOf q c) a j w (before-is b base p (seekTag w) r ∙ sym h))
       [] ((5, seekTag w + 1) ∷ []) (omega arith) tt (omega arith, tt)
       refl
-      (takes-next c a w) after e answer f
+      (takes-next c a j w) after e answer f
 
 -- G2
 module _ (w : Bool) (b : List ℕ) (base p : ℕ) (r : Placed b base p (seekTag w + 1))
@@ -213,46 +220,48 @@ module _ (w : Bool) (b : List ℕ) (base p : ℕ) (r : Placed b base p (seekTag 
       attempt (getD b (base + 41 * mine b p 6 + (8 + (mine b p 7 - 1))) 0) ≡ try.Taken →
       after ≡ puts
       (puts (puts b 0 (four 3 (number32 b 3 + 1))) (base + 41 * mine b p 6)
-      ((8 + (mine b p 7 - 1), p + 1) ∷ [])) (7 + 17 * p) ((5, seekTag w + 2) ∷ []) →
+      ((8 + (mine b p 7 - 1), p + 1) ∷ [])) (7 + 26 * p) ((5, seekTag w + 2) ∷ []) →
       answer ≡ ans.Moved →
       Stepped b p after answer
   takes h e f =
       let q = queueIn b in
       let c = processorAt q p in
+      let j = jobAt b p in
       let a = place (mine b p 6) (mine b p 7) in
       let s = stepViewOf q c a in
       let k< : mine b p 7 - 1 < 8 = omega (arith, r .level-high, r .level-low) in
       arm b base p (seekTag w + 1) (r .sound) (r .start) (r .nodes-high) (r .processors-high)
       (r .low) (r .few)
-      (r .early) (r .tagged) (seeking w (seek.Take a))
-      (take-tag w (mine b p 6) (mine b p 7) (mine b p 8)) (seek-busy w (seek.Take a))
-      (moved s (eff.HoldLevel a) (seeking w (seek.Confirm a)))
-      (take-goes (stepViewOf q c) a w
+      (r .early) (r .tagged) (seeking j w (seek.Take a))
+      (take-tag b p w) (seek-busy j w (seek.Take a))
+      (moved s (eff.HoldLevel a) (seeking j w (seek.Confirm a)))
+      (take-goes (stepViewOf q c) a j w
       (ap attempt (place-lock-is b base p (seekTag w + 1) r) ∙ h))
       ((8 + (mine b p 7 - 1), p + 1) ∷ []) ((5, seekTag w + 2) ∷ []) (omega (arith, r .node-low))
       (omega arith, tt) (omega arith, tt)
       (put-lock (nodeAt q (mine b p 6)) (mine b p 7 - 1) (p + 1) [] k<
       (sized-in b .locks-long (mine b p 6) (omega (arith, r .node-low, r .nodes-high))))
-      (confirms-next c a w) after e answer f
+      (confirms-next c a j w) after e answer f
 
   pub take-waits :
       (x : ℕ) →
       attempt (getD b (base + 41 * mine b p 6 + (8 + (mine b p 7 - 1))) 0) ≡ try.HeldBy x →
-      after ≡ puts (puts b 0 (four 3 (number32 b 3 + 1))) (7 + 17 * p) [] →
+      after ≡ puts (puts b 0 (four 3 (number32 b 3 + 1))) (7 + 26 * p) [] →
       answer ≡ ans.Waits x →
       Stepped b p after answer
   take-waits x h e f =
       let q = queueIn b in
       let c = processorAt q p in
+      let j = jobAt b p in
       let a = place (mine b p 6) (mine b p 7) in
       let s = stepViewOf q c a in
       let k< : mine b p 7 - 1 < 8 = omega (arith, r .level-high, r .level-low) in
       arm b base p (seekTag w + 1) (r .sound) (r .start) (r .nodes-high) (r .processors-high)
       (r .low) (r .few)
-      (r .early) (r .tagged) (seeking w (seek.Take a))
-      (take-tag w (mine b p 6) (mine b p 7) (mine b p 8)) (seek-busy w (seek.Take a))
-      (waits s (seeking w (seek.Take a)) x)
-      (take-stays (stepViewOf q c) a w x
+      (r .early) (r .tagged) (seeking j w (seek.Take a))
+      (take-tag b p w) (seek-busy j w (seek.Take a))
+      (waits s (seeking j w (seek.Take a)) x)
+      (take-stays (stepViewOf q c) a j w x
       (ap attempt (place-lock-is b base p (seekTag w + 1) r) ∙ h))
       [] [] (omega arith) tt tt
       refl
@@ -263,49 +272,51 @@ module _ (w : Bool) (b : List ℕ) (base p : ℕ) (r : Placed b base p (seekTag 
     (after : List ℕ) (answer : Answer) where
   pub confirm-ahead :
       true ≡ keyBefore (keyIn b base (onward b base p)) (keyIn b base (mine b p 4)) →
-      after ≡ puts (puts b 0 (four 3 (number32 b 3 + 1))) (7 + 17 * p)
+      after ≡ puts (puts b 0 (four 3 (number32 b 3 + 1))) (7 + 26 * p)
       ((5, seekTag w + 3) ∷ (8, onward b base p) ∷ []) →
       answer ≡ ans.Moved →
       Stepped b p after answer
   confirm-ahead h e f =
       let q = queueIn b in
       let c = processorAt q p in
+      let j = jobAt b p in
       let a = place (mine b p 6) (mine b p 7) in
       let s = stepViewOf q c a in
       let k< : mine b p 7 - 1 < 8 = omega (arith, r .level-high, r .level-low) in
       arm b base p (seekTag w + 2) (r .sound) (r .start) (r .nodes-high) (r .processors-high)
       (r .low) (r .few)
-      (r .early) (r .tagged) (seeking w (seek.Confirm a))
-      (confirm-tag w (mine b p 6) (mine b p 7) (mine b p 8)) (seek-busy w (seek.Confirm a))
-      (moved s eff.Keep (seeking w (seek.Release a (onward b base p))))
-      (confirm-goes (stepViewOf q c) a w (before-is b base p (seekTag w + 2) r ∙ sym h)
-      ∙ ap (λ (n : ℕ). moved s eff.Keep (seeking w (seek.Release a n)))
+      (r .early) (r .tagged) (seeking j w (seek.Confirm a))
+      (confirm-tag b p w) (seek-busy j w (seek.Confirm a))
+      (moved s eff.Keep (seeking j w (seek.Release a (onward b base p))))
+      (confirm-goes (stepViewOf q c) a j w (before-is b base p (seekTag w + 2) r ∙ sym h)
+      ∙ ap (λ (n : ℕ). moved s eff.Keep (seeking j w (seek.Release a n)))
       (next-is b base p (seekTag w + 2) r))
       [] ((5, seekTag w + 3) ∷ (8, onward b base p) ∷ []) (omega arith) tt
       (omega arith, (omega arith, tt))
       refl
-      (releases-next c a w (onward b base p)) after e answer f
+      (releases-next c a j w (onward b base p)) after e answer f
 
   pub confirm-done :
       false ≡ keyBefore (keyIn b base (onward b base p)) (keyIn b base (mine b p 4)) →
-      after ≡ puts (puts b 0 (four 3 (number32 b 3 + 1))) (7 + 17 * p) ((5, seekTag w + 4) ∷ []) →
+      after ≡ puts (puts b 0 (four 3 (number32 b 3 + 1))) (7 + 26 * p) ((5, seekTag w + 4) ∷ []) →
       answer ≡ ans.Moved →
       Stepped b p after answer
   confirm-done h e f =
       let q = queueIn b in
       let c = processorAt q p in
+      let j = jobAt b p in
       let a = place (mine b p 6) (mine b p 7) in
       let s = stepViewOf q c a in
       let k< : mine b p 7 - 1 < 8 = omega (arith, r .level-high, r .level-low) in
       arm b base p (seekTag w + 2) (r .sound) (r .start) (r .nodes-high) (r .processors-high)
       (r .low) (r .few)
-      (r .early) (r .tagged) (seeking w (seek.Confirm a))
-      (confirm-tag w (mine b p 6) (mine b p 7) (mine b p 8)) (seek-busy w (seek.Confirm a))
-      (moved s eff.Keep (sought w a))
-      (confirm-ends (stepViewOf q c) a w (before-is b base p (seekTag w + 2) r ∙ sym h))
+      (r .early) (r .tagged) (seeking j w (seek.Confirm a))
+      (confirm-tag b p w) (seek-busy j w (seek.Confirm a))
+      (moved s eff.Keep (sought j w a))
+      (confirm-ends (stepViewOf q c) a j w (before-is b base p (seekTag w + 2) r ∙ sym h))
       [] ((5, seekTag w + 4) ∷ []) (omega arith) tt (omega arith, tt)
       refl
-      (leaves c a w) after e answer f
+      (leaves c a j w) after e answer f
 
 -- G4
 module _ (w : Bool) (b : List ℕ) (base p : ℕ) (r : Placed b base p (seekTag w + 3))
@@ -313,26 +324,27 @@ module _ (w : Bool) (b : List ℕ) (base p : ℕ) (r : Placed b base p (seekTag 
   pub releases :
       after ≡ puts
       (puts (puts b 0 (four 3 (number32 b 3 + 1))) (base + 41 * mine b p 6)
-      ((8 + (mine b p 7 - 1), 0) ∷ [])) (7 + 17 * p)
+      ((8 + (mine b p 7 - 1), 0) ∷ [])) (7 + 26 * p)
       ((5, seekTag w + 1) ∷ (6, mine b p 8) ∷ (8, 0) ∷ []) →
       answer ≡ ans.Moved →
       Stepped b p after answer
   releases e f =
       let q = queueIn b in
       let c = processorAt q p in
+      let j = jobAt b p in
       let a = place (mine b p 6) (mine b p 7) in
       let s = stepViewOf q c a in
       let k< : mine b p 7 - 1 < 8 = omega (arith, r .level-high, r .level-low) in
       arm b base p (seekTag w + 3) (r .sound) (r .start) (r .nodes-high) (r .processors-high)
       (r .low) (r .few)
-      (r .early) (r .tagged) (seeking w (seek.Release a (mine b p 8)))
-      (release-tag w (mine b p 6) (mine b p 7) (mine b p 8))
-      (seek-busy w (seek.Release a (mine b p 8)))
-      (moved s (eff.FreeLevel a) (seeking w (seek.Take (place (mine b p 8) (mine b p 7)))))
-      (release-goes (stepViewOf q c) a w (mine b p 8))
+      (r .early) (r .tagged) (seeking j w (seek.Release a (mine b p 8)))
+      (release-tag b p w)
+      (seek-busy j w (seek.Release a (mine b p 8)))
+      (moved s (eff.FreeLevel a) (seeking j w (seek.Take (place (mine b p 8) (mine b p 7)))))
+      (release-goes (stepViewOf q c) a j w (mine b p 8))
       ((8 + (mine b p 7 - 1), 0) ∷ []) ((5, seekTag w + 1) ∷ (6, mine b p 8) ∷ (8, 0) ∷ [])
       (omega (arith, r .node-low)) (omega arith, tt)
       (omega arith, (omega arith, (omega arith, tt)))
       (put-lock (nodeAt q (mine b p 6)) (mine b p 7 - 1) 0 [] k<
       (sized-in b .locks-long (mine b p 6) (omega (arith, r .node-low, r .nodes-high))))
-      (takes-again c a w (mine b p 8)) after e answer f
+      (takes-again c a j w (mine b p 8)) after e answer f

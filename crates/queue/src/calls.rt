@@ -1,13 +1,13 @@
 // The calls, on any record and with any numbers: check 21 and then the inner form, which a caller
 // that keeps the record calls itself, since it pays for no scan. The refusals stand in the order of
-// document 01's table, with document 02's 39: 21; 31, 32; 33 or 34; 35, 39, 36, 37. A refused call
-// gives its number and the record as it came.
+// document 01's table, with document 02's 38 and 39: 21; 31, 32; 33 or 34; of an Insert 35, 39, 36,
+// 37; of a Remove 38. A refused call gives its number and the record as it came.
 ghost use mathlib.Core.Path.{_≡_};
 ghost use mathlib.Core.Bool.{true};
 ghost use Rattle.record_check.specs.Check.{valid as validOf};
 ghost use Rattle.rules.specs.Answers.{reported};
 ghost use Rattle.rules.specs.Calls.{calledValid, called, beginInsert, beginDeleteMin};
-ghost use Rattle.rules.specs.Calls.{beginRelaxed, step as stepOf};
+ghost use Rattle.rules.specs.Calls.{beginRelaxed, beginRemove, step as stepOf};
 use crate::applying::applied;
 use crate::deciding::decision_of;
 use crate::reading::idle_at;
@@ -88,6 +88,15 @@ pub fn begin_relaxed(q: Queue, processor: u32) -> Outcome
     ensures { λ r. ⌜ reported (r .answer) ≡ reported (beginRelaxed q processor .answer) ⌝ }
 {
     call(q, Call::Relaxed(processor))
+}
+
+// The begin of a Remove by a processor (02, W5): due minute and ticket are any numbers.
+pub fn begin_remove(q: Queue, processor: u32, due: u32, ticket: u32) -> Outcome
+    ensures { λ r. ⌜ r ≡ beginRemove q processor due ticket ⌝ }
+    ensures { λ r.
+        ⌜ reported (r .answer) ≡ reported (beginRemove q processor due ticket .answer) ⌝ }
+{
+    call(q, Call::Remove(processor, due, ticket))
 }
 
 // A step of a processor.

@@ -8,10 +8,12 @@ ghost use Rattle.rules.specs.Calls.{stepDecision, taken, decisionOf, refusalOf}
 use queue_begin::begins::delete_begins;
 use queue_begin::begins::insert_begins;
 use queue_begin::begins::relaxed_begins;
-use queue_decide::walk::decide;
+use queue_begin::begins::remove_begins;
+use queue_decide::step::decide;
 use queue_parts::reads::reading_place;
 use queue_parts::reads::step_view_from;
 use record::Queue;
+use record::stages::wanting;
 use rules::Call;
 use rules::Decision;
 
@@ -52,6 +54,7 @@ pub fn decision_of(q: Queue, c: Call, x: u8) -> Decision
         ),
         Call::DeleteMin(_) => delete_begins(t),
         Call::Relaxed(_) => relaxed_begins(t),
+        Call::Remove(_, due, ticket) => remove_begins(q.levelCount, t, wanting(due, ticket)),
         Call::Step(p) => step_decision(q, p),
     }
 }

@@ -10,6 +10,7 @@ pub mod reading;
 pub use calls::begin_delete_min;
 pub use calls::begin_insert;
 pub use calls::begin_relaxed;
+pub use calls::begin_remove;
 pub use calls::call;
 pub use calls::call_valid;
 pub use calls::step;

@@ -34,6 +34,7 @@ pub fn taken(q: Queue, c: Call) -> u8
         Call::Insert(_, _, _, _) => choose(q),
         Call::DeleteMin(_) => 0,
         Call::Relaxed(_) => 0,
+        Call::Remove(_, _, _) => 0,
         Call::Step(_) => 0,
     }
 }

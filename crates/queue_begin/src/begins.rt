@@ -1,11 +1,15 @@
 // What a begin decides.
 ghost use mathlib.Core.Path.{_≡_};
 ghost use Rattle.rules.specs.Calls.{insertBegins, walkBegins, deleteBegins, relaxedBegins};
+ghost use Rattle.rules.specs.Calls.{removeBegins};
 use record::Delete;
 use record::Insert;
 use record::Place;
 use record::Relaxed;
+use record::Remove;
 use record::Stage;
+use record::Wanted;
+use record::stages::at;
 use rules::Answer;
 use rules::Decision;
 use rules::Effect;
@@ -28,7 +32,8 @@ pub fn insert_begins(levels: u8, t: u32, x: u8, due: u32, item: u32, height: u8)
     }
 }
 
-// A walk begins with the stage g at the time t: it owns no node, and leaves all nodes as they are.
+// An operation that takes no node begins with the stage g at the time t, and leaves all nodes as
+// they are.
 fn walk_begins(t: u32, g: Stage) -> Decision
     ensures { λ r. ⌜ r ≡ walkBegins t g ⌝ }
 {
@@ -53,4 +58,12 @@ pub fn relaxed_begins(t: u32) -> Decision
     ensures { λ r. ⌜ r ≡ relaxedBegins t ⌝ }
 {
     walk_begins(t, Stage::Relaxed(Relaxed::ReadNext(Place::HEAD)))
+}
+
+// A Remove (02, W5) begins its Search as an Insert does, from the head at level L.
+pub fn remove_begins(levels: u8, t: u32, w: Wanted) -> Decision
+    ensures { λ r. ⌜ r ≡ removeBegins levels t w ⌝ }
+{
+    let from = at(0, levels);
+    walk_begins(t, Stage::Remove(w, Remove::Search(from)))
 }

@@ -2,5 +2,7 @@
 // `requires`. Each gives what its definition in crates/rules/specs/Decide.antt gives.
 pub mod insert;
 pub mod removal;
+pub mod remove;
 pub mod search;
+pub mod step;
 pub mod walk;

@@ -156,6 +156,7 @@ fn handing(job: Job, e: Entry) -> Answer
 {
     match job {
         Job::Deliver => Answer::Did(Deed::HandedOut, e),
+        Job::TakeBack => Answer::Did(Deed::TakenBack, e),
     }
 }
 

@@ -1,4 +1,5 @@
-// A step of a Search and of a Lock-seek, which an Insert and a removal share.
+// A step of a Search and of a Lock-seek, which an Insert and a removal share; a Remove has the
+// Search too (02, W5).
 ghost use mathlib.Core.Path.{_≡_};
 ghost use Rattle.rules.specs.Decide.{searchStep, placeTried, seekStep};
 use record::Place;

@@ -1,14 +1,11 @@
-// A step of a Delete_Min before its mark, W1 to W3, and of a Relaxed one (02, W3); and the step of
-// any stage.
+// A step of a Delete_Min before its mark, W1 to W3, and of a Relaxed one (02, W3).
 ghost use mathlib.Core.Path.{_≡_};
 ghost use mathlib.Core.Bool.{cond};
 ghost use Rattle.rules.specs.declared.answers.Answer.the-variants as ans;
 ghost use Rattle.rules.specs.declared.decisions.Effect.the-variants as eff;
 ghost use Rattle.rules.specs.Decide.{moved as movedOf, answers as answersOf};
 ghost use Rattle.rules.specs.Decide.{walkOn, stampTest, marking as markingOf, markTest};
-ghost use Rattle.rules.specs.Decide.{deleteStep, relaxedOn, relaxedStep, decide as decideOf};
-use crate::insert::insert_step;
-use crate::removal::removal_step;
+ghost use Rattle.rules.specs.Decide.{deleteStep, relaxedOn, relaxedStep};
 use crate::removal::removing;
 use record::Delete;
 use record::Job;
@@ -57,9 +54,9 @@ fn stamp_test(s: StepView, a: Place) -> Decision
     }
 }
 
-// W3 where the mark was not set: the node is the operation's own from here on, and its removal
-// begins with the Search.
-fn marking(s: StepView, job: Job, a: Place) -> Decision
+// W3 where the mark was not set: the node is the operation's own from here on, and its removal, for
+// this job, begins with the Search.
+pub fn marking(s: StepView, job: Job, a: Place) -> Decision
     ensures { λ r. ⌜ r ≡ markingOf job s a ⌝ }
 {
     let e = s.placeEntry;
@@ -113,18 +110,5 @@ pub fn relaxed_step(s: StepView, g: Relaxed) -> Decision
     match g {
         Relaxed::ReadNext(_) => relaxed_on(s),
         Relaxed::SetMark(a) => mark_test(s, a, Stage::Relaxed(Relaxed::ReadNext(a))),
-    }
-}
-
-// The step of any stage; an idle processor has none, and the call is refused before this.
-pub fn decide(s: StepView, g: Stage) -> Decision
-    ensures { λ r. ⌜ r ≡ decideOf s g ⌝ }
-{
-    match g {
-        Stage::Idle => moved(s, Effect::Keep, Stage::Idle),
-        Stage::Insert(i) => insert_step(s, i),
-        Stage::Delete(d) => delete_step(s, d),
-        Stage::Relaxed(x) => relaxed_step(s, x),
-        Stage::Removal(job, r) => removal_step(s, job, r),
     }
 }

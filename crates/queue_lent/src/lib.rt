@@ -7,6 +7,7 @@ pub mod reads;
 pub use calls::begin_delete_min;
 pub use calls::begin_insert;
 pub use calls::begin_relaxed;
+pub use calls::begin_remove;
 pub use calls::step;
 pub use making::make;
 pub use reads::backlog;

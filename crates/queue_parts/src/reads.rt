@@ -5,14 +5,15 @@ ghost use Prim.Native.Nat.{_+_, _-_};
 ghost use lib.Dec.{eqb};
 ghost use Rattle.record.specs.declared.stages.Stage.the-variants as stage;
 ghost use Rattle.record.specs.Queues.{savedAt};
-ghost use Rattle.record.specs.Stages.{carried};
-ghost use Rattle.rules.specs.Calls.{readingPlace, keyFor, entryOf, stepViewFrom};
+ghost use Rattle.record.specs.Stages.{carried, noneWanted};
+ghost use Rattle.rules.specs.Calls.{readingPlace, keyFor, atKey, entryOf, stepViewFrom};
 use record::Delete;
 use record::Key;
 use record::Node;
 use record::Place;
 use record::Processor;
 use record::Relaxed;
+use record::Remove;
 use record::Stage;
 use record::levels::number_at;
 use record::nodes::stamped_before;
@@ -50,6 +51,18 @@ fn relaxed_place(x: Relaxed) -> Place
     }
 }
 
+// So does a Remove from its Search on, whatever its key (02, W5).
+fn remove_place(x: Remove) -> Place
+    ensures { λ r. ⌜ r ≡ readingPlace (stage.Remove noneWanted x) ⌝ }
+{
+    match x {
+        Remove::Search(a) => a,
+        Remove::ReadNext(a) => at(a.node, 1),
+        Remove::TestStamp(a) => at(a.node, 1),
+        Remove::SetMark(a) => at(a.node, 1),
+    }
+}
+
 // The place that a step of this stage reads at.
 pub fn reading_place(g: Stage) -> Place
     ensures { λ r. ⌜ r ≡ readingPlace g ⌝ }
@@ -59,11 +72,13 @@ pub fn reading_place(g: Stage) -> Place
         Stage::Insert(i) => carried_place(Stage::Insert(i)),
         Stage::Delete(d) => walk_place(d),
         Stage::Relaxed(x) => relaxed_place(x),
+        Stage::Remove(_, x) => remove_place(x),
         Stage::Removal(job, r) => carried_place(Stage::Removal(job, r)),
     }
 }
 
-// The operation's key: the own node's, which is k, at every stage that reads it.
+// The operation's key: the one that a Remove carries; elsewhere the own node's, which is k, at
+// every stage that reads it.
 fn key_for(g: Stage, k: Key) -> Key
     ensures { λ r. ⌜ r ≡ keyFor g k ⌝ }
 {
@@ -72,7 +87,22 @@ fn key_for(g: Stage, k: Key) -> Key
         Stage::Insert(_) => k,
         Stage::Delete(_) => k,
         Stage::Relaxed(_) => k,
+        Stage::Remove(w, _) => Key::of_entry(w.due, w.ticket),
         Stage::Removal(_, _) => k,
+    }
+}
+
+// Whether k is the key that a Remove carries (02, W5). No other stage asks, and none compares.
+fn at_key(g: Stage, k: Key) -> bool
+    ensures { λ r. ⌜ r ≡ atKey g k ⌝ }
+{
+    match g {
+        Stage::Idle => false,
+        Stage::Insert(_) => false,
+        Stage::Delete(_) => false,
+        Stage::Relaxed(_) => false,
+        Stage::Remove(w, _) => k.same(Key::of_entry(w.due, w.ticket)),
+        Stage::Removal(_, _) => false,
     }
 }
 
@@ -135,6 +165,7 @@ pub fn step_view_from(
         ownNodeLock: own.nodeLock,
         next: next,
         nextBeforeKey: ahead_key.before(goal),
+        nextHasKey: at_key(stage, ahead_key),
         nextIsTail: is_tail(next, nodes),
         placeLock: here.lock_at(a.level),
         ownNext: own.forward_at(a.level),

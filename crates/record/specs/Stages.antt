@@ -10,16 +10,28 @@ use Rattle.record.specs.declared.stages.Insert.{Insert}
 use Rattle.record.specs.declared.stages.Insert.the-variants as ins
 use Rattle.record.specs.declared.stages.Removal.{Removal}
 use Rattle.record.specs.declared.stages.Removal.the-variants as rem
+use Rattle.record.specs.declared.stages.Job.{Job}
+use Rattle.record.specs.declared.stages.Job.the-variants as jobs
 use Rattle.record.specs.declared.stages.Delete.{Delete}
 use Rattle.record.specs.declared.stages.Delete.the-variants as del
 use Rattle.record.specs.declared.stages.Relaxed.{Relaxed}
 use Rattle.record.specs.declared.stages.Relaxed.the-variants as rlx
+use Rattle.record.specs.declared.stages.Wanted.{Wanted}
+use Rattle.record.specs.declared.stages.Remove.{Remove}
+use Rattle.record.specs.declared.stages.Remove.the-variants as rmv
 use Rattle.record.specs.declared.stages.Stage.{Stage}
 use Rattle.record.specs.declared.stages.Stage.the-variants as stage
 use Rattle.record.specs.declared.stages.Carried.{Carried}
 
 abbrev pub place : ℕ → ℕ → Place
 place x i = record { node = x; level = i }
+
+abbrev pub wantedOf : ℕ → ℕ → Wanted
+wantedOf due ticket = record { due = due; ticket = ticket }
+
+-- what stands for a key where a stage carries none
+abbrev pub noneWanted : Wanted
+noneWanted = wantedOf 0 1
 
 -- a line of the table
 pub record Row : Type 0 where
@@ -34,6 +46,10 @@ pub record Row : Type 0 where
   pub place : Place  -- its place; the head at level 1 where it carries none
   pub releases : Bool  -- it carries the node that G3 read
   pub ahead : ℕ  -- that node; 0 where it carries none
+  pub removes : Bool  -- it follows a mark, and has a job
+  pub job : ℕ  -- that job's number in the image; 0 where it has none
+  pub seeks : Bool  -- it carries the key of a Remove
+  pub wanted : Wanted  -- that key; due 0 and ticket 1 where it carries none
 
 -- yes and no, as wide as each other
 abbrev pub ● : Bool
@@ -56,6 +72,10 @@ row tag owns placed walks marks holdsPlace holdsOwn holdsNode a = record {
   place = a;
   releases = ○;
   ahead = 0;
+  removes = ○;
+  job = 0;
+  seeks = ○;
+  wanted = noneWanted;
 }
 
 -- a Lock-seek: what its four stages differ in, and the row from the tag of its first one on
@@ -83,6 +103,10 @@ seekRow first k = record {
   place = seekPart k .place;
   releases = seekPart k .releases;
   ahead = seekPart k .ahead;
+  removes = ○;
+  job = 0;
+  seeks = ○;
+  wanted = noneWanted;
 }
 
 -- The table: the stage, its step in document 01, its tag, and then the columns
@@ -107,6 +131,13 @@ abbrev pub relaxedRow : Relaxed → Row
 relaxedRow (rlx.ReadNext a) {-   W1 -} = row 27 ○ ● ● ○ ○ ○ ○ a
 relaxedRow (rlx.SetMark a) {-    W3 -} = row 28 ○ ● ● ● ○ ○ ○ a
 
+-- a Remove (02, W5), whatever its key
+abbrev pub removeRow : Remove → Row
+removeRow (rmv.Search a) {- Search -} = row 29 ○ ● ○ ○ ○ ○ ○ a
+removeRow (rmv.ReadNext a) {-  on -} = row 30 ○ ● ● ○ ○ ○ ○ a
+removeRow (rmv.TestStamp a) {- W2 -} = row 31 ○ ● ● ○ ○ ○ ○ a
+removeRow (rmv.SetMark a) {-   W3 -} = row 32 ○ ● ● ● ○ ○ ○ a
+
 -- what follows a mark, whatever its job
 abbrev pub removalRow : Removal → Row
 removalRow (rem.Search a) {- Search -} = row 14 ● ● ○ ○ ○ ○ ○ a
@@ -120,16 +151,60 @@ removalRow (rem.FreeLevel a) {-  L6 -} = row 24 ● ● ○ ○ ● ○ ● a
 removalRow rem.FreeNode {-       L7 -} = row 25 ● ○ ○ ○ ○ ○ ● (place 0 1)
 removalRow rem.Retire {-         L8 -} = row 26 ● ○ ○ ○ ○ ○ ○ (place 0 1)
 
+-- with the key that a Remove carries, and with a removal's job
+abbrev pub forKey : Wanted → Row → Row
+forKey w r = record {
+  tag = r .tag;
+  owns = r .owns;
+  placed = r .placed;
+  walks = r .walks;
+  marks = r .marks;
+  holdsPlace = r .holdsPlace;
+  holdsOwn = r .holdsOwn;
+  holdsNode = r .holdsNode;
+  place = r .place;
+  releases = r .releases;
+  ahead = r .ahead;
+  removes = r .removes;
+  job = r .job;
+  seeks = ●;
+  wanted = w;
+}
+
+abbrev pub jobNumber : Job → ℕ
+jobNumber jobs.Deliver = 0
+jobNumber jobs.TakeBack = 1
+
+abbrev pub forJob : Job → Row → Row
+forJob j r = record {
+  tag = r .tag;
+  owns = r .owns;
+  placed = r .placed;
+  walks = r .walks;
+  marks = r .marks;
+  holdsPlace = r .holdsPlace;
+  holdsOwn = r .holdsOwn;
+  holdsNode = r .holdsNode;
+  place = r .place;
+  releases = r .releases;
+  ahead = r .ahead;
+  removes = ●;
+  job = jobNumber j;
+  seeks = r .seeks;
+  wanted = r .wanted;
+}
+
 abbrev pub rowOf : Stage → Row
 rowOf stage.Idle {-                 -} = row 00 ○ ○ ○ ○ ○ ○ ○ (place 0 1)
 rowOf (stage.Insert i) = insertRow i
 rowOf (stage.Delete d) = deleteRow d
 rowOf (stage.Relaxed x) = relaxedRow x
-rowOf (stage.Removal job r) = removalRow r
+rowOf (stage.Remove w x) = forKey w (removeRow x)
+rowOf (stage.Removal job r) = forJob job (removalRow r)
 
--- the tags are 0 to 28
+-- the tags are 0 to 32
 abbrev pub tagCount : ℕ
-tagCount = 29
+tagCount = 33
 
 -- the numbers that a stage carries
 abbrev pub carriedOf : Row → Carried
@@ -138,6 +213,7 @@ carriedOf r = record {
   place = r .place;
   ahead = cond (r .releases) (r .ahead) (r .place .node);
   marking = r .marks;
+  wanted = r .wanted;
 }
 
 abbrev pub carried : Stage → Carried
@@ -148,4 +224,5 @@ isIdle stage.Idle = true
 isIdle (stage.Insert i) = false
 isIdle (stage.Delete d) = false
 isIdle (stage.Relaxed x) = false
+isIdle (stage.Remove w x) = false
 isIdle (stage.Removal job r) = false

@@ -22,5 +22,7 @@ pub use stages::Job;
 pub use stages::Place;
 pub use stages::Relaxed;
 pub use stages::Removal;
+pub use stages::Remove;
 pub use stages::Seek;
 pub use stages::Stage;
+pub use stages::Wanted;

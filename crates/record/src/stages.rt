@@ -4,7 +4,8 @@
 ghost use mathlib.Core.Path.{_≡_};
 ghost use mathlib.Core.Bool.{true, false};
 ghost use Rattle.record.specs.Stages.{seekRow, insertRow, deleteRow, relaxedRow, removalRow};
-ghost use Rattle.record.specs.Stages.{carriedOf, carried, place, isIdle};
+ghost use Rattle.record.specs.Stages.{removeRow, forKey, noneWanted, carriedOf, carried};
+ghost use Rattle.record.specs.Stages.{place, isIdle};
 
 // A node and a level, from 1.
 pub struct Place {
@@ -46,9 +47,10 @@ pub enum Removal {
     Retire,
 }
 
-// What a marked node is removed for: it is handed out.
+// What a marked node is removed for: it is handed out, or taken back (02, W5).
 pub enum Job {
     Deliver,
+    TakeBack,
 }
 
 // A Delete_Min before its mark: W1, W2, W3.
@@ -64,26 +66,47 @@ pub enum Relaxed {
     SetMark(Place),
 }
 
+// The key of the entry that a Remove is to take back.
+pub struct Wanted {
+    pub due: u32,
+    pub ticket: u32,
+}
+
+// A Remove before its mark (02, W5): its Search, the read of the node after the place, the test of
+// its stamp, its mark.
+pub enum Remove {
+    Search(Place),
+    ReadNext(Place),
+    TestStamp(Place),
+    SetMark(Place),
+}
+
 pub enum Stage {
     Idle,
     Insert(Insert),
     Delete(Delete),
     Relaxed(Relaxed),
+    Remove(Wanted, Remove),
     Removal(Job, Removal),
 }
 
 // The numbers that a stage carries: whether the operation has an own node, the place (the head at
-// level 1 where the stage has none), the node that G3 read (elsewhere the place's node), and
-// whether the place is to be marked next (W3).
+// level 1 where the stage has none), the node that G3 read (elsewhere the place's node), whether
+// the place is to be marked next (W3), and the key of a Remove (elsewhere due 0 and ticket 1).
 pub struct Carried {
     pub own: bool,
     pub place: Place,
     pub ahead: u8,
     pub marking: bool,
+    pub wanted: Wanted,
 }
 
 impl Place {
     pub const HEAD: Place = Place { node: 0, level: 1 };
+}
+
+impl Wanted {
+    pub const NONE: Wanted = Wanted { due: 0, ticket: 1 };
 }
 
 pub fn at(node: u8, level: u8) -> Place
@@ -95,6 +118,15 @@ pub fn at(node: u8, level: u8) -> Place
     }
 }
 
+pub fn wanting(due: u32, ticket: u32) -> Wanted
+    ensures { λ r. ⌜ r ≡ record { due = due; ticket = ticket } ⌝ }
+{
+    Wanted {
+        due: due,
+        ticket: ticket,
+    }
+}
+
 pub fn is_idle(g: Stage) -> bool
     ensures { λ r. ⌜ r ≡ isIdle g ⌝ }
 {
@@ -103,29 +135,37 @@ pub fn is_idle(g: Stage) -> bool
         Stage::Insert(_) => false,
         Stage::Delete(_) => false,
         Stage::Relaxed(_) => false,
+        Stage::Remove(_, _) => false,
         Stage::Removal(_, _) => false,
     }
 }
 
 fn carrying(own: bool, a: Place) -> Carried
-    ensures { λ r. ⌜ r ≡ record { own = own; place = a; ahead = a .node; marking = false } ⌝ }
+    ensures { λ r.
+        ⌜ r ≡ record
+        { own = own; place = a; ahead = a .node; marking = false; wanted = noneWanted } ⌝ }
 {
     Carried {
         own: own,
         place: a,
         ahead: a.node,
         marking: false,
+        wanted: Wanted::NONE,
     }
 }
 
-fn marking_at(a: Place) -> Carried
-    ensures { λ r. ⌜ r ≡ record { own = false; place = a; ahead = a .node; marking = true } ⌝ }
+// Without an own node: the key of a Remove, the place, and whether it is to be marked next.
+fn seeking(w: Wanted, a: Place, marking: bool) -> Carried
+    ensures { λ r.
+        ⌜ r ≡ record
+        { own = false; place = a; ahead = a .node; marking = marking; wanted = w } ⌝ }
 {
     Carried {
         own: false,
         place: a,
         ahead: a.node,
-        marking: true,
+        marking: marking,
+        wanted: w,
     }
 }
 
@@ -141,6 +181,7 @@ fn seek_carried(g: Seek) -> Carried
             place: a,
             ahead: b,
             marking: false,
+            wanted: Wanted::NONE,
         },
     }
 }
@@ -182,7 +223,7 @@ fn delete_carried(g: Delete) -> Carried
     match g {
         Delete::ReadNext(a) => carrying(false, a),
         Delete::TestStamp(a) => carrying(false, a),
-        Delete::SetMark(a) => marking_at(a),
+        Delete::SetMark(a) => seeking(Wanted::NONE, a, true),
     }
 }
 
@@ -191,7 +232,18 @@ fn relaxed_carried(g: Relaxed) -> Carried
 {
     match g {
         Relaxed::ReadNext(a) => carrying(false, a),
-        Relaxed::SetMark(a) => marking_at(a),
+        Relaxed::SetMark(a) => seeking(Wanted::NONE, a, true),
+    }
+}
+
+fn remove_carried(w: Wanted, g: Remove) -> Carried
+    ensures { λ r. ⌜ r ≡ carriedOf (forKey w (removeRow g)) ⌝ }
+{
+    match g {
+        Remove::Search(a) => seeking(w, a, false),
+        Remove::ReadNext(a) => seeking(w, a, false),
+        Remove::TestStamp(a) => seeking(w, a, false),
+        Remove::SetMark(a) => seeking(w, a, true),
     }
 }
 
@@ -203,6 +255,7 @@ pub fn carried_by(g: Stage) -> Carried
         Stage::Insert(i) => insert_carried(i),
         Stage::Delete(d) => delete_carried(d),
         Stage::Relaxed(x) => relaxed_carried(x),
+        Stage::Remove(w, x) => remove_carried(w, x),
         Stage::Removal(_j, r) => removal_carried(r),
     }
 }

@@ -2,7 +2,8 @@
 -- clock, and head and tail have no stamp. The head and the tail are looked at like every node, an
 -- idle processor like a busy one, and what is past P, N + 1 or L not at all. An own node is one of
 -- 1 to N where the stage has one; where it has none, the number that is stored is that of any node.
--- So is a place's, but for W3: there it is one of 1 to N.
+-- So is a place's, but for W3: there it is one of 1 to N. The key that a Remove carries has the
+-- ranges of 38, and its ticket may be later than the clock (02, W5).
 use Prim.Native.Nat.{ℕ, _+_}
 use mathlib.Core.Bool.{Bool, true, cond, _&&_}
 use lib.Dec.{leb}
@@ -17,6 +18,7 @@ use Rattle.record.specs.declared.queues.Processor.{Processor}
 use Rattle.record.specs.declared.queues.Queue.{Queue}
 use Rattle.record.specs.declared.stages.Carried.{Carried}
 use Rattle.record.specs.declared.stages.Place.{Place}
+use Rattle.record.specs.declared.stages.Wanted.{Wanted}
 use Rattle.record.specs.Limits.{maxProcessors, maxNodes, maxLevels, maxNumber}
 use Rattle.record.specs.Queues.{nodeAt, processorAt}
 use Rattle.record.specs.Stages.{carried}
@@ -85,6 +87,10 @@ ownValid s has x = cond has (within x (s .nodeCount)) (leb x (s .nodeCount + 1))
 abbrev pub markingValid : Sizes → Bool → ℕ → Bool
 markingValid s marking x = cond marking (within x (s .nodeCount)) true
 
+-- the key of a Remove
+abbrev pub wantedValid : Wanted → Bool
+wantedValid w = leb (w .due) maxNumber && within (w .ticket) maxNumber
+
 -- what a stage carries
 abbrev pub carriedValid : Sizes → Carried → ℕ → Bool
 carriedValid s g own =
@@ -92,6 +98,7 @@ carriedValid s g own =
     && placeValid s (g .place)
     && leb (g .ahead) (s .nodeCount + 1)
     && markingValid s (g .marking) (g .place .node)
+    && wantedValid (g .wanted)
 
 abbrev pub processorValid : Sizes → Processor → Bool
 processorValid s c =

@@ -4,7 +4,8 @@ ghost use Prim.Native.Nat.{_+_, _≤_, _<_};
 ghost use Rattle.record_check.specs.Check.{within as withinOf, sizesValid, stampValid};
 ghost use Rattle.record_check.specs.Check.{useValid, linksValid, entryValid, nodeValid};
 ghost use Rattle.record_check.specs.Check.{placeValid, ownValid};
-ghost use Rattle.record_check.specs.Check.{markingValid, carriedValid, processorValid};
+ghost use Rattle.record_check.specs.Check.{markingValid, wantedValid, carriedValid};
+ghost use Rattle.record_check.specs.Check.{processorValid};
 ghost use Rattle.record_check.specs.Check.{valid as validOf};
 ghost use Rattle.record.specs.Limits.{maxNodes};
 use record::levels::all_at_most;
@@ -20,6 +21,7 @@ use record::queues::Processor;
 use record::queues::Queue;
 use record::stages::Carried;
 use record::stages::Place;
+use record::stages::Wanted;
 use record::stages::carried_by;
 
 // P, N, L and the clock of a record.
@@ -137,6 +139,16 @@ fn marking_valid(s: Sizes, marking: bool, x: u8) -> bool
     }
 }
 
+// The key of a Remove, in the ranges of 38.
+fn wanted_valid(w: Wanted) -> bool
+    ensures { λ r. ⌜ r ≡ wantedValid w ⌝ }
+{
+    both(
+        w.due <= MAX_NUMBER,
+        both(1 <= w.ticket, w.ticket <= MAX_NUMBER),
+    )
+}
+
 // What a stage carries.
 fn carried_valid(s: Sizes, g: Carried, own: u8) -> bool
     requires { ⌜ s .nodeCount ≤ maxNodes ⌝ }
@@ -146,9 +158,14 @@ fn carried_valid(s: Sizes, g: Carried, own: u8) -> bool
     let owned = own_valid(s, g.own, own);
     let placed = place_valid(s, a);
     let marking = marking_valid(s, g.marking, a.node);
+    let w = g.wanted;
+    let wanted = wanted_valid(w);
     both(
-        both(both(owned, placed), g.ahead <= s.nodeCount + 1),
-        marking,
+        both(
+            both(both(owned, placed), g.ahead <= s.nodeCount + 1),
+            marking,
+        ),
+        wanted,
     )
 }
 

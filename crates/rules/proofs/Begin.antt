@@ -8,6 +8,8 @@ use lib.Dec.{eqb}
 use borrow.Author.Tests.{eqb-true}
 use mathlib.Core.Bool.{cond}
 use Rattle.record.specs.declared.stages.Insert.the-variants as ins
+use Rattle.record.specs.declared.stages.Wanted.{Wanted}
+use Rattle.record.specs.declared.stages.Remove.the-variants as rmv
 use Rattle.record.specs.declared.stages.Stage.{Stage}
 use Rattle.record.specs.declared.stages.Stage.the-variants as stage
 use Rattle.record.specs.Stages.{place}
@@ -129,6 +131,39 @@ begin-walk v u I room p idle s is =
         );
       };
     }))
+
+-- the begin of a Remove
+pub begin-find : (v : View) (u : ℕ → ℕ → ℕ) (I : Inv v u) (room : v .clock + 1 < ever) (p : ℕ) →
+    claim v p .kind ≡ 0 → (w : Wanted) →
+    Inv (ticked v p (walker v p (stage.Remove w (rmv.Search (place 0 (v .top)))))) u
+begin-find v u I room p idle w =
+    let s = stage.Remove w (rmv.Search (place 0 (v .top))) in
+    let G = head-readable v u I (v .clock + 1) (entryRank (w .due) (w .ticket)) (v .top)
+    (omega arith) (omega arith) (omega arith) in
+    begin-ownless v u I room p idle (walker v p s) refl refl
+    (record {
+      begun = omega arith;
+      begun-by = omega arith;
+      low = I .core .levelCount;
+      high = omega arith;
+      place = G;
+      read = G;
+      saved = λ j f j≥ j≤. absurd (omega arith);
+      holds-place = λ h. absurd (omega arith);
+      holds-own = λ h. absurd (omega arith);
+      holds-node = λ h. absurd (omega arith);
+      near = near-none _ _ _ _ _ _;
+      inserts = λ h. absurd (omega arith);
+      within = λ h. absurd (omega (arith, I .core .levelCount));
+      removes = λ h. absurd (omega arith);
+      walks = λ h. record {
+        ownless = refl;
+        entry = λ k. absurd (omega arith);
+        named = λ k. absurd (omega arith);
+        stamped = λ k. absurd (omega arith);
+        ahead = λ l. absurd (omega arith);
+      };
+    })
 
 -- the rank of an entry, and of a node that did not change
 pub rank-entry : (n : ℕ) (due tick : ℕ → ℕ) (x : ℕ) → 1 ≤ x → x ≤ n → rank n due tick x ≡ entryRank (due x) (tick x)

@@ -1,4 +1,5 @@
--- Laws of the book alone: what an answer that agrees says, and that a mark and a hand-out stay. Assumes nothing.
+-- Laws of the book alone: what an answer that agrees says, and that a mark, a hand-out and a taking
+-- back stay. Assumes nothing.
 use mathlib.Core.Path.{_≡_, sym, subst}
 use mathlib.Core.Bool.{Bool, true, _&&_, not}
 use mathlib.Core.List.{List, [], _∷_}
@@ -15,16 +16,22 @@ use Rattle.laws.proofs.Booleans.{cond-cases}
 use Rattle.laws.proofs.Counting.{and-left, and-right}
 use Rattle.laws.proofs.Updating.{changed-same, changed-other}
 use Rattle.record.specs.declared.queues.Queue.{Queue}
+use Rattle.record.specs.declared.stages.Job.{Job}
+use Rattle.record.specs.declared.stages.Job.the-variants as jobs
+use Rattle.record.specs.declared.stages.Wanted.{Wanted}
+use Rattle.record.specs.Stages.{wantedOf}
 use Rattle.rules.specs.declared.answers.Answer.{Answer}
 use Rattle.rules.specs.declared.answers.Answer.the-variants as ans
 use Rattle.rules.specs.declared.answers.Deed.{Deed}
 use Rattle.rules.specs.declared.answers.Deed.the-variants as deed
 use Rattle.rules.specs.declared.answers.Entry.{Entry}
-use Rattle.rules.specs.Book.{BookEntry, Open, nothing, inserting, walking, relaxing}
-use Rattle.rules.specs.Book.{unlinking, Book, Verdict, agrees, differs, agreesIf, now, afterCall, pick}
-use Rattle.rules.specs.Book.{relaxedMay, gives, withAnswer, withMarked, withHandOut, begins}
-use Rattle.rules.specs.Book.{beginsInsert, inserted, afterMark, marks, empties, handsOut}
-use Rattle.rules.specs.Book.{moves, feedBegin, feedInsert, feedDelete, feedRelaxed, feedDeed}
+use Rattle.rules.specs.Book.{BookEntry, Open, nothing, inserting, walking, relaxing, seeking}
+use Rattle.rules.specs.Book.{unlinking, Book, Verdict, agrees, differs, agreesIf, now}
+use Rattle.rules.specs.Book.{afterCall, pick, relaxedMay, there, gives, isGone, withAnswer}
+use Rattle.rules.specs.Book.{withMarked, withDone, begins, beginsInsert, inserted, afterMark}
+use Rattle.rules.specs.Book.{marks, empties, misses, ends, handsOut, takesBack, moves}
+use Rattle.rules.specs.Book.{feedBegin, feedInsert, feedDelete, feedRelaxed, feedRemove}
+use Rattle.rules.specs.Book.{feedDeed}
 use Rattle.rules.specs.Book.{feedStep, feed, thenFeed, judged}
 use Rattle.rules.specs.Book.{pendingIn, feedBacklog, heldIn, deliverersListed, feedMarkers}
 use Rattle.rules.specs.declared.calls.Call.the-variants as call
@@ -65,7 +72,8 @@ pub record Stays (flag : BookEntry → Bool) (t : ℕ) (b : Book) : Type 0 where
   pub up : flag (b .entry t) ≡ true
 
 module _ (flag : BookEntry → Bool) (t : ℕ) (answer-keeps : (l : BookEntry) (n : ℕ) → flag l ≡ true → flag (withAnswer l n) ≡ true)
-    (mark-keeps : (l : BookEntry) → flag l ≡ true → flag (withMarked l) ≡ true) (hand-out-keeps : (l : BookEntry) → flag l ≡ true → flag (withHandOut l) ≡ true) where
+    (mark-keeps : (l : BookEntry) → flag l ≡ true → flag (withMarked l) ≡ true)
+    (done-keeps : (job : Job) (l : BookEntry) → flag l ≡ true → flag (withDone job l) ≡ true) where
   -- a line that is written over another
   written : (b : Book) (p : ℕ) (o : Open) (x : ℕ) (l : BookEntry) → (x ≡ t → flag l ≡ true) → Stays flag t b → Stays flag t (afterCall b (changedAt (b .entry) x l) p o)
   written b p o x l h S = record { low = omega arith; up = go (ℕ-discrete t x) }
@@ -93,7 +101,8 @@ module _ (flag : BookEntry → Bool) (t : ℕ) (answer-keeps : (l : BookEntry) (
     insert-begins p due item x (inserting y) = tt
     insert-begins p due item x (walking y) = tt
     insert-begins p due item x (relaxing y) = tt
-    insert-begins p due item x (unlinking y) = tt
+    insert-begins p due item x (seeking w y) = tt
+    insert-begins p due item x (unlinking job y) = tt
 
     walk-begins : (p x : ℕ) (opened o : Open) → K (begins b p x (b .entry) opened o)
     walk-begins p x opened nothing =
@@ -101,27 +110,33 @@ module _ (flag : BookEntry → Bool) (t : ℕ) (answer-keeps : (l : BookEntry) (
     walk-begins p x opened (inserting y) = tt
     walk-begins p x opened (walking y) = tt
     walk-begins p x opened (relaxing y) = tt
-    walk-begins p x opened (unlinking y) = tt
+    walk-begins p x opened (seeking w y) = tt
+    walk-begins p x opened (unlinking job y) = tt
 
     insert-answers : (p : ℕ) (e : Entry) (o : Open) → K (inserted b p e o)
     insert-answers p e nothing = tt
     insert-answers p e (inserting x) = right-if (Stays flag t) (gives b e x) _ (λ _. written b p nothing x _ (λ g. answer-keeps (b .entry x) (now b) (flagged x g)) S)
     insert-answers p e (walking y) = tt
     insert-answers p e (relaxing y) = tt
-    insert-answers p e (unlinking y) = tt
+    insert-answers p e (seeking w y) = tt
+    insert-answers p e (unlinking job y) = tt
 
-    marked : (p x : ℕ) → Stays flag t (afterMark b p x)
-    marked p x = written b p (unlinking x) x _ (λ g. mark-keeps (b .entry x) (flagged x g)) S
+    marked : (job : Job) (p x : ℕ) → Stays flag t (afterMark b job p x)
+    marked job p x =
+        written b p (unlinking job x) x _ (λ g. mark-keeps (b .entry x) (flagged x g)) S
 
     delete-marks : (p : ℕ) (e : Entry) (o : Open) → K (marks b p e o)
     delete-marks p e nothing = tt
     delete-marks p e (inserting y) = tt
     delete-marks p e (walking T) = right-if (Stays flag t) (ltb 0 (pick b T) && gives b e (pick b T)) _
-        (λ _. marked p (pick b T))
+        (λ _. marked jobs.Deliver p (pick b T))
     delete-marks p e (relaxing T) =
         right-if (Stays flag t) (relaxedMay b T (e .ticket) && gives b e (e .ticket)) _
-        (λ _. marked p (e .ticket))
-    delete-marks p e (unlinking y) = tt
+        (λ _. marked jobs.Deliver p (e .ticket))
+    delete-marks p e (seeking w T) =
+        right-if (Stays flag t) (there b w T && gives b e (w .ticket)) _
+        (λ _. marked jobs.TakeBack p (w .ticket))
+    delete-marks p e (unlinking job y) = tt
 
     delete-empties : (p : ℕ) (o : Open) → K (empties b p o)
     delete-empties p nothing = tt
@@ -129,22 +144,50 @@ module _ (flag : BookEntry → Bool) (t : ℕ) (answer-keeps : (l : BookEntry) (
     delete-empties p (walking T) = right-if (Stays flag t) (eqb (pick b T) 0) _ (λ _. opens-only p nothing)
     delete-empties p (relaxing T) =
         right-if (Stays flag t) (eqb (pick b T) 0) _ (λ _. opens-only p nothing)
-    delete-empties p (unlinking y) = tt
+    delete-empties p (seeking w y) = tt
+    delete-empties p (unlinking job y) = tt
+
+    job-ends : (job : Job) (p : ℕ) (e : Entry) (x : ℕ) → K (ends b job p e x)
+    job-ends job p e x =
+        right-if (Stays flag t) (gives b e x && not (isGone (b .entry x))) _
+        (λ _. written b p nothing x _ (λ g. done-keeps job (b .entry x) (flagged x g)) S)
 
     delete-hands-out : (p : ℕ) (e : Entry) (o : Open) → K (handsOut b p e o)
     delete-hands-out p e nothing = tt
     delete-hands-out p e (inserting y) = tt
     delete-hands-out p e (walking y) = tt
     delete-hands-out p e (relaxing y) = tt
-    delete-hands-out p e (unlinking x) = right-if (Stays flag t) (gives b e x && not (b .entry x .handedOut)) _
-        (λ _. written b p nothing x _ (λ g. hand-out-keeps (b .entry x) (flagged x g)) S)
+    delete-hands-out p e (seeking w y) = tt
+    delete-hands-out p e (unlinking jobs.Deliver x) = job-ends jobs.Deliver p e x
+    delete-hands-out p e (unlinking jobs.TakeBack x) = tt
+
+    remove-takes-back : (p : ℕ) (e : Entry) (o : Open) → K (takesBack b p e o)
+    remove-takes-back p e nothing = tt
+    remove-takes-back p e (inserting y) = tt
+    remove-takes-back p e (walking y) = tt
+    remove-takes-back p e (relaxing y) = tt
+    remove-takes-back p e (seeking w y) = tt
+    remove-takes-back p e (unlinking jobs.Deliver x) = tt
+    remove-takes-back p e (unlinking jobs.TakeBack x) = job-ends jobs.TakeBack p e x
+
+    remove-misses : (p : ℕ) (k : Wanted) (o : Open) → K (misses b p k o)
+    remove-misses p k nothing = tt
+    remove-misses p k (inserting y) = tt
+    remove-misses p k (walking y) = tt
+    remove-misses p k (relaxing y) = tt
+    remove-misses p k (seeking w T) =
+        right-if (Stays flag t)
+        (not (there b w T) && (eqb (k .due) (w .due) && eqb (k .ticket) (w .ticket))) _
+        (λ _. opens-only p nothing)
+    remove-misses p k (unlinking job y) = tt
 
     step-moves : (o : Open) → K (moves b o)
     step-moves nothing = tt
     step-moves (inserting y) = same
     step-moves (walking y) = same
     step-moves (relaxing y) = same
-    step-moves (unlinking y) = same
+    step-moves (seeking w y) = same
+    step-moves (unlinking job y) = same
 
     fed-begin : (begun : ℕ → Verdict) (a : Answer) → ((x : ℕ) → K (begun x)) → K (feedBegin b begun a)
     fed-begin begun (ans.Refused n) h = S
@@ -152,6 +195,7 @@ module _ (flag : BookEntry → Bool) (t : ℕ) (answer-keeps : (l : BookEntry) (
     fed-begin begun ans.Moved h = tt
     fed-begin begun (ans.Waits l) h = tt
     fed-begin begun ans.Empty h = tt
+    fed-begin begun (ans.NotThere w) h = tt
     fed-begin begun (ans.Did d e) h = tt
 
     fed-insert : (p due item : ℕ) (a : Answer) → K (feedInsert b p due item a)
@@ -163,10 +207,14 @@ module _ (flag : BookEntry → Bool) (t : ℕ) (answer-keeps : (l : BookEntry) (
     fed-relaxed : (p : ℕ) (a : Answer) → K (feedRelaxed b p a)
     fed-relaxed p a = fed-begin _ a (λ x. walk-begins p x (relaxing x) (b .opened p))
 
+    fed-remove : (p : ℕ) (w : Wanted) (a : Answer) → K (feedRemove b p w a)
+    fed-remove p w a = fed-begin _ a (λ x. walk-begins p x (seeking w x) (b .opened p))
+
     fed-deed : (p : ℕ) (e : Entry) (d : Deed) → K (feedDeed b p e d)
     fed-deed p e deed.Marked = delete-marks p e (b .opened p)
     fed-deed p e deed.Inserted = insert-answers p e (b .opened p)
     fed-deed p e deed.HandedOut = delete-hands-out p e (b .opened p)
+    fed-deed p e deed.TakenBack = remove-takes-back p e (b .opened p)
 
     fed-step : (p : ℕ) (a : Answer) → K (feedStep b p a)
     fed-step p (ans.Refused n) = S
@@ -174,6 +222,7 @@ module _ (flag : BookEntry → Bool) (t : ℕ) (answer-keeps : (l : BookEntry) (
     fed-step p ans.Moved = step-moves (b .opened p)
     fed-step p (ans.Waits h) = step-moves (b .opened p)
     fed-step p ans.Empty = delete-empties p (b .opened p)
+    fed-step p (ans.NotThere w) = remove-misses p w (b .opened p)
     fed-step p (ans.Did d e) = fed-deed p e d
 
     fed-backlog : (k : Count) → K (feedBacklog b k)
@@ -191,6 +240,7 @@ module _ (flag : BookEntry → Bool) (t : ℕ) (answer-keeps : (l : BookEntry) (
     fed (calls (call.Insert p due item height)) (answered a) = fed-insert p due item a
     fed (calls (call.DeleteMin p)) (answered a) = fed-delete p a
     fed (calls (call.Relaxed p)) (answered a) = fed-relaxed p a
+    fed (calls (call.Remove p due ticket)) (answered a) = fed-remove p (wantedOf due ticket) a
     fed (calls (call.Step p)) (answered a) = fed-step p a
     fed (calls c) (counted k) = tt
     fed (calls c) (listed k area) = tt

@@ -1,11 +1,11 @@
 -- Every step's answer agrees with the book.
 use mathlib.Core.Path.{_≡_, refl, sym, ap, subst, _∙_}
-use mathlib.Core.Bool.{true, false, _||_, not, true≢false}
+use mathlib.Core.Bool.{Bool, true, false, _||_, not, true≢false}
 use Prim.Native.Nat.{ℕ, suc, _+_, _≤_, _<_}
 use native.Mathlib.Omega.{arith}
 use native.Mathlib.Decide.{ℕ-discrete}
 use lib.Dec.{ltb, leb, eqb}
-use borrow.Author.Tests.{ltb-false, eqb-true, lt-ltb, le-ltb, eq-eqb, ne-eqb}
+use borrow.Author.Tests.{ltb-true, ltb-false, eqb-true, eqb-false, lt-ltb, le-ltb, eq-eqb, ne-eqb}
 use Rattle.record.specs.declared.stages.Place.{Place}
 use Rattle.record.specs.declared.stages.Seek.{Seek}
 use Rattle.record.specs.declared.stages.Seek.the-variants as seek
@@ -16,11 +16,15 @@ use Rattle.record.specs.declared.stages.Delete.the-variants as del
 use Rattle.record.specs.declared.stages.Removal.{Removal}
 use Rattle.record.specs.declared.stages.Removal.the-variants as rem
 use Rattle.record.specs.declared.stages.Relaxed.the-variants as rlx
+use Rattle.record.specs.declared.stages.Wanted.{Wanted}
+use Rattle.record.specs.declared.stages.Remove.{Remove}
+use Rattle.record.specs.declared.stages.Remove.the-variants as rmv
 use Rattle.record.specs.declared.stages.Stage.{Stage}
 use Rattle.record.specs.declared.stages.Job.{Job}
 use Rattle.record.specs.declared.stages.Job.the-variants as jobs
 use Rattle.record.specs.declared.stages.Stage.the-variants as stage
 use Rattle.rules.specs.declared.answers.Answer.the-variants as ans
+use Rattle.rules.specs.declared.answers.Deed.the-variants as deed
 use Rattle.rules.specs.declared.answers.Entry.{Entry}
 use Rattle.rules.specs.declared.decisions.Effect.the-variants as eff
 use Rattle.rules.specs.declared.decisions.Decision.{Decision}
@@ -31,26 +35,33 @@ use Rattle.rules.specs.declared.decisions.Sought.{Sought}
 use Rattle.rules.specs.declared.decisions.Sought.the-variants as sght
 use Rattle.record.specs.Stages.{place}
 use Rattle.rules.specs.Decide.{insertSearched, insertSought, removalSearched, removalSought, seekStep, searchStep}
-use Rattle.rules.specs.Decide.{moved, answers, marking, placeTried, nodeTried, ownTried}
+use Rattle.rules.specs.Decide.{moved, answers, marking, missing, removeSearched, placeTried}
+use Rattle.rules.specs.Decide.{nodeTried, ownTried}
 use Rattle.record.specs.Stages.{seekPart}
 use Rattle.laws.proofs.Booleans.{cond-cases, cond-elim}
+use Rattle.laws.proofs.Counting.{and-left, and-right}
 use Rattle.laws.specs.Update.{changedAt}
 use Rattle.laws.proofs.Updating.{changed-same, changed-other}
 use Rattle.rules.proofs.Put.{ever}
-use Rattle.rules.proofs.View.{Pr, View, Info, info, walkInfo, claim, key, tail}
+use Rattle.rules.proofs.View.{Pr, View, Info, info, walkInfo, asksFor, Wants, claim, key}
+use Rattle.rules.proofs.View.{tail, entryRank}
 use Rattle.rules.proofs.Inv.{Inv, Eligible, Inserts, NodeHeld}
 use Rattle.rules.proofs.Assemble.{ticked}
-use Rattle.rules.proofs.Machine.{decision, entryAt, view, withStatus}
+use Rattle.rules.proofs.Machine.{decision, entryAt, view, viewFor, withStatus}
 use Rattle.rules.proofs.Move.{busy-at, kind-at}
 use Rattle.rules.proofs.InsertSteps.{idle}
 use Rattle.rules.proofs.WalkSteps.{empty-right, mark-able, mark-first, mark-place}
+use Rattle.rules.proofs.FindSteps.{none-next, none-stamped, none-marked, find-marks}
 use Rattle.rules.proofs.Begin.{rank-entry}
-use Rattle.rules.specs.Book.{BookEntry, Open, nothing, Book, afterCall, earlier, pick}
-use Rattle.rules.specs.Book.{gives, withAnswer, withMarked, withHandOut, afterMark}
-use Rattle.rules.specs.Book.{emptyAt, empties}
+use Rattle.rules.specs.Book.{BookEntry, Open, nothing, seeking, Book, afterCall, candidate}
+use Rattle.rules.specs.Book.{earlier, pick, there, gives, isGone, withAnswer, withMarked}
+use Rattle.rules.specs.Book.{withHandOut, withTakenBack, afterMark, emptyAt, empties, agrees}
+use Rattle.rules.specs.Book.{feedStep}
 use Rattle.rules.proofs.Ranks.{entries-before}
-use Rattle.rules.proofs.Picks.{order, Candidate, Picked, none, one, picked}
-use Rattle.rules.proofs.Rel.{opens, lineOf, Found, Filed, Marker, Rel, Booked, quiet, Quiet, quiet-booked}
+use Rattle.rules.proofs.Picks.{order, Candidate, candidate-true, candidate-is, Picked, none}
+use Rattle.rules.proofs.Picks.{one, picked}
+use Rattle.rules.proofs.Rel.{opens, lineOf, Found, Filed, Marker, Rel, Booked, quiet, Quiet}
+use Rattle.rules.proofs.Rel.{quiet-by, quiet-booked}
 use Rattle.rules.proofs.Rel.{still-past}
 
 -- a decision of a seek is quiet where its effect is
@@ -92,15 +103,21 @@ quiet-delete-sought job s j (sght.Done a) q = record { answer = tt; effect = tt;
 
 quiet-insert-searched : (s : StepView) (a : Place) (r : Searched) →
     Quiet (s .own) (stage.Insert (ins.Search a)) (insertSearched s a r)
-quiet-insert-searched s a (srch.Ahead b) = record { answer = tt; effect = tt; own-same = refl; begin-same = λ t b. refl; kind-same = λ h. refl; opens-same = λ t b. refl }
-quiet-insert-searched s a (srch.Down b) = record { answer = tt; effect = tt; own-same = refl; begin-same = λ t b. refl; kind-same = λ h. refl; opens-same = λ t b. refl }
-quiet-insert-searched s a (srch.Done b) = record { answer = tt; effect = tt; own-same = refl; begin-same = λ t b. refl; kind-same = λ h. refl; opens-same = λ t b. refl }
+quiet-insert-searched s a (srch.Ahead b) =
+    quiet-by tt tt refl (λ t b. refl) (λ h. refl) (λ T t. refl)
+quiet-insert-searched s a (srch.Down b) =
+    quiet-by tt tt refl (λ t b. refl) (λ h. refl) (λ T t. refl)
+quiet-insert-searched s a (srch.Done b) =
+    quiet-by tt tt refl (λ t b. refl) (λ h. refl) (λ T t. refl)
 
 quiet-delete-searched : (job : Job) (s : StepView) (a : Place) (r : Searched) →
     Quiet (s .own) (stage.Removal job (rem.Search a)) (removalSearched job s a r)
-quiet-delete-searched job s a (srch.Ahead b) = record { answer = tt; effect = tt; own-same = refl; begin-same = λ t b. refl; kind-same = λ h. refl; opens-same = λ t b. refl }
-quiet-delete-searched job s a (srch.Down b) = record { answer = tt; effect = tt; own-same = refl; begin-same = λ t b. refl; kind-same = λ h. refl; opens-same = λ t b. refl }
-quiet-delete-searched job s a (srch.Done b) = record { answer = tt; effect = tt; own-same = refl; begin-same = λ t b. refl; kind-same = λ h. refl; opens-same = λ t b. refl }
+quiet-delete-searched job s a (srch.Ahead b) =
+    quiet-by tt tt refl (λ t b. refl) (λ h. refl) (λ T t. refl)
+quiet-delete-searched job s a (srch.Down b) =
+    quiet-by tt tt refl (λ t b. refl) (λ h. refl) (λ T t. refl)
+quiet-delete-searched job s a (srch.Done b) =
+    quiet-by tt tt refl (λ t b. refl) (λ h. refl) (λ T t. refl)
 
 -- a node in use is known by its ticket, among those that are or were used and whose entry has their due
 pub ticket-apart : (v : View) (u : ℕ → ℕ → ℕ) (I : Inv v u) (b : Book) (R : Rel v b) (n m : ℕ) → 1 ≤ n → n ≤ v .nodes → 1 ≤ m → m ≤ v .nodes → v .us n ≡ 1 → 1 ≤ v .us m →
@@ -178,7 +195,9 @@ module _ (v : View) (u : ℕ → ℕ → ℕ) (I : Inv v u) (b : Book) (R : Rel 
     (o≥ : 1 ≤ o) (o≤ : o ≤ v .nodes) (used : 1 ≤ v .us o) (F : Filed (b .entry) (v .tick) (v .due) (v .item) o)
     (mk-same : (n : ℕ) → (n ≡ o → ⊥) → mk n ≡ v .mk n) (st-same : (n : ℕ) → (n ≡ o → ⊥) → st n ≡ v .st n) (us-same : (n : ℕ) → (n ≡ o → ⊥) → us n ≡ v .us n)
     (l-written : l .written ≡ b .entry (v .tick o) .written) (l-due : l .due ≡ b .entry (v .tick o) .due) (l-item : l .item ≡ b .entry (v .tick o) .item)
-    (kept-o : us o ≡ 1 → l ≡ lineOf (v .due) (v .item) st mk o) (found-o : l .handedOut ≡ false → Found us (v .tick) (v .nodes) (v .tick o)) (unhanded-o : l .marked ≡ false → l .handedOut ≡ false)
+    (kept-o : us o ≡ 1 → l ≡ lineOf (v .due) (v .item) st mk o)
+    (found-o : isGone l ≡ false → Found us (v .tick) (v .nodes) (v .tick o))
+    (unhanded-o : l .marked ≡ false → isGone l ≡ false)
     (opened-p : op ≡ opens (c .stage) (c .begin) (v .tick (c .own)))
     (not-insert : info (v .ht (c .own)) (c .stage) .kind ≡ 1 → ⊥)
     (removed : claim v p .kind ≡ 3 → v .pr p .own ≡ o) (marker-o : (q : ℕ) → us o ≡ 1 → mk o ≡ suc q → Marker (ticked v p c) o q) where
@@ -194,7 +213,9 @@ module _ (v : View) (u : ℕ → ℕ → ℕ) (I : Inv v u) (b : Book) (R : Rel 
     marker = λ n q. marker n q (ℕ-discrete n o);
   }
     where
-      unhanded : (t : ℕ) → Dec (t ≡ v .tick o) → changedAt (b .entry) (v .tick o) l t .marked ≡ false → changedAt (b .entry) (v .tick o) l t .handedOut ≡ false
+      unhanded : (t : ℕ) → Dec (t ≡ v .tick o) →
+          changedAt (b .entry) (v .tick o) l t .marked ≡ false →
+          isGone (changedAt (b .entry) (v .tick o) l t) ≡ false
       unhanded t (yes e) = rw (e, changed-same (b .entry) (v .tick o) l) unhanded-o
       unhanded t (no d) = rw (changed-other (b .entry) (v .tick o) l t d) (R .unhanded t)
 
@@ -216,7 +237,8 @@ module _ (v : View) (u : ℕ → ℕ → ℕ) (I : Inv v u) (b : Book) (R : Rel 
       kept n (no d) = rw (us-same n d, st-same n d, mk-same n d) λ n≥ n≤ nu.
           changed-other (b .entry) (v .tick o) l (v .tick n) (λ e. d (ticket-apart v u I b R n o n≥ n≤ o≥ o≤ nu used (F .due) e)) ∙ R .kept n n≥ n≤ nu
 
-      found : (t : ℕ) → Dec (t ≡ v .tick o) → changedAt (b .entry) (v .tick o) l t .written ≡ true → changedAt (b .entry) (v .tick o) l t .handedOut ≡ false → Found us (v .tick) (v .nodes) t
+      found : (t : ℕ) → Dec (t ≡ v .tick o) → changedAt (b .entry) (v .tick o) l t .written ≡ true →
+          isGone (changedAt (b .entry) (v .tick o) l t) ≡ false → Found us (v .tick) (v .nodes) t
       found t (yes e) = rw (e, changed-same (b .entry) (v .tick o) l) λ w m. found-o m
       found t (no d) = rw (changed-other (b .entry) (v .tick o) l t d) λ w m.
           let G = R .found t w m in
@@ -313,6 +335,7 @@ module _ (v : View) (u : ℕ → ℕ → ℕ) (I : Inv v u) (H : NodeHeld v) (ro
       let same = tells o F in
       let marked : b .entry (v .tick o) .marked ≡ true = ap (λ (x : BookEntry). x .marked) l ∙ lt-ltb 0 (v .mk o) (S .marked) in
       go job e same (ap (λ (x : BookEntry). x .handedOut) l)
+      (ap (λ (x : BookEntry). x .takenBack) l)
       (λ x h d i m y. rel-line v u I b R p (idle (v .top) (v .pr p)) (v .mk) (v .st)
       (changedAt (v .us) o (v .clock + 1 + 2)) o
       x nothing (S .low) (S .high) (omega (arith, S .used)) F (λ n d. refl) (λ n d. refl)
@@ -324,21 +347,29 @@ module _ (v : View) (u : ℕ → ℕ → ℕ) (I : Inv v u) (H : NodeHeld v) (ro
       go : (job : Job) → v .pr p .stage ≡ stage.Removal job rem.Retire →
           gives b (entryAt v (v .pr p .own)) (v .tick (v .pr p .own)) ≡ true →
           b .entry (v .tick (v .pr p .own)) .handedOut ≡ false →
+          b .entry (v .tick (v .pr p .own)) .takenBack ≡ false →
           ((x : BookEntry) → x .written ≡ b .entry (v .tick (v .pr p .own)) .written →
           x .due ≡ b .entry (v .tick (v .pr p .own)) .due →
           x .item ≡ b .entry (v .tick (v .pr p .own)) .item →
           x .marked ≡ b .entry (v .tick (v .pr p .own)) .marked →
-          x .handedOut ≡ true →
+          isGone x ≡ true →
           Rel (ticked (withStatus v (v .mk) (v .st) (changedAt (v .us) (v .pr p .own) (v .clock + 1 + 2)))
           p (idle (v .top) (v .pr p)))
           (afterCall b (changedAt (b .entry) (v .tick (v .pr p .own)) x) p nothing)) →
           Booked v p b (decision v p (stage.Removal job rem.Retire))
-      go jobs.Deliver e same out rel = record {
+      go jobs.Deliver e same out back rel = record {
         after = afterCall b
             (changedAt (b .entry) (v .tick (v .pr p .own))
             (withHandOut (b .entry (v .tick (v .pr p .own))))) p nothing;
-        fed = rw (open-at (stage.Removal jobs.Deliver rem.Retire) e, same, out);
+        fed = rw (open-at (stage.Removal jobs.Deliver rem.Retire) e, same, out, back);
         rel = rel (withHandOut (b .entry (v .tick (v .pr p .own)))) refl refl refl refl refl;
+      }
+      go jobs.TakeBack e same out back rel = record {
+        after = afterCall b
+            (changedAt (b .entry) (v .tick (v .pr p .own))
+            (withTakenBack (b .entry (v .tick (v .pr p .own))))) p nothing;
+        fed = rw (open-at (stage.Removal jobs.TakeBack rem.Retire) e, same, out, back);
+        rel = rel (withTakenBack (b .entry (v .tick (v .pr p .own)))) refl refl refl refl (rw out);
       }
 
   quiet-step : (s : Stage) → v .pr p .stage ≡ s → 1 ≤ info (v .ht (v .pr p .own)) s .kind →
@@ -448,7 +479,7 @@ module _ (v : View) (u : ℕ → ℕ → ℕ) (I : Inv v u) (H : NodeHeld v) (ro
           let late = R .late (v .tick n) (ap (λ (x : BookEntry). x .written) l) in
           let pos = lt-ltb 0 (v .tick n) (late .0) in
           record {
-            after = afterMark b p (v .tick n);
+            after = afterMark b jobs.Deliver p (v .tick n);
             fed = rw (open-at s e, is, pos, same);
             rel = rel-mark (kind-at v u I p s e) jobs.Deliver n (L .low) (L .high) (L .used);
           }
@@ -504,7 +535,7 @@ module _ (v : View) (u : ℕ → ℕ → ℕ) (I : Inv v u) (H : NodeHeld v) (ro
           (mark-first v u I room p s e 1 1 a refl (omega arith)) in
           let same = tells n (in-use-filed v b R n (M .0) (M .1) (M .2)) in
           record {
-            after = afterMark b p (v .tick n);
+            after = afterMark b jobs.Deliver p (v .tick n);
             fed = rw (
               open-at s e,
               same,
@@ -516,83 +547,205 @@ module _ (v : View) (u : ℕ → ℕ → ℕ) (I : Inv v u) (H : NodeHeld v) (ro
             rel = rel-mark (kind-at v u I p s e) jobs.Deliver n (M .0) (M .1) (M .2);
           }
 
-  pub booked : (s : Stage) → v .pr p .stage ≡ s → 1 ≤ info (v .ht (v .pr p .own)) s .kind → Booked v p b (decision v p s)
-  booked stage.Idle e k = absurd (omega arith)
-  booked (stage.Insert (ins.Search a)) e k =
+  -- a Remove before its mark
+  module _ (w : Wanted) (due≤ : w .due ≤ 999999) (ticket≤ : w .ticket ≤ 999999) where
+    abbrev T : ℕ
+    T = v .pr p .begin
+
+    abbrev goal : ℕ
+    goal = entryRank (w .due) (w .ticket)
+
+    -- where no node that it may mark has its key, the book has no such entry
+    not-there :
+        ((n : ℕ) → Eligible (v .us) (v .st) (v .mk) (v .nodes) (v .pr p .begin) n →
+        key v n ≡ entryRank (w .due) (w .ticket) → ⊥) → there b w (v .pr p .begin) ≡ false
+    not-there h = go (there b w (v .pr p .begin)) refl
+      where
+        go : (c : Bool) → there b w (v .pr p .begin) ≡ c → c ≡ false
+        go false e = refl
+        go true e =
+            let c = candidate b (v .pr p .begin) (w .ticket) in
+            let d = eqb (b .entry (w .ticket) .due) (w .due) in
+            let C = candidate-true b (v .pr p .begin) (w .ticket) (and-left c d e) in
+            let E = eligible-of v u I b R (v .pr p .begin) (w .ticket) C in
+            let N = E .2 in
+            let l = R .kept (E .0) (N .low) (N .high) (N .used) in
+            let due : v .due (E .0) ≡ w .due = sym (ap (λ (x : BookEntry). x .due) l)
+            ∙ ap (λ (t : ℕ). b .entry t .due) (E .1) ∙ eqb-true _ _ (and-right c d e) in
+            absurd (h (E .0) N
+            (rank-entry (v .nodes) (v .due) (v .tick) (E .0) (N .low) (N .high)
+            ∙ rw (due, E .1) refl))
+
+    missed : (s : Stage) → v .pr p .stage ≡ s → info (v .ht (v .pr p .own)) s .kind ≡ 2 →
+        opens s (v .pr p .begin) (v .tick (v .pr p .own)) ≡ seeking w (v .pr p .begin) →
+        there b w (v .pr p .begin) ≡ false → Booked v p b (missing w)
+    missed s e two o x = record {
+      after = afterCall b (b .entry) p nothing;
+      fed = rw (
+        open-at s e ∙ o,
+        x,
+        eq-eqb (w .due) (w .due) refl,
+        eq-eqb (w .ticket) (w .ticket) refl,
+      );
+      rel = rel-open v b R p (idle (v .top) (v .pr p)) nothing refl (λ k. omega arith)
+          (λ k. omega (arith, kind-at v u I p s e));
+    }
+
+    find-searched : (s : StepView) (a : Place) (r : Searched) →
+        Quiet (s .own) (stage.Remove w (rmv.Search a)) (removeSearched s w a r)
+    find-searched s a (srch.Ahead b) = quiet-by tt tt refl (λ t b. refl) (λ h. refl) (λ T t. refl)
+    find-searched s a (srch.Down b) = quiet-by tt tt refl (λ t b. refl) (λ h. refl) (λ T t. refl)
+    find-searched s a (srch.Done b) = quiet-by tt tt refl (λ t b. refl) (λ h. refl) (λ T t. refl)
+
+    -- its mark: the entry of its key is there
+    marks-there : (n : ℕ) → b .opened p ≡ seeking w (v .pr p .begin) → v .tick n ≡ w .ticket →
+        candidate b (v .pr p .begin) (v .tick n) ≡ true → b .entry (v .tick n) .due ≡ w .due →
+        gives b (entryAt v n) (v .tick n) ≡ true →
+        feedStep b p (ans.Did deed.Marked (entryAt v n))
+        ≡ agrees (afterMark b jobs.TakeBack p (v .tick n))
+    marks-there n o t C d same =
+        rw (o, sym t, C, same, eq-eqb (b .entry (v .tick n) .due) (w .due) d)
+
+    find-marked : (a : Place) → v .pr p .stage ≡ stage.Remove w (rmv.SetMark a) →
+        v .mk (a .node) ≡ 0 →
+        Booked v p b (marking jobs.TakeBack
+        (viewFor v (v .pr p) goal (asksFor (stage.Remove w (rmv.SetMark a))) (place (a .node) 1)) a)
+    find-marked a e m =
+        let n = a .node in
+        let s = stage.Remove w (rmv.SetMark a) in
+        let M = find-marks v u I room p w due≤ ticket≤ a e m in
+        let L = M .0 in
+        let l = R .kept n (L .low) (L .high) (L .used) in
+        let z : entryRank (v .due (a .node)) (v .tick (a .node)) ≡ entryRank (w .due) (w .ticket) =
+        sym (rank-entry (v .nodes) (v .due) (v .tick) n (L .low) (L .high)) ∙ M .1 in
+        let low : v .tick (a .node) ≤ 999999 = omega (
+          arith,
+          I .core .entered n (L .low) (omega (arith, L .high)) .ticket,
+          I .core .clock,
+        ) in
+        let t : v .tick (a .node) ≡ w .ticket = omega arith in
+        let d : v .due (a .node) ≡ w .due = omega arith in
+        let C = candidate-is b (v .pr p .begin) (v .tick n)
+        (candidate-of v u I b R (v .pr p .begin) n L) in
+        record {
+          after = afterMark b jobs.TakeBack p (v .tick n);
+          fed = marks-there n (open-at s e) t C (ap (λ (x : BookEntry). x .due) l ∙ d)
+              (tells n (in-use-filed v b R n (L .low) (L .high) (L .used)));
+          rel = rel-mark (kind-at v u I p s e) jobs.TakeBack n (L .low) (L .high) (L .used);
+        }
+
+    find-booked : (d : Remove) → v .pr p .stage ≡ stage.Remove w d →
+        Booked v p b (decision v p (stage.Remove w d))
+    find-booked (rmv.Search a) e =
+        let s = stage.Remove w (rmv.Search a) in
+        let sees = viewFor v (v .pr p) goal (asksFor s) a in
+        quiet-step s e (omega arith) _ (find-searched sees a (searchStep sees a))
+    find-booked (rmv.ReadNext a) e =
+        let s = stage.Remove w (rmv.ReadNext a) in
+        let k = key v (v .fwd (a .node) 1) in
+        cond-cases (Booked v p b) (ltb k goal) _ _
+        (λ x. quiet-step s e (omega arith) _
+        (quiet-by tt tt refl (λ t b. refl) (λ h. refl) (λ T t. refl)))
+        (λ x. cond-cases (Booked v p b) (eqb k goal) _ _
+        (λ y. quiet-step s e (omega arith) _
+        (quiet-by tt tt refl (λ t b. refl) (λ h. refl) (λ T t. refl)))
+        (λ y. missed s e refl refl
+        (not-there (none-next v u I room p w due≤ ticket≤ a e H (ltb-false _ _ x)
+        (eqb-false _ _ y)))))
+    find-booked (rmv.TestStamp a) e =
+        let s = stage.Remove w (rmv.TestStamp a) in
+        cond-cases (Booked v p b) (ltb (v .st (a .node)) (v .pr p .begin)) _ _
+        (λ x. quiet-step s e (omega arith) _
+        (quiet-by tt tt refl (λ t b. refl) (λ h. refl) (λ T t. refl)))
+        (λ x. missed s e refl refl
+        (not-there (none-stamped v u I room p w due≤ ticket≤ a e (ltb-false _ _ x))))
+    find-booked (rmv.SetMark a) e =
+        let s = stage.Remove w (rmv.SetMark a) in
+        cond-cases (Booked v p b) (ltb 0 (v .mk (a .node))) _ _
+        (λ x. missed s e refl refl (not-there (none-marked v u I room p w due≤ ticket≤ a e
+        (λ h. omega (arith, ltb-true 0 (v .mk (a .node)) x)))))
+        (λ x. find-marked a e (omega (arith, ltb-false 0 (v .mk (a .node)) x)))
+
+  pub booked : (s : Stage) → v .pr p .stage ≡ s → 1 ≤ info (v .ht (v .pr p .own)) s .kind →
+      Wants s → Booked v p b (decision v p s)
+  booked stage.Idle e k wants = absurd (omega arith)
+  booked (stage.Insert (ins.Search a)) e k wants =
       quiet-step (stage.Insert (ins.Search a)) e k _
       (quiet-insert-searched (view v (v .pr p) (key v (v .pr p .own)) a) a
       (searchStep (view v (v .pr p) (key v (v .pr p .own)) a) a))
-  booked (stage.Insert (ins.Seek j)) e k =
+  booked (stage.Insert (ins.Seek j)) e k wants =
       quiet-step (stage.Insert (ins.Seek j)) e k _
       (quiet-insert-sought (view v (v .pr p) (key v (v .pr p .own)) (seekPart j .place)) j
       (seekStep (view v (v .pr p) (key v (v .pr p .own)) (seekPart j .place)) j)
       (seek-quiet (view v (v .pr p) (key v (v .pr p .own)) (seekPart j .place)) j))
-  booked (stage.Insert (ins.Copy a)) e k = quiet-step (stage.Insert (ins.Copy a)) e k _ (record { answer = tt; effect = tt; own-same = refl; begin-same = λ t b. refl; kind-same = λ h. refl; opens-same = λ t b. refl })
-  booked (stage.Insert (ins.Link a)) e k = quiet-step (stage.Insert (ins.Link a)) e k _ (record { answer = tt; effect = tt; own-same = refl; begin-same = λ t b. refl; kind-same = λ h. refl; opens-same = λ t b. refl })
-  booked (stage.Insert (ins.FreeLevel a)) e k = quiet-step (stage.Insert (ins.FreeLevel a)) e k _ (cond-elim (Quiet (v .pr p .own) (stage.Insert (ins.FreeLevel a))) (ltb (a .level) (v .ht (v .pr p .own))) _ _ (record { answer = tt; effect = tt; own-same = refl; begin-same = λ t b. refl; kind-same = λ h. refl; opens-same = λ t b. refl }) (record { answer = tt; effect = tt; own-same = refl; begin-same = λ t b. refl; kind-same = λ h. refl; opens-same = λ t b. refl }))
-  booked (stage.Insert ins.FreeNode) e k = quiet-step (stage.Insert ins.FreeNode) e k _ (record { answer = tt; effect = tt; own-same = refl; begin-same = λ t b. refl; kind-same = λ h. refl; opens-same = λ t b. refl })
-  booked (stage.Insert ins.Stamp) e k = stamp-booked e
-  booked (stage.Delete (del.ReadNext a)) e k = next-booked a e
-  booked (stage.Delete (del.TestStamp a)) e k = quiet-step (stage.Delete (del.TestStamp a)) e k _ (cond-elim (Quiet (v .pr p .own) (stage.Delete (del.TestStamp a))) (ltb (v .st (a .node)) (v .pr p .begin)) _ _ (record { answer = tt; effect = tt; own-same = refl; begin-same = λ t b. refl; kind-same = λ h. refl; opens-same = λ t b. refl }) (record { answer = tt; effect = tt; own-same = refl; begin-same = λ t b. refl; kind-same = λ h. refl; opens-same = λ t b. refl }))
-  booked (stage.Delete (del.SetMark a)) e k = mark-booked a e
-  booked (stage.Relaxed (rlx.ReadNext a)) e k = relaxed-next-booked a e
-  booked (stage.Relaxed (rlx.SetMark a)) e k = relaxed-mark-booked a e
-  booked (stage.Removal job (rem.Search a)) e k =
+  booked (stage.Insert (ins.Copy a)) e k wants =
+      quiet-step (stage.Insert (ins.Copy a)) e k _
+      (quiet-by tt tt refl (λ t b. refl) (λ h. refl) (λ T t. refl))
+  booked (stage.Insert (ins.Link a)) e k wants =
+      quiet-step (stage.Insert (ins.Link a)) e k _
+      (quiet-by tt tt refl (λ t b. refl) (λ h. refl) (λ T t. refl))
+  booked (stage.Insert (ins.FreeLevel a)) e k wants =
+      quiet-step (stage.Insert (ins.FreeLevel a)) e k _
+      (cond-elim (Quiet (v .pr p .own) (stage.Insert (ins.FreeLevel a)))
+      (ltb (a .level) (v .ht (v .pr p .own))) _ _
+      (quiet-by tt tt refl (λ t b. refl) (λ h. refl) (λ T t. refl))
+      (quiet-by tt tt refl (λ t b. refl) (λ h. refl) (λ T t. refl)))
+  booked (stage.Insert ins.FreeNode) e k wants =
+      quiet-step (stage.Insert ins.FreeNode) e k _
+      (quiet-by tt tt refl (λ t b. refl) (λ h. refl) (λ T t. refl))
+  booked (stage.Insert ins.Stamp) e k wants = stamp-booked e
+  booked (stage.Delete (del.ReadNext a)) e k wants = next-booked a e
+  booked (stage.Delete (del.TestStamp a)) e k wants =
+      quiet-step (stage.Delete (del.TestStamp a)) e k _
+      (cond-elim (Quiet (v .pr p .own) (stage.Delete (del.TestStamp a)))
+      (ltb (v .st (a .node)) (v .pr p .begin)) _ _
+      (quiet-by tt tt refl (λ t b. refl) (λ h. refl) (λ T t. refl))
+      (quiet-by tt tt refl (λ t b. refl) (λ h. refl) (λ T t. refl)))
+  booked (stage.Delete (del.SetMark a)) e k wants = mark-booked a e
+  booked (stage.Relaxed (rlx.ReadNext a)) e k wants = relaxed-next-booked a e
+  booked (stage.Relaxed (rlx.SetMark a)) e k wants = relaxed-mark-booked a e
+  booked (stage.Remove w d) e k wants = find-booked w (wants .0) (wants .1) d e
+  booked (stage.Removal job (rem.Search a)) e k wants =
       quiet-step (stage.Removal job (rem.Search a)) e k _
       (quiet-delete-searched job (view v (v .pr p) (key v (v .pr p .own)) a) a
       (searchStep (view v (v .pr p) (key v (v .pr p .own)) a) a))
-  booked (stage.Removal job rem.HoldNode) e k =
+  booked (stage.Removal job rem.HoldNode) e k wants =
       let s = view v (v .pr p) (key v (v .pr p .own)) (place 0 1) in
       quiet-step (stage.Removal job rem.HoldNode) e k _
       (cond-elim
       (λ t. Quiet (v .pr p .own) (stage.Removal job rem.HoldNode) (nodeTried job s t))
       (eqb (v .nl (v .pr p .own)) 0) _ _
-      (record {
-        answer = tt;
-        effect = tt;
-        own-same = refl;
-        begin-same = λ t b. refl;
-        kind-same = λ h. refl;
-        opens-same = λ t b. refl;
-      })
-      (record {
-        answer = tt;
-        effect = tt;
-        own-same = refl;
-        begin-same = λ t b. refl;
-        kind-same = λ h. refl;
-        opens-same = λ t b. refl;
-      }))
-  booked (stage.Removal job (rem.Seek j)) e k =
+      (quiet-by tt tt refl (λ t b. refl) (λ h. refl) (λ T t. refl))
+      (quiet-by tt tt refl (λ t b. refl) (λ h. refl) (λ T t. refl)))
+  booked (stage.Removal job (rem.Seek j)) e k wants =
       quiet-step (stage.Removal job (rem.Seek j)) e k _
       (quiet-delete-sought job (view v (v .pr p) (key v (v .pr p .own)) (seekPart j .place)) j
       (seekStep (view v (v .pr p) (key v (v .pr p .own)) (seekPart j .place)) j)
       (seek-quiet (view v (v .pr p) (key v (v .pr p .own)) (seekPart j .place)) j))
-  booked (stage.Removal job (rem.HoldOwn a)) e k =
+  booked (stage.Removal job (rem.HoldOwn a)) e k wants =
       let s = view v (v .pr p) (key v (v .pr p .own)) a in
       quiet-step (stage.Removal job (rem.HoldOwn a)) e k _
       (cond-elim
       (λ t. Quiet (v .pr p .own) (stage.Removal job (rem.HoldOwn a)) (ownTried job s a t))
       (eqb (v .lk (v .pr p .own) (a .level)) 0) _ _
-      (record {
-        answer = tt;
-        effect = tt;
-        own-same = refl;
-        begin-same = λ t b. refl;
-        kind-same = λ h. refl;
-        opens-same = λ t b. refl;
-      })
-      (record {
-        answer = tt;
-        effect = tt;
-        own-same = refl;
-        begin-same = λ t b. refl;
-        kind-same = λ h. refl;
-        opens-same = λ t b. refl;
-      }))
-  booked (stage.Removal job (rem.Unlink a)) e k = quiet-step (stage.Removal job (rem.Unlink a)) e k _ (record { answer = tt; effect = tt; own-same = refl; begin-same = λ t b. refl; kind-same = λ h. refl; opens-same = λ t b. refl })
-  booked (stage.Removal job (rem.LeadBack a)) e k = quiet-step (stage.Removal job (rem.LeadBack a)) e k _ (record { answer = tt; effect = tt; own-same = refl; begin-same = λ t b. refl; kind-same = λ h. refl; opens-same = λ t b. refl })
-  booked (stage.Removal job (rem.FreeOwn a)) e k = quiet-step (stage.Removal job (rem.FreeOwn a)) e k _ (record { answer = tt; effect = tt; own-same = refl; begin-same = λ t b. refl; kind-same = λ h. refl; opens-same = λ t b. refl })
-  booked (stage.Removal job (rem.FreeLevel a)) e k = quiet-step (stage.Removal job (rem.FreeLevel a)) e k _ (cond-elim (Quiet (v .pr p .own) (stage.Removal job (rem.FreeLevel a))) (leb (a .level) 1) _ _ (record { answer = tt; effect = tt; own-same = refl; begin-same = λ t b. refl; kind-same = λ h. refl; opens-same = λ t b. refl }) (record { answer = tt; effect = tt; own-same = refl; begin-same = λ t b. refl; kind-same = λ h. refl; opens-same = λ t b. refl }))
-  booked (stage.Removal job rem.FreeNode) e k = quiet-step (stage.Removal job rem.FreeNode) e k _ (record { answer = tt; effect = tt; own-same = refl; begin-same = λ t b. refl; kind-same = λ h. refl; opens-same = λ t b. refl })
-  booked (stage.Removal job rem.Retire) e k = retire-booked job e
+      (quiet-by tt tt refl (λ t b. refl) (λ h. refl) (λ T t. refl))
+      (quiet-by tt tt refl (λ t b. refl) (λ h. refl) (λ T t. refl)))
+  booked (stage.Removal job (rem.Unlink a)) e k wants =
+      quiet-step (stage.Removal job (rem.Unlink a)) e k _
+      (quiet-by tt tt refl (λ t b. refl) (λ h. refl) (λ T t. refl))
+  booked (stage.Removal job (rem.LeadBack a)) e k wants =
+      quiet-step (stage.Removal job (rem.LeadBack a)) e k _
+      (quiet-by tt tt refl (λ t b. refl) (λ h. refl) (λ T t. refl))
+  booked (stage.Removal job (rem.FreeOwn a)) e k wants =
+      quiet-step (stage.Removal job (rem.FreeOwn a)) e k _
+      (quiet-by tt tt refl (λ t b. refl) (λ h. refl) (λ T t. refl))
+  booked (stage.Removal job (rem.FreeLevel a)) e k wants =
+      quiet-step (stage.Removal job (rem.FreeLevel a)) e k _
+      (cond-elim (Quiet (v .pr p .own) (stage.Removal job (rem.FreeLevel a)))
+      (leb (a .level) 1) _ _
+      (quiet-by tt tt refl (λ t b. refl) (λ h. refl) (λ T t. refl))
+      (quiet-by tt tt refl (λ t b. refl) (λ h. refl) (λ T t. refl)))
+  booked (stage.Removal job rem.FreeNode) e k wants =
+      quiet-step (stage.Removal job rem.FreeNode) e k _
+      (quiet-by tt tt refl (λ t b. refl) (λ h. refl) (λ T t. refl))
+  booked (stage.Removal job rem.Retire) e k wants = retire-booked job e

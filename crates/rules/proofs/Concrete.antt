@@ -17,13 +17,14 @@ use Rattle.record.specs.declared.nodes.Use.{Use}
 use Rattle.record.specs.declared.nodes.Use.the-variants as use′
 use Rattle.record.specs.Keys.{keyBefore}
 use Rattle.record.specs.Queues.{nodeAt, processorAt}
-use Rattle.rules.specs.Calls.{keyFor, stepViewOf}
+use Rattle.rules.specs.Calls.{keyFor, atKey, stepViewOf}
 use Rattle.record.specs.Nodes.{stampedBefore, keyOf}
 use Rattle.record.specs.declared.stages.Place.{Place}
 use Rattle.rules.proofs.Put.{ever}
-use Rattle.rules.proofs.View.{Pr, View, rankFor, rank}
-use Rattle.rules.proofs.Machine.{view}
-use Rattle.rules.proofs.Ranks.{Ranked, node-ranked, before-ranked, ranked-for, rank-at}
+use Rattle.rules.proofs.View.{Pr, View, rankFor, asksFor, Wants, rank}
+use Rattle.rules.proofs.Machine.{viewFor}
+use Rattle.rules.proofs.Ranks.{Ranked, node-ranked, before-ranked, ranked-for, asked-for}
+use Rattle.rules.proofs.Ranks.{rank-at}
 
 abbrev pub levelOf : List ℕ → ℕ → ℕ
 levelOf l i = cond (eqb i 0) 0 (getD l (i - 1) 0)
@@ -75,7 +76,9 @@ stamp-before (stamp.At t) T T≤ = refl
 -- the view of a step, read from the record and from the view
 module _ (q : Queue) (c : Processor) (a : Place) (a≥ : 1 ≤ a .level) (T≤ : c .begin ≤ ever)
     (small : (n : ℕ) → n ≤ q .nodeCount + 1 → (nodeAt q n .due ≤ 999999) × (nodeAt q n .ticket ≤ 999999))
-    (next≤ : levelOf (nodeAt q (a .node) .forward) (a .level) ≤ q .nodeCount + 1) (own≤ : c .own ≤ q .nodeCount + 1) where
+    (next≤ : levelOf (nodeAt q (a .node) .forward) (a .level) ≤ q .nodeCount + 1)
+    (own≤ : c .own ≤ q .nodeCount + 1)
+    (wants : Wants (c .stage)) where
   abbrev v : View
   v = viewOf q
 
@@ -96,9 +99,9 @@ module _ (q : Queue) (c : Processor) (a : Place) (a≥ : 1 ≤ a .level) (T≤ :
   goal-rank = rankFor (c .stage) (rank (q .nodeCount) (v .due) (v .tick) (c .own))
 
   goal-ranked : Ranked goal goal-rank
-  goal-ranked = ranked-for (c .stage) _ _ (ranked (c .own) own≤)
+  goal-ranked = ranked-for (c .stage) _ _ wants (ranked (c .own) own≤)
 
-  pub step-view-same : stepViewOf q c a ≡ view v (prOf c) goal-rank a
+  pub step-view-same : stepViewOf q c a ≡ viewFor v (prOf c) goal-rank (asksFor (c .stage)) a
   step-view-same = λ i. record {
     own = c .own;
     height = nodeAt q (c .own) .height;
@@ -107,6 +110,8 @@ module _ (q : Queue) (c : Processor) (a : Place) (a≥ : 1 ≤ a .level) (T≤ :
     nextBeforeKey = (ap (λ (y : ℕ). keyBefore (keyOf (q .nodeCount) y (nodeAt q y)) goal) next-same
         ∙ before-ranked _ goal _ goal-rank (ranked (v .fwd (a .node) (a .level)) next≤) goal-ranked)
         i;
+    nextHasKey = (ap (λ (y : ℕ). atKey (c .stage) (keyOf (q .nodeCount) y (nodeAt q y))) next-same
+        ∙ asked-for (c .stage) _ _ wants (ranked (v .fwd (a .node) (a .level)) next≤)) i;
     placeLock = level-pos (nodeAt q (a .node) .levelLocks) (a .level) a≥ i;
     ownNext = level-pos (nodeAt q (c .own) .forward) (a .level) a≥ i;
     ownLock = level-pos (nodeAt q (c .own) .levelLocks) (a .level) a≥ i;

@@ -12,7 +12,7 @@ use Rattle.rules.specs.Runs.{Turn, calls, backlog, markers, after, reply
 use Rattle.rules.proofs.Backlog.{backlog-agrees}
 use Rattle.rules.proofs.Markers.{markers-agrees}
 use Rattle.rules.proofs.Sound.{Sound, insert-agrees, delete-agrees, relaxed-agrees}
-use Rattle.rules.proofs.Sound.{step-agrees}
+use Rattle.rules.proofs.Sound.{remove-agrees, step-agrees}
 use Rattle.rules.proofs.Fresh.{fresh-sound}
 use Rattle.rules.proofs.Untouched.{untouched-all}
 use Rattle.rules.proofs.Valid.{reached-valid}
@@ -28,6 +28,9 @@ turned-by q b S (calls (call.Insert p due item height)) = let A = insert-agrees 
 turned-by q b S (calls (call.DeleteMin p)) = let A = delete-agrees q b S p in record { book = A .book; fed = A .fed; sound = A .sound }
 turned-by q b S (calls (call.Relaxed p)) =
     let A = relaxed-agrees q b S p in
+    record { book = A .book; fed = A .fed; sound = A .sound }
+turned-by q b S (calls (call.Remove p due ticket)) =
+    let A = remove-agrees q b S p due ticket in
     record { book = A .book; fed = A .fed; sound = A .sound }
 turned-by q b S (calls (call.Step p)) = let A = step-agrees q b S p in record { book = A .book; fed = A .fed; sound = A .sound }
 turned-by q b S backlog = record { book = b; fed = backlog-agrees q b S; sound = S }

@@ -11,6 +11,7 @@ use Rattle.record.specs.declared.stages.Delete.the-variants as del
 use Rattle.record.specs.declared.stages.Removal.{Removal}
 use Rattle.record.specs.declared.stages.Removal.the-variants as rem
 use Rattle.record.specs.declared.stages.Relaxed.the-variants as rlx
+use Rattle.record.specs.declared.stages.Remove.the-variants as rmv
 use Rattle.record.specs.declared.stages.Stage.{Stage}
 use Rattle.record.specs.declared.stages.Stage.the-variants as stage
 use Rattle.rules.specs.Calls.{readingPlace}
@@ -54,6 +55,10 @@ facts h (stage.Delete (del.TestStamp a)) = omega arith
 facts h (stage.Delete (del.SetMark a)) = omega arith
 facts h (stage.Relaxed (rlx.ReadNext a)) = omega arith
 facts h (stage.Relaxed (rlx.SetMark a)) = omega arith
+facts h (stage.Remove w (rmv.Search a)) = omega arith
+facts h (stage.Remove w (rmv.ReadNext a)) = omega arith
+facts h (stage.Remove w (rmv.TestStamp a)) = omega arith
+facts h (stage.Remove w (rmv.SetMark a)) = omega arith
 facts h (stage.Removal job (rem.Search a)) = omega arith
 facts h (stage.Removal job rem.HoldNode) = omega arith
 facts h (stage.Removal job (rem.Seek (seek.Approach a))) = omega arith
@@ -97,6 +102,10 @@ info-any h g (stage.Delete (del.TestStamp a)) = like refl refl refl refl refl re
 info-any h g (stage.Delete (del.SetMark a)) = like refl refl refl refl refl refl
 info-any h g (stage.Relaxed (rlx.ReadNext a)) = like refl refl refl refl refl refl
 info-any h g (stage.Relaxed (rlx.SetMark a)) = like refl refl refl refl refl refl
+info-any h g (stage.Remove w (rmv.Search a)) = like refl refl refl refl refl refl
+info-any h g (stage.Remove w (rmv.ReadNext a)) = like refl refl refl refl refl refl
+info-any h g (stage.Remove w (rmv.TestStamp a)) = like refl refl refl refl refl refl
+info-any h g (stage.Remove w (rmv.SetMark a)) = like refl refl refl refl refl refl
 info-any h g (stage.Removal job (rem.Search a)) = like refl refl refl refl refl refl
 info-any h g (stage.Removal job rem.HoldNode) = like refl refl refl refl refl refl
 info-any h g (stage.Removal job (rem.Seek (seek.Approach a))) = like refl refl refl refl refl refl
@@ -132,6 +141,10 @@ place-info h (stage.Delete (del.TestStamp a)) = (refl, refl)
 place-info h (stage.Delete (del.SetMark a)) = (refl, refl)
 place-info h (stage.Relaxed (rlx.ReadNext a)) = (refl, refl)
 place-info h (stage.Relaxed (rlx.SetMark a)) = (refl, refl)
+place-info h (stage.Remove w (rmv.Search a)) = (refl, refl)
+place-info h (stage.Remove w (rmv.ReadNext a)) = (refl, refl)
+place-info h (stage.Remove w (rmv.TestStamp a)) = (refl, refl)
+place-info h (stage.Remove w (rmv.SetMark a)) = (refl, refl)
 place-info h (stage.Removal job (rem.Search a)) = (refl, refl)
 place-info h (stage.Removal job rem.HoldNode) = (refl, refl)
 place-info h (stage.Removal job (rem.Seek (seek.Approach a))) = (refl, refl)

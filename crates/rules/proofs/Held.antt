@@ -17,6 +17,8 @@ use Rattle.record.specs.declared.stages.Delete.the-variants as del
 use Rattle.record.specs.declared.stages.Removal.{Removal}
 use Rattle.record.specs.declared.stages.Removal.the-variants as rem
 use Rattle.record.specs.declared.stages.Relaxed.the-variants as rlx
+use Rattle.record.specs.declared.stages.Wanted.{Wanted}
+use Rattle.record.specs.declared.stages.Remove.the-variants as rmv
 use Rattle.record.specs.declared.stages.Stage.{Stage}
 use Rattle.record.specs.declared.stages.Job.{Job}
 use Rattle.record.specs.declared.stages.Stage.the-variants as stage
@@ -30,14 +32,16 @@ use Rattle.rules.specs.declared.decisions.Sought.the-variants as sght
 use Rattle.record.specs.Stages.{place}
 use Rattle.rules.specs.Locks.{Lock, level, node}
 use Rattle.rules.specs.Decide.{insertSearched, insertSought, removalSearched, removalSought, seekStep, searchStep}
-use Rattle.rules.specs.Decide.{placeTried, nodeTried, ownTried}
+use Rattle.rules.specs.Decide.{removeSearched, placeTried, nodeTried, ownTried}
 use Rattle.laws.proofs.Updating.{changed-same, changed-other}
 use Rattle.rules.proofs.Put.{put, put-at, Where, here, away}
 use Rattle.laws.proofs.Booleans.{cond-elim}
 use Rattle.record.specs.Stages.{seekPart}
-use Rattle.rules.proofs.View.{Pr, View, Info, info, walkInfo, claim, key, tail}
+use Rattle.rules.proofs.View.{Pr, View, Info, info, walkInfo, asksFor, entryRank, claim}
+use Rattle.rules.proofs.View.{key, tail}
 use Rattle.rules.proofs.Assemble.{ticked}
-use Rattle.rules.proofs.Machine.{effected, prAfter, carried, decision, view, relevel}
+use Rattle.rules.proofs.Machine.{effected, prAfter, carried, decision, view, viewFor}
+use Rattle.rules.proofs.Machine.{relevel}
 use Rattle.rules.proofs.Facts.{info-any}
 use Rattle.rules.proofs.Inv.{NodeHeld}
 use Rattle.rules.proofs.Rel.{pr-same}
@@ -210,6 +214,22 @@ removal-searched job h s a (srch.Ahead b) = (record { keeps = λ h l H. held-by 
 removal-searched job h s a (srch.Down b) = (record { keeps = λ h l H. held-by (λ x e. absurd (omega arith)) (λ x e. absurd (omega arith)) (λ x e. absurd (omega arith)) H; gains = (λ h l t. absurd t) })
 removal-searched job h s a (srch.Done b) = (record { keeps = λ h l H. held-by (λ x e. absurd (omega arith)) (λ x e. absurd (omega arith)) (λ x e. absurd (omega arith)) H; gains = (λ h l t. absurd t) })
 
+-- an operation without an own node holds no lock, and a step of it that takes none passes nothing
+-- on
+ownless-passes : (f : Info) → f .hp ≡ 0 → f .ho ≡ 0 → f .hn ≡ 0 → (own : ℕ) (d : Decision) →
+    ((l : Lock) → Takes (d .effect) l → ⊥) → Passes f own d
+ownless-passes f p o n own d none = record {
+  keeps = λ h l H. held-by (λ z e. absurd (omega arith)) (λ z e. absurd (omega arith))
+      (λ z e. absurd (omega arith)) H;
+  gains = λ h l t. absurd (none l t);
+}
+
+remove-searched : (h : ℕ) (s : StepView) (w : Wanted) (a : Place) (r : Searched) →
+    Passes (info h (stage.Remove w (rmv.Search a))) (s .own) (removeSearched s w a r)
+remove-searched h s w a (srch.Ahead b) = ownless-passes _ refl refl refl _ _ (λ l t. t)
+remove-searched h s w a (srch.Down b) = ownless-passes _ refl refl refl _ _ (λ l t. t)
+remove-searched h s w a (srch.Done b) = ownless-passes _ refl refl refl _ _ (λ l t. t)
+
 insert-seek : (h : ℕ) (s : StepView) (k : Seek) → Passes (info h (stage.Insert (ins.Seek k))) (s .own) (insertSought s (seekStep s k))
 insert-seek h s (seek.Approach a) = cond-elim (λ r. Passes (info h (stage.Insert (ins.Seek (seek.Approach a)))) (s .own) (insertSought s r)) (s .nextBeforeKey)
     (sght.Goes eff.Keep (seek.Approach (place (s .next) (a .level)))) (sght.Goes eff.Keep (seek.Take a)) (record { keeps = λ h l H. held-by (λ x e. absurd (omega arith)) (λ x e. absurd (omega arith)) (λ x e. inr (by-node refl e)) H; gains = (λ h l t. absurd t) }) (record { keeps = λ h l H. held-by (λ x e. absurd (omega arith)) (λ x e. absurd (omega arith)) (λ x e. inr (by-node refl e)) H; gains = (λ h l t. absurd t) })
@@ -235,14 +255,10 @@ removal-seek job h s (seek.Confirm a) =
     (sght.Goes eff.Keep (seek.Release a (s .next))) (sght.Done a) (record { keeps = λ h l H. held-by (λ x e. inr (by-place refl e)) (λ x e. absurd (omega arith)) (λ x e. inr (by-node refl e)) H; gains = (λ h l t. absurd t) }) (record { keeps = λ h l H. held-by (λ x e. inr (by-place refl e)) (λ x e. absurd (omega arith)) (λ x e. inr (by-node refl e)) H; gains = (λ h l t. absurd t) })
 removal-seek job h s (seek.Release a b) = (record { keeps = λ h l H. held-by (λ x e. inl e) (λ x e. absurd (omega arith)) (λ x e. inr (by-node refl e)) H; gains = (λ h l t. absurd t) })
 
--- a walk holds no lock, and a step of it that takes none passes nothing on
+-- so with a walk
 walk-passes : (x y : ℕ) (a : Place) (own : ℕ) (d : Decision) →
     ((l : Lock) → Takes (d .effect) l → ⊥) → Passes (walkInfo x y a) own d
-walk-passes x y a own d none = record {
-  keeps = λ h l H. held-by (λ z e. absurd (omega arith)) (λ z e. absurd (omega arith))
-      (λ z e. absurd (omega arith)) H;
-  gains = λ h l t. absurd (none l t);
-}
+walk-passes x y a own d none = ownless-passes (walkInfo x y a) refl refl refl own d none
 
 -- every step passes its locks on
 pub passes : (v : View) (p h : ℕ) (s : Stage) → Passes (info h s) (v .pr p .own) (decision v p s)
@@ -280,6 +296,31 @@ passes v p h (stage.Relaxed (rlx.SetMark a)) =
     let o = v .pr p .own in
     cond-elim (Passes (walkInfo 1 1 a) o) (ltb 0 (v .mk (a .node))) _ _
     (walk-passes 1 1 a o _ (λ l t. t)) (walk-passes 1 1 a o _ (λ l t. t))
+passes v p h (stage.Remove w (rmv.Search a)) =
+    let s = viewFor v (v .pr p) (entryRank (w .due) (w .ticket))
+    (asksFor (stage.Remove w (rmv.Search a))) a in
+    remove-searched h s w a (searchStep s a)
+passes v p h (stage.Remove w (rmv.ReadNext a)) =
+    let o = v .pr p .own in
+    let f = info h (stage.Remove w (rmv.ReadNext a)) in
+    let b = key v (v .fwd (a .node) 1) in
+    cond-elim (Passes f o) (ltb b (entryRank (w .due) (w .ticket))) _ _
+    (ownless-passes f refl refl refl o _ (λ l t. t))
+    (cond-elim (Passes f o) (eqb b (entryRank (w .due) (w .ticket))) _ _
+    (ownless-passes f refl refl refl o _ (λ l t. t))
+    (ownless-passes f refl refl refl o _ (λ l t. t)))
+passes v p h (stage.Remove w (rmv.TestStamp a)) =
+    let o = v .pr p .own in
+    let f = info h (stage.Remove w (rmv.TestStamp a)) in
+    cond-elim (Passes f o) (ltb (v .st (a .node)) (v .pr p .begin)) _ _
+    (ownless-passes f refl refl refl o _ (λ l t. t))
+    (ownless-passes f refl refl refl o _ (λ l t. t))
+passes v p h (stage.Remove w (rmv.SetMark a)) =
+    let o = v .pr p .own in
+    let f = info h (stage.Remove w (rmv.SetMark a)) in
+    cond-elim (Passes f o) (ltb 0 (v .mk (a .node))) _ _
+    (ownless-passes f refl refl refl o _ (λ l t. t))
+    (ownless-passes f refl refl refl o _ (λ l t. t))
 passes v p h (stage.Removal job (rem.Search a)) =
     removal-searched job h (view v (v .pr p) (key v (v .pr p .own)) a) a
     (searchStep (view v (v .pr p) (key v (v .pr p .own)) a) a)

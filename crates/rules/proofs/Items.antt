@@ -32,6 +32,9 @@ use Rattle.record.specs.declared.stages.Seek.{Seek}
 use Rattle.record.specs.declared.stages.Seek.the-variants as seek
 use Rattle.record.specs.declared.stages.Relaxed.{Relaxed}
 use Rattle.record.specs.declared.stages.Relaxed.the-variants as rlx
+use Rattle.record.specs.declared.stages.Wanted.{Wanted}
+use Rattle.record.specs.declared.stages.Remove.{Remove}
+use Rattle.record.specs.declared.stages.Remove.the-variants as rmv
 use Rattle.record.specs.declared.stages.Stage.{Stage}
 use Rattle.record.specs.declared.stages.Stage.the-variants as stage
 use Rattle.record.specs.Limits.{maxNumber}
@@ -58,15 +61,15 @@ use Rattle.rules.specs.Choice.{chosen}
 use Rattle.rules.specs.Decide.{decide, searchStep, seekStep}
 use Rattle.rules.specs.Decide.{insertSearched, insertSought, insertStep}
 use Rattle.rules.specs.Decide.{removalSearched, removalSought, removalStep, deleteStep}
-use Rattle.rules.specs.Decide.{relaxedStep}
+use Rattle.rules.specs.Decide.{relaxedStep, removeSearched, removeStep}
 use Rattle.rules.specs.Decide.{attempt, placeTried, nodeTried, ownTried}
 use Rattle.rules.specs.Effects.{changed, nodeOf, applied, accepted}
 use Rattle.rules.proofs.Slots.{map-set}
 use Rattle.rules.specs.Items.{Renaming, renamedNode, renamed, renamedEntry, renamedAnswer}
 use Rattle.rules.specs.Items.{renamedCall, itemOf}
 use Rattle.rules.specs.Items.{zeroFor, CheckSeesNoItem, NoRuleSeesAnItem, ItemZeroGoesOn}
-use Rattle.rules.specs.Runs.{calls, deleteMin, relaxed, stepBy, backlog, markers, Reply}
-use Rattle.rules.specs.Runs.{answered, counted}
+use Rattle.rules.specs.Runs.{calls, deleteMin, relaxed, remove, stepBy, backlog, markers}
+use Rattle.rules.specs.Runs.{Reply, answered, counted}
 
 -- a choice of images is the image of the choice
 cond-pair :
@@ -91,6 +94,7 @@ module _ (f : ℕ → ℕ) where
     ownNodeLock = s .ownNodeLock;
     next = s .next;
     nextBeforeKey = s .nextBeforeKey;
+    nextHasKey = s .nextHasKey;
     nextIsTail = s .nextIsTail;
     placeLock = s .placeLock;
     ownNext = s .ownNext;
@@ -210,6 +214,7 @@ module _ (f : ℕ → ℕ) where
   removal-decides job s (rem.FreeLevel a) = cond-image renamedDecision (leb (a .level) 1) _ _
   removal-decides job s rem.FreeNode = refl
   removal-decides jobs.Deliver s rem.Retire = refl
+  removal-decides jobs.TakeBack s rem.Retire = refl
 
   delete-decides :
       (s : StepView) (d : Delete) → deleteStep (renamedView s) d ≡ renamedDecision (deleteStep s d)
@@ -225,11 +230,29 @@ module _ (f : ℕ → ℕ) where
       (cond-image renamedDecision (eqb (s .next) 0) _ _)
   relaxed-decides s (rlx.SetMark a) = cond-image renamedDecision (s .marked) _ _
 
+  remove-searched :
+      (s : StepView) (w : Wanted) (a : Place) (r : Searched) →
+      removeSearched (renamedView s) w a r ≡ renamedDecision (removeSearched s w a r)
+  remove-searched s w a (srch.Ahead b) = refl
+  remove-searched s w a (srch.Down b) = refl
+  remove-searched s w a (srch.Done b) = refl
+
+  remove-decides :
+      (s : StepView) (w : Wanted) (d : Remove) →
+      removeStep (renamedView s) w d ≡ renamedDecision (removeStep s w d)
+  remove-decides s w (rmv.Search a) = remove-searched s w a (searchStep s a)
+  remove-decides s w (rmv.ReadNext a) =
+      cond-pair renamedDecision (s .nextBeforeKey) (s .nextBeforeKey) _ _ _ _ refl refl
+      (cond-image renamedDecision (s .nextHasKey) _ _)
+  remove-decides s w (rmv.TestStamp a) = cond-image renamedDecision (s .stamped) _ _
+  remove-decides s w (rmv.SetMark a) = cond-image renamedDecision (s .marked) _ _
+
   decides : (s : StepView) (g : Stage) → decide (renamedView s) g ≡ renamedDecision (decide s g)
   decides s stage.Idle = refl
   decides s (stage.Insert i) = insert-decides s i
   decides s (stage.Delete d) = delete-decides s d
   decides s (stage.Relaxed d) = relaxed-decides s d
+  decides s (stage.Remove w d) = remove-decides s w d
   decides s (stage.Removal job r) = removal-decides job s r
 
   -- what changes
@@ -369,6 +392,7 @@ module _ (f : ℕ → ℕ) where
         rw (large, no-item item h, chosen-same q) refl
     refusal-same q (call.DeleteMin p) h = refl
     refusal-same q (call.Relaxed p) h = refl
+    refusal-same q (call.Remove p due ticket) h = refl
     refusal-same q (call.Step p) h = refl
 
     decision-same :
@@ -378,6 +402,7 @@ module _ (f : ℕ → ℕ) where
         ap (λ (x : ℕ). insertDecision q x due (f item) height) (chosen-same q)
     decision-same q (call.DeleteMin p) = refl
     decision-same q (call.Relaxed p) = refl
+    decision-same q (call.Remove p due ticket) = refl
     decision-same q (call.Step p) =
         let c = processorAt q p in
         let g = c .stage in
@@ -387,6 +412,7 @@ module _ (f : ℕ → ℕ) where
     processor-same (call.Insert p due item height) = refl
     processor-same (call.DeleteMin p) = refl
     processor-same (call.Relaxed p) = refl
+    processor-same (call.Remove p due ticket) = refl
     processor-same (call.Step p) = refl
 
     call-same :
@@ -444,5 +470,7 @@ item-zero-goes-on k h q =
       taken = check-sees-no-item (zeroFor k) R q;
       begun = λ p. no-rule-sees-an-item (zeroFor k) R q (deleteMin p) (λ _. refl);
       begun-relaxed = λ p. no-rule-sees-an-item (zeroFor k) R q (relaxed p) (λ _. refl);
+      begun-remove = λ p due ticket.
+          no-rule-sees-an-item (zeroFor k) R q (remove p due ticket) (λ _. refl);
       stepped = λ p. no-rule-sees-an-item (zeroFor k) R q (stepBy p) (λ _. refl);
     }

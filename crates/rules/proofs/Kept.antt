@@ -15,6 +15,9 @@ use Rattle.record.specs.declared.stages.Delete.the-variants as del
 use Rattle.record.specs.declared.stages.Removal.{Removal}
 use Rattle.record.specs.declared.stages.Removal.the-variants as rem
 use Rattle.record.specs.declared.stages.Relaxed.the-variants as rlx
+use Rattle.record.specs.declared.stages.Wanted.{Wanted}
+use Rattle.record.specs.declared.stages.Remove.{Remove}
+use Rattle.record.specs.declared.stages.Remove.the-variants as rmv
 use Rattle.record.specs.declared.stages.Stage.{Stage}
 use Rattle.record.specs.declared.stages.Job.{Job}
 use Rattle.record.specs.declared.stages.Job.the-variants as jobs
@@ -23,15 +26,18 @@ use Rattle.record.specs.Stages.{place}
 use Rattle.record.specs.declared.stages.Stage.the-variants as stage
 use Rattle.laws.proofs.Booleans.{cond-cases}
 use Rattle.rules.proofs.Put.{ever, put}
-use Rattle.rules.proofs.View.{View, Info, info, walkInfo, key, tail, last}
+use Rattle.rules.proofs.View.{View, Info, info, walkInfo, asksFor, Wants, key, tail, last}
+use Rattle.rules.proofs.View.{entryRank}
 use Rattle.rules.proofs.Inv.{Inv, NodeHeld}
-use Rattle.rules.proofs.Machine.{decision, carried, view}
-use Rattle.rules.specs.Decide.{moved, marking, insertSearched, insertSought, removalSearched}
-use Rattle.rules.specs.Decide.{removalSought, placeTried, nodeTried, ownTried}
+use Rattle.rules.proofs.Machine.{decision, carried, view, viewFor}
+use Rattle.rules.specs.Decide.{moved, missing, marking, insertSearched, insertSought}
+use Rattle.rules.specs.Decide.{removalSearched}
+use Rattle.rules.specs.Decide.{removalSought, removeSearched, placeTried, nodeTried, ownTried}
 use Rattle.rules.proofs.Move.{busy-at, approach-ahead, approach-take, take-waits, take-confirm, confirm-release, release-take}
 use Rattle.rules.proofs.Search.{search-ahead, search-down}
 use Rattle.rules.proofs.InsertSteps
 use Rattle.rules.proofs.WalkSteps
+use Rattle.rules.proofs.FindSteps
 use Rattle.rules.proofs.RemovalSteps
 
 -- what the ghost function becomes
@@ -49,6 +55,7 @@ untilAfter v u p (stage.Delete (del.TestStamp a)) = u
 untilAfter v u p (stage.Delete (del.SetMark a)) = u
 untilAfter v u p (stage.Relaxed (rlx.ReadNext a)) = u
 untilAfter v u p (stage.Relaxed (rlx.SetMark a)) = u
+untilAfter v u p (stage.Remove w d) = u
 untilAfter v u p (stage.Removal job (rem.Search a)) = u
 untilAfter v u p (stage.Removal job rem.HoldNode) = u
 untilAfter v u p (stage.Removal job (rem.Seek k)) = u
@@ -226,6 +233,55 @@ module _ (v : View) (u : ℕ → ℕ → ℕ) (I : Inv v u) (H : NodeHeld v) (ro
       WalkSteps.mark-step v u I room p s e (ap (λ (f : Info). f .kind) is)
       (ap (λ (f : Info). f .nx) is) jobs.Deliver (a .node) (M .0) (M .1) (M .2) m)
 
+  -- a Remove before its mark
+  module _ (w : Wanted) (small : (w .due ≤ 999999) × (w .ticket ≤ 999999)) where
+    abbrev goal : ℕ
+    goal = entryRank (w .due) (w .ticket)
+
+    find-search : (a : Place) → v .pr p .stage ≡ stage.Remove w (rmv.Search a) →
+        Kept (stage.Remove w (rmv.Search a))
+    find-search a e =
+        let s = stage.Remove w (rmv.Search a) in
+        let B = busy-at v u I p s e (omega arith) in
+        let sees = viewFor v (v .pr p) goal (asksFor s) a in
+        cond-cases (λ r. Inv (carried v p (removeSearched sees w a r)) u)
+        (ltb (key v (v .fwd (a .node) (a .level))) goal) _ _
+        (λ x. search-ahead v u I room p (λ b. stage.Remove w (rmv.Search b)) 2 0 0 goal goal
+        (λ b. refl) (omega arith) (λ h. B .walks refl .ownless)
+        (omega (arith, small .0, small .1)) refl a e (ltb-true _ _ x))
+        (λ x. cond-cases (λ r. Inv (carried v p (removeSearched sees w a r)) u)
+        (leb (a .level) 1) _ _
+        (λ y. FindSteps.find-left v u I room p w (small .0) (small .1) a e (leb-true _ _ y))
+        (λ y. search-down v u I room p (λ b. stage.Remove w (rmv.Search b)) 2 0 0 goal goal
+        (λ b. refl) (omega arith) (λ h. B .walks refl .ownless)
+        (omega (arith, small .0, small .1)) refl a e (leb-false _ _ y)))
+
+    -- not there: it is idle again
+    find-ends : (s : Stage) → v .pr p .stage ≡ s → info (v .ht (v .pr p .own)) s .kind ≡ 2 →
+        info (v .ht (v .pr p .own)) s .nx ≡ 0 → Inv (carried v p (missing w)) u
+    find-ends s e k n = WalkSteps.ownless-ends v u I room p s e k n
+
+    find : (d : Remove) → v .pr p .stage ≡ stage.Remove w d → Kept (stage.Remove w d)
+    find (rmv.Search a) e = find-search a e
+    find (rmv.ReadNext a) e =
+        let b = v .fwd (a .node) 1 in
+        cond-cases (λ d. Inv (carried v p d) u) (ltb (key v b) goal) _ _
+        (λ x. FindSteps.find-on v u I room p w (small .0) (small .1) a e (ltb-true _ _ x))
+        (λ x. cond-cases (λ d. Inv (carried v p d) u) (eqb (key v b) goal) _ _
+        (λ y. FindSteps.find-here v u I room p w (small .0) (small .1) a e (eqb-true _ _ y))
+        (λ y. find-ends (stage.Remove w (rmv.ReadNext a)) e refl refl))
+    find (rmv.TestStamp a) e =
+        cond-cases (λ d. Inv (carried v p d) u) (ltb (v .st (a .node)) (v .pr p .begin)) _ _
+        (λ x. FindSteps.find-stamped v u I room p w (small .0) (small .1) a e (ltb-true _ _ x))
+        (λ x. find-ends (stage.Remove w (rmv.TestStamp a)) e refl refl)
+    find (rmv.SetMark a) e =
+        cond-cases (λ d. Inv (carried v p d) u) (ltb 0 (v .mk (a .node))) _ _
+        (λ x. find-ends (stage.Remove w (rmv.SetMark a)) e refl refl)
+        (λ x. let m : v .mk (a .node) ≡ 0 = omega (arith, ltb-false 0 (v .mk (a .node)) x) in
+        let L = FindSteps.find-marks v u I room p w (small .0) (small .1) a e m .0 in
+        WalkSteps.mark-step v u I room p (stage.Remove w (rmv.SetMark a)) e refl refl jobs.TakeBack
+        (a .node) (L .low) (L .high) (L .used) m)
+
   hold-node : (job : Job) → v .pr p .stage ≡ stage.Removal job rem.HoldNode →
       Kept (stage.Removal job rem.HoldNode)
   hold-node job e =
@@ -249,29 +305,32 @@ module _ (v : View) (u : ℕ → ℕ → ℕ) (I : Inv v u) (H : NodeHeld v) (ro
       (λ x. RemovalSteps.delete-bottom v u I room p job a e (leb-true _ _ x))
       (λ x. RemovalSteps.delete-down v u I room p job a e (leb-false _ _ x))
 
-  pub kept : (s : Stage) → v .pr p .stage ≡ s → 1 ≤ info (v .ht (v .pr p .own)) s .kind → Kept s
-  kept stage.Idle e b = absurd (omega arith)
-  kept (stage.Insert (ins.Search a)) e b = insert-search a e
-  kept (stage.Insert (ins.Seek k)) e b = insert-seek k e
-  kept (stage.Insert (ins.Copy a)) e b = InsertSteps.insert-copy v u I room p a e
-  kept (stage.Insert (ins.Link a)) e b = InsertSteps.insert-link v u I room p a e
-  kept (stage.Insert (ins.FreeLevel a)) e b = insert-freed a e
-  kept (stage.Insert ins.FreeNode) e b = InsertSteps.insert-free v u I room p e
-  kept (stage.Insert ins.Stamp) e b = InsertSteps.insert-stamp v u I room p e
-  kept (stage.Delete (del.ReadNext a)) e b = walk a e
-  kept (stage.Delete (del.TestStamp a)) e b = stamp a e
-  kept (stage.Delete (del.SetMark a)) e b = mark (stage.Delete (del.SetMark a)) e 2 a refl (omega arith)
+  pub kept : (s : Stage) → v .pr p .stage ≡ s → 1 ≤ info (v .ht (v .pr p .own)) s .kind →
+      Wants s → Kept s
+  kept stage.Idle e b s = absurd (omega arith)
+  kept (stage.Insert (ins.Search a)) e b s = insert-search a e
+  kept (stage.Insert (ins.Seek k)) e b s = insert-seek k e
+  kept (stage.Insert (ins.Copy a)) e b s = InsertSteps.insert-copy v u I room p a e
+  kept (stage.Insert (ins.Link a)) e b s = InsertSteps.insert-link v u I room p a e
+  kept (stage.Insert (ins.FreeLevel a)) e b s = insert-freed a e
+  kept (stage.Insert ins.FreeNode) e b s = InsertSteps.insert-free v u I room p e
+  kept (stage.Insert ins.Stamp) e b s = InsertSteps.insert-stamp v u I room p e
+  kept (stage.Delete (del.ReadNext a)) e b s = walk a e
+  kept (stage.Delete (del.TestStamp a)) e b s = stamp a e
+  kept (stage.Delete (del.SetMark a)) e b s =
+      mark (stage.Delete (del.SetMark a)) e 2 a refl (omega arith)
       (stage.Delete (del.ReadNext a)) refl
-  kept (stage.Relaxed (rlx.ReadNext a)) e b = relaxed-walk a e
-  kept (stage.Relaxed (rlx.SetMark a)) e b = mark (stage.Relaxed (rlx.SetMark a)) e 1 a refl
+  kept (stage.Relaxed (rlx.ReadNext a)) e b s = relaxed-walk a e
+  kept (stage.Relaxed (rlx.SetMark a)) e b s = mark (stage.Relaxed (rlx.SetMark a)) e 1 a refl
       (omega arith) (stage.Relaxed (rlx.ReadNext a)) refl
-  kept (stage.Removal job (rem.Search a)) e b = delete-search job a e
-  kept (stage.Removal job rem.HoldNode) e b = hold-node job e
-  kept (stage.Removal job (rem.Seek k)) e b = delete-seek job k e
-  kept (stage.Removal job (rem.HoldOwn a)) e b = hold-own job a e
-  kept (stage.Removal job (rem.Unlink a)) e b = RemovalSteps.delete-unlink v u I room p job a e
-  kept (stage.Removal job (rem.LeadBack a)) e b = RemovalSteps.delete-back v u I room p job a e
-  kept (stage.Removal job (rem.FreeOwn a)) e b = RemovalSteps.delete-free-own v u I room p job a e
-  kept (stage.Removal job (rem.FreeLevel a)) e b = delete-freed job a e
-  kept (stage.Removal job rem.FreeNode) e b = RemovalSteps.delete-free v u I room p job e
-  kept (stage.Removal job rem.Retire) e b = RemovalSteps.delete-retire v u I room p job e
+  kept (stage.Remove w d) e b s = find w s d e
+  kept (stage.Removal job (rem.Search a)) e b s = delete-search job a e
+  kept (stage.Removal job rem.HoldNode) e b s = hold-node job e
+  kept (stage.Removal job (rem.Seek k)) e b s = delete-seek job k e
+  kept (stage.Removal job (rem.HoldOwn a)) e b s = hold-own job a e
+  kept (stage.Removal job (rem.Unlink a)) e b s = RemovalSteps.delete-unlink v u I room p job a e
+  kept (stage.Removal job (rem.LeadBack a)) e b s = RemovalSteps.delete-back v u I room p job a e
+  kept (stage.Removal job (rem.FreeOwn a)) e b s = RemovalSteps.delete-free-own v u I room p job a e
+  kept (stage.Removal job (rem.FreeLevel a)) e b s = delete-freed job a e
+  kept (stage.Removal job rem.FreeNode) e b s = RemovalSteps.delete-free v u I room p job e
+  kept (stage.Removal job rem.Retire) e b s = RemovalSteps.delete-retire v u I room p job e

@@ -15,6 +15,7 @@ pub mod Move
 pub mod Search
 pub mod InsertSteps
 pub mod WalkSteps
+pub mod FindSteps
 pub mod RemovalSteps
 pub mod Kept
 pub mod Ranks

@@ -15,6 +15,7 @@ use Rattle.record.specs.declared.stages.Delete.the-variants as del
 use Rattle.record.specs.declared.stages.Removal.{Removal}
 use Rattle.record.specs.declared.stages.Removal.the-variants as rem
 use Rattle.record.specs.declared.stages.Relaxed.the-variants as rlx
+use Rattle.record.specs.declared.stages.Remove.the-variants as rmv
 use Rattle.record.specs.declared.stages.Stage.{Stage}
 use Rattle.record.specs.declared.stages.Stage.the-variants as stage
 use Rattle.record.specs.Queues.{freshQueue, nodeAt, processorAt}
@@ -64,6 +65,10 @@ says h (stage.Delete (del.TestStamp a)) = omega arith
 says h (stage.Delete (del.SetMark a)) = omega arith
 says h (stage.Relaxed (rlx.ReadNext a)) = omega arith
 says h (stage.Relaxed (rlx.SetMark a)) = omega arith
+says h (stage.Remove w (rmv.Search a)) = omega arith
+says h (stage.Remove w (rmv.ReadNext a)) = omega arith
+says h (stage.Remove w (rmv.TestStamp a)) = omega arith
+says h (stage.Remove w (rmv.SetMark a)) = omega arith
 says h (stage.Removal job (rem.Search a)) = omega arith
 says h (stage.Removal job rem.HoldNode) = omega arith
 says h (stage.Removal job (rem.Seek (seek.Approach a))) = omega arith
@@ -87,6 +92,10 @@ carried-read h (stage.Delete (del.TestStamp a)) k = absurd (k refl)
 carried-read h (stage.Delete (del.SetMark a)) k = absurd (k refl)
 carried-read h (stage.Relaxed (rlx.ReadNext a)) k = absurd (k refl)
 carried-read h (stage.Relaxed (rlx.SetMark a)) k = absurd (k refl)
+carried-read h (stage.Remove w (rmv.Search a)) k = absurd (k refl)
+carried-read h (stage.Remove w (rmv.ReadNext a)) k = absurd (k refl)
+carried-read h (stage.Remove w (rmv.TestStamp a)) k = absurd (k refl)
+carried-read h (stage.Remove w (rmv.SetMark a)) k = absurd (k refl)
 carried-read h (stage.Removal job r) k = removal-reads job r
 
 -- a record with a book for which all of it holds

@@ -1,5 +1,5 @@
 -- The step, on the view.
-use mathlib.Core.Bool.{_&&_}
+use mathlib.Core.Bool.{Bool, _&&_}
 use Prim.Native.Nat.{ℕ, suc, _+_, _-_}
 use lib.Dec.{ltb, leb, eqb}
 use mathlib.Core.Bool.{cond}
@@ -17,20 +17,21 @@ use Rattle.rules.specs.Calls.{readingPlace}
 use Rattle.rules.specs.Effects.{beginAfter}
 use Rattle.laws.specs.Update.{changedAt}
 use Rattle.rules.proofs.Put.{ever, put, save-at, clear-to}
-use Rattle.rules.proofs.View.{Pr, View, rankFor, key, tail}
+use Rattle.rules.proofs.View.{Pr, View, rankFor, unasked, asksFor, key, tail}
 use Rattle.rules.proofs.Assemble.{ticked}
 
 abbrev pub entryAt : View → ℕ → Entry
 entryAt v n = record { due = v .due n; item = v .item n; ticket = v .tick n }
 
--- what a step of c at the place a reads, k being the operation's key
-abbrev pub view : View → Pr → ℕ → Place → StepView
-view v c k a = record {
+-- what a step of c at the place a reads, k being the operation's key; a Remove asks a key
+abbrev pub viewFor : View → Pr → ℕ → (ℕ → Bool) → Place → StepView
+viewFor v c k asks a = record {
   own = c .own;
   height = v .ht (c .own);
   ownNodeLock = v .nl (c .own);
   next = v .fwd (a .node) (a .level);
   nextBeforeKey = ltb (key v (v .fwd (a .node) (a .level))) k;
+  nextHasKey = asks (key v (v .fwd (a .node) (a .level)));
   placeLock = v .lk (a .node) (a .level);
   ownNext = v .fwd (c .own) (a .level);
   ownLock = v .lk (c .own) (a .level);
@@ -44,6 +45,9 @@ view v c k a = record {
   placeEntry = entryAt v (a .node);
   ownEntry = entryAt v (c .own);
 }
+
+abbrev pub view : View → Pr → ℕ → Place → StepView
+view v c k a = viewFor v c k unasked a
 
 abbrev pub withLocks : View → (ℕ → ℕ → ℕ) → (ℕ → ℕ) → View
 withLocks w lk nl = record { procs = w .procs; nodes = w .nodes; top = w .top; clock = w .clock; fwd = w .fwd; lk = lk; nl = nl; mk = w .mk; st = w .st; us = w .us; ht = w .ht; due = w .due; tick = w .tick; item = w .item; pr = w .pr }
@@ -100,7 +104,8 @@ abbrev pub prAfter : ℕ → ℕ → Pr → Decision → Pr
 prAfter l t c d = record { begin = beginAfter t (c .begin) (d .change); own = d .own; stage = d .stage; saved = savedAfter l (c .saved) (d .change) }
 
 abbrev pub decision : View → ℕ → Stage → Decision
-decision v p s = decide (view v (v .pr p) (rankFor s (key v (v .pr p .own))) (readingPlace s)) s
+decision v p s =
+    decide (viewFor v (v .pr p) (rankFor s (key v (v .pr p .own))) (asksFor s) (readingPlace s)) s
 
 -- a decision applied
 abbrev pub carried : View → ℕ → Decision → View

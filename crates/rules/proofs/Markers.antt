@@ -1,6 +1,6 @@
--- Markers agrees with the book: it tells of as many nodes as there are entries that are not handed
--- out, and a processor stands there once while it has an entry marked and not handed out. A node in
--- use is marked by the processor that removes it. Assumes nothing.
+-- Markers agrees with the book: it tells of as many nodes as there are entries that are neither
+-- handed out nor taken back, and a processor stands there once while it has such an entry marked. A
+-- node in use is marked by the processor that removes it. Assumes nothing.
 use mathlib.Core.Path.{_≡_, refl, sym, ap, _∙_}
 use mathlib.Core.Bool.{Bool, true, false, cond, _&&_, not, true≢false}
 use mathlib.Core.List.{List, _++_, append-assoc}
@@ -15,7 +15,7 @@ use Rattle.laws.proofs.Booleans.{cond-cases}
 use Rattle.laws.proofs.Counting.{and-left, and-right, every-of}
 use Rattle.laws.proofs.HowMany.{Passed, Paired, many-more, many-paired}
 use Rattle.record.specs.declared.queues.Queue.{Queue}
-use Rattle.record.specs.declared.stages.Job.the-variants as jobs
+use Rattle.record.specs.declared.stages.Job.{Job}
 use Rattle.record.specs.declared.stages.Stage.{Stage}
 use Rattle.record.specs.declared.stages.Stage.the-variants as stage
 use Rattle.record.specs.Limits.{maxProcessors}
@@ -27,7 +27,7 @@ use Rattle.record_markers.specs.Markers.{markerByte, inUseAt, pairAt, pairsTo, 
 use Rattle.record_markers.specs.Markers.{areaBy, areaAfter}
 use Rattle.record_markers.proofs.Pairs.{length-pairs}
 use Rattle.rules.specs.Book.{BookEntry, unlinking, Book}
-use Rattle.rules.specs.Book.{agrees, heldIn, isUnlinking, timesListed}
+use Rattle.rules.specs.Book.{agrees, isGone, heldIn, isUnlinking, timesListed}
 use Rattle.rules.specs.Book.{feedMarkers}
 use Rattle.rules.specs.Demand3.{MarkerIs}
 use Rattle.rules.proofs.Backlog.{use-number, number-use}
@@ -36,24 +36,32 @@ use Rattle.rules.proofs.Choose.{used-number}
 use Rattle.rules.proofs.Concrete.{viewOf}
 use Rattle.rules.proofs.Rel.{opens}
 use Rattle.rules.proofs.Sound.{Sound}
-use Rattle.rules.proofs.StageKinds.{insert-kind, walk-kind, relaxed-kind, removal-kind}
+use Rattle.rules.proofs.StageKinds.{insert-kind, walk-kind, relaxed-kind, remove-kind}
+use Rattle.rules.proofs.StageKinds.{removal-kind}
 use Rattle.rules.proofs.View.{View, info, claim}
 
 -- what a stage has open, and whether it is a remover's
-pub opens-delivering : (h : ℕ) (s : Stage) (T t x : ℕ) → opens s T t ≡ unlinking x →
-    (info h s .kind ≡ 3) × (t ≡ x)
-opens-delivering h stage.Idle T t x e = absurd (let z : _≡_ {A = ℕ} 0 1 = cc in omega arith)
-opens-delivering h (stage.Insert i) T t x e = absurd (let z : _≡_ {A = ℕ} 0 1 = cc in omega arith)
-opens-delivering h (stage.Delete d) T t x e = absurd (let z : _≡_ {A = ℕ} 0 1 = cc in omega arith)
-opens-delivering h (stage.Relaxed d) T t x e = absurd (let z : _≡_ {A = ℕ} 0 1 = cc in omega arith)
-opens-delivering h (stage.Removal jobs.Deliver r) T t x e = (removal-kind jobs.Deliver h r, cc)
+pub opens-delivering : (h : ℕ) (s : Stage) (T t x : ℕ) (job : Job) →
+    opens s T t ≡ unlinking job x → (info h s .kind ≡ 3) × (t ≡ x)
+opens-delivering h stage.Idle T t x job e = absurd (let z : _≡_ {A = ℕ} 0 1 = cc in omega arith)
+opens-delivering h (stage.Insert i) T t x job e =
+    absurd (let z : _≡_ {A = ℕ} 0 1 = cc in omega arith)
+opens-delivering h (stage.Delete d) T t x job e =
+    absurd (let z : _≡_ {A = ℕ} 0 1 = cc in omega arith)
+opens-delivering h (stage.Relaxed d) T t x job e =
+    absurd (let z : _≡_ {A = ℕ} 0 1 = cc in omega arith)
+opens-delivering h (stage.Remove w d) T t x job e =
+    absurd (let z : _≡_ {A = ℕ} 0 1 = cc in omega arith)
+opens-delivering h (stage.Removal j r) T t x job e = (removal-kind j h r, cc)
 
-pub opens-kind : (h : ℕ) (s : Stage) (T t : ℕ) → info h s .kind ≡ 3 → opens s T t ≡ unlinking t
+pub opens-kind : (h : ℕ) (s : Stage) (T t : ℕ) → info h s .kind ≡ 3 →
+    (job : Job) × (opens s T t ≡ unlinking job t)
 opens-kind h stage.Idle T t k = absurd (omega arith)
 opens-kind h (stage.Insert i) T t k = absurd (omega (arith, insert-kind h i))
 opens-kind h (stage.Delete d) T t k = absurd (omega (arith, walk-kind h d))
 opens-kind h (stage.Relaxed d) T t k = absurd (omega (arith, relaxed-kind h d))
-opens-kind h (stage.Removal jobs.Deliver r) T t k = refl
+opens-kind h (stage.Remove w d) T t k = absurd (omega (arith, remove-kind h w d))
+opens-kind h (stage.Removal job r) T t k = (job, refl)
 
 unlinking-kind : (h : ℕ) (s : Stage) (T t : ℕ) → isUnlinking (opens s T t) ≡ true →
     info h s .kind ≡ 3
@@ -61,7 +69,8 @@ unlinking-kind h stage.Idle T t e = absurd (true≢false (sym e))
 unlinking-kind h (stage.Insert i) T t e = absurd (true≢false (sym e))
 unlinking-kind h (stage.Delete d) T t e = absurd (true≢false (sym e))
 unlinking-kind h (stage.Relaxed d) T t e = absurd (true≢false (sym e))
-unlinking-kind h (stage.Removal jobs.Deliver r) T t e = removal-kind jobs.Deliver h r
+unlinking-kind h (stage.Remove w d) T t e = absurd (true≢false (sym e))
+unlinking-kind h (stage.Removal job r) T t e = removal-kind job h r
 
 -- a processor's byte is that of its mark alone
 byte-mark : (m p : ℕ) → p < maxProcessors → markerByte m ≡ p → m ≡ suc p
@@ -144,7 +153,7 @@ module _ (q : Queue) (b : Book) (S : Sound q b) where
       record {
         low = late .0;
         high = late .1;
-        passes = rw (written, ap (λ (e : BookEntry). e .handedOut) l);
+        passes = rw (written, ap isGone l);
       }
 
   apart : (x z : ℕ) → Passed (inUseAt q) N x → Passed (inUseAt q) N z → v .tick x ≡ v .tick z →
@@ -159,9 +168,9 @@ module _ (q : Queue) (b : Book) (S : Sound q b) where
   paired = record {
     passes = line-held;
     found = λ t T.
-        let written = and-left (b .entry t .written) (not (b .entry t .handedOut)) (T .passes) in
-        let out = not-true (b .entry t .handedOut)
-        (and-right (b .entry t .written) (not (b .entry t .handedOut)) (T .passes)) in
+        let gone = isGone (b .entry t) in
+        let written = and-left (b .entry t .written) (not gone) (T .passes) in
+        let out = not-true gone (and-right (b .entry t .written) (not gone) (T .passes)) in
         let F = S .rel .found t written out in
         record {
           number = F .node;
@@ -175,7 +184,7 @@ module _ (q : Queue) (b : Book) (S : Sound q b) where
     once = apart;
   }
 
-  -- as many nodes are in use as entries are not handed out
+  -- as many nodes are in use as entries are neither handed out nor taken back
   count-same : usedCount q ≡ howMany (heldIn b) (b .count)
   count-same = many-paired (inUseAt q) (heldIn b) N (b .count) (v .tick) paired
 
@@ -195,22 +204,22 @@ module _ (q : Queue) (b : Book) (S : Sound q b) where
         (sym (M .1)) in
         omega arith
 
-    -- node x is marked by p exactly if p removes it, that is, if p has its entry to hand out
+    -- node x is marked by p exactly if p removes it, to hand its entry out or to take it back
     pub marker-is : (x : ℕ) → 1 ≤ x → x ≤ N → inUseAt q x ≡ true → MarkerIs q b x p
     marker-is x x≥ x≤ u = record {
       told = λ m.
           let M = S .rel .marker x p x≥ x≤ us m in
           let l = S .rel .kept x x≥ x≤ us in
+          let O = opens-kind h (v .pr p .stage) (v .pr p .begin) (v .tick (v .pr p .own)) (M .0) in
           record {
-            opened = S .rel .opened p
-                ∙ opens-kind h (v .pr p .stage) (v .pr p .begin) (v .tick (v .pr p .own)) (M .0)
-                ∙ ap (λ (n : ℕ). unlinking (v .tick n)) (M .1);
+            job = O .0;
+            opened = S .rel .opened p ∙ O .1 ∙ ap (λ (n : ℕ). unlinking (O .0) (v .tick n)) (M .1);
             marked = ap (λ (e : BookEntry). e .marked) l ∙ lt-ltb 0 (v .mk x) (omega arith);
-            not-yet = ap (λ (e : BookEntry). e .handedOut) l;
+            not-yet = ap isGone l;
           };
-      back = λ o.
+      back = λ job o.
           let D = opens-delivering h (v .pr p .stage) (v .pr p .begin) (v .tick (v .pr p .own))
-          (v .tick x) (sym (S .rel .opened p) ∙ o) in
+          (v .tick x) job (sym (S .rel .opened p) ∙ o) in
           let R = S .inv .busy p (omega (arith, D .0)) .removes (D .0) in
           let y = v .pr p .own in
           let Y : Passed (inUseAt q) N y = record
@@ -225,7 +234,7 @@ module _ (q : Queue) (b : Book) (S : Sound q b) where
         us : v .us x ≡ 1
         us = used x X
 
-    -- so one node tells of p if p has an entry marked and not handed out, and else none
+    -- so one node tells of p if p has such an entry marked, and else none
     abbrev opens-p : ℕ → Bool
     opens-p _ = isUnlinking (b .opened p)
 
@@ -246,7 +255,7 @@ module _ (q : Queue) (b : Book) (S : Sound q b) where
         high = omega arith;
         passes = ap isUnlinking (S .rel .opened p
             ∙ opens-kind h (v .pr p .stage) (v .pr p .begin) (v .tick (v .pr p .own))
-            (named p< x T .0));
+            (named p< x T .0) .1);
       };
       found = λ y Y.
           let k = unlinking-kind h (v .pr p .stage) (v .pr p .begin) (v .tick (v .pr p .own))

@@ -35,6 +35,9 @@ use Rattle.record.specs.declared.stages.Seek.{Seek}
 use Rattle.record.specs.declared.stages.Seek.the-variants as seek
 use Rattle.record.specs.declared.stages.Relaxed.{Relaxed}
 use Rattle.record.specs.declared.stages.Relaxed.the-variants as rlx
+use Rattle.record.specs.declared.stages.Wanted.{Wanted}
+use Rattle.record.specs.declared.stages.Remove.{Remove}
+use Rattle.record.specs.declared.stages.Remove.the-variants as rmv
 use Rattle.record.specs.declared.stages.Stage.{Stage}
 use Rattle.record.specs.declared.stages.Stage.the-variants as stage
 use Rattle.record.specs.Nodes.{freshNode, isMarked, isInUse, withMark}
@@ -58,7 +61,7 @@ use Rattle.rules.specs.Choice.{stateOf, chosen}
 use Rattle.rules.specs.Decide.{decide, searchStep, seekStep}
 use Rattle.rules.specs.Decide.{insertSearched, insertSought, insertStep}
 use Rattle.rules.specs.Decide.{removalSearched, removalSought, removalStep, deleteStep}
-use Rattle.rules.specs.Decide.{relaxedStep}
+use Rattle.rules.specs.Decide.{relaxedStep, removeSearched, removeStep}
 use Rattle.rules.specs.Decide.{placeTried, nodeTried, ownTried}
 use Rattle.rules.specs.Effects.{changed, nodeOf, applied, accepted}
 use Rattle.rules.specs.Marks.{Takes, SetMarkStays, NewMarkIsTheCallers, NoAnswerSeesWho}
@@ -175,11 +178,25 @@ module _ (q : Queue) where
       cond-cases Sparing (s .marked) _ _ (λ _. tt)
       (λ unset. no-mark (nodeAt q (a .node) .mark) (sym m ∙ unset))
 
+  remove-spares :
+      (s : StepView) (w : Wanted) (d : Remove) → Tells s (stage.Remove w d) →
+      Sparing (removeStep s w d)
+  remove-spares s w (rmv.Search a) m =
+      let P : Searched → Type 0 = λ o. Sparing (removeSearched s w a o) in
+      cond-elim P (s .nextBeforeKey) _ _ tt (cond-elim P (leb (a .level) 1) _ _ tt tt)
+  remove-spares s w (rmv.ReadNext a) m =
+      cond-elim Sparing (s .nextBeforeKey) _ _ tt (cond-elim Sparing (s .nextHasKey) _ _ tt tt)
+  remove-spares s w (rmv.TestStamp a) m = cond-elim Sparing (s .stamped) _ _ tt tt
+  remove-spares s w (rmv.SetMark a) m =
+      cond-cases Sparing (s .marked) _ _ (λ _. tt)
+      (λ unset. no-mark (nodeAt q (a .node) .mark) (sym m ∙ unset))
+
   decide-spares : (s : StepView) (g : Stage) → Tells s g → Sparing (decide s g)
   decide-spares s stage.Idle m = tt
   decide-spares s (stage.Insert i) m = insert-spares s i
   decide-spares s (stage.Delete d) m = delete-spares s d m
   decide-spares s (stage.Relaxed d) m = relaxed-spares s d m
+  decide-spares s (stage.Remove w d) m = remove-spares s w d m
   decide-spares s (stage.Removal job r) m = removal-spares job s r
 
   step-spares : (c : Processor) → Sparing (stepDecision q c)
@@ -228,6 +245,7 @@ module _ (q : Queue) where
       })
   written (call.DeleteMin p) made = stays
   written (call.Relaxed p) made = stays
+  written (call.Remove p due ticket) made = stays
   written (call.Step p) made =
       let c = processorAt q p in
       step-marks p (q .levelCount) (q .nodeCount + 1) (q .clock + 1) (stepDecision q c .effect)
@@ -360,6 +378,7 @@ module _ (q : Queue) where
   refusal-same (call.Insert p due item height) = rw chosen-same
   refusal-same (call.DeleteMin p) = refl
   refusal-same (call.Relaxed p) = refl
+  refusal-same (call.Remove p due ticket) = refl
   refusal-same (call.Step p) = refl
 
   decision-same : (c : Call) → decisionOf q c ≡ decisionOf (anonymous q) c
@@ -367,6 +386,7 @@ module _ (q : Queue) where
       ap (λ (x : ℕ). insertDecision q x due item height) chosen-same
   decision-same (call.DeleteMin p) = refl
   decision-same (call.Relaxed p) = refl
+  decision-same (call.Remove p due ticket) = refl
   decision-same (call.Step p) =
       let c = processorAt q p in
       let g = c .stage in

@@ -1,16 +1,16 @@
 -- Keys as numbers: document 01's order of keys is the order of their ranks. Assumes nothing.
 use mathlib.Core.Path.{_≡_, refl, sym}
-use mathlib.Core.Bool.{Bool, true, false, cond}
+use mathlib.Core.Bool.{Bool, true, false, cond, _&&_}
 use Prim.Native.Nat.{ℕ, _+_, _-_, _≤_}
 use native.Mathlib.Omega.{arith}
 use lib.Dec.{ltb, eqb}
-use borrow.Author.Tests.{ltb-true, ltb-false, eqb-true, eqb-false, lt-ltb, le-ltb}
+use borrow.Author.Tests.{ltb-true, ltb-false, eqb-true, eqb-false, lt-ltb, le-ltb, eq-eqb, ne-eqb}
 use Rattle.record.specs.declared.keys.Key.{Key}
 use Rattle.record.specs.declared.stages.Stage.{Stage}
 use Rattle.record.specs.declared.stages.Stage.the-variants as stage
-use Rattle.rules.specs.Calls.{keyFor}
-use Rattle.record.specs.Keys.{nodeKey, keyBefore, headKey, tailKey, entryKey}
-use Rattle.rules.proofs.View.{rank, entryRank, rankFor, last}
+use Rattle.rules.specs.Calls.{keyFor, atKey}
+use Rattle.record.specs.Keys.{nodeKey, keyBefore, keySame, headKey, tailKey, entryKey}
+use Rattle.rules.proofs.View.{rank, entryRank, rankFor, asksFor, Wants, last}
 
 -- keys as numbers
 abbrev pub rankAt : ℕ → ℕ → ℕ → ℕ → ℕ
@@ -39,6 +39,22 @@ entries-before d t d′ t′ t≤ t′≤ = go (eqb d d′) refl (ltb t t′) re
     go true e false f c g = sym (le-ltb (entryRank d t) (entryRank d′ t′) (omega (arith, eqb-true d d′ e, ltb-false t t′ f)))
     go false e b f true g = sym (lt-ltb (entryRank d t) (entryRank d′ t′) (omega (arith, ltb-true d d′ g)))
     go false e b f false g = sym (le-ltb (entryRank d t) (entryRank d′ t′) (let z : (d ≡ d′ → ⊥) = eqb-false d d′ e in omega (arith, ltb-false d d′ g)))
+
+entries-same : (d t d′ t′ : ℕ) → t ≤ 999999 → t′ ≤ 999999 →
+    keySame (entryKey d t) (entryKey d′ t′) ≡ eqb (entryRank d t) (entryRank d′ t′)
+entries-same d t d′ t′ t≤ t′≤ = go (eqb d d′) refl (eqb t t′) refl
+  where
+    go : (a : Bool) → eqb d d′ ≡ a → (b : Bool) → eqb t t′ ≡ b →
+        (a && b) ≡ eqb (entryRank d t) (entryRank d′ t′)
+    go true e true f =
+        sym (eq-eqb (entryRank d t) (entryRank d′ t′)
+        (omega (arith, eqb-true d d′ e, eqb-true t t′ f)))
+    go true e false f =
+        sym (ne-eqb (entryRank d t) (entryRank d′ t′)
+        (λ h. let z : (t ≡ t′ → ⊥) = eqb-false t t′ f in omega (arith, eqb-true d d′ e)))
+    go false e b f =
+        sym (ne-eqb (entryRank d t) (entryRank d′ t′)
+        (λ h. let z : (d ≡ d′ → ⊥) = eqb-false d d′ e in omega arith))
 
 -- a key and its rank
 pub data Ranked (k : Key) (r : ℕ) : Type 0 where
@@ -72,12 +88,32 @@ before-ranked k k′ r r′ (at-entry d t e f u v) (at-entry d′ t′ g h x y) 
     rw (e, f, g, h) (entries-before d t d′ t′ v y)
 
 -- the key of an operation, and its rank
-pub ranked-for : (s : Stage) (k : Key) (r : ℕ) → Ranked k r → Ranked (keyFor s k) (rankFor s r)
-ranked-for stage.Idle k r h = h
-ranked-for (stage.Insert i) k r h = h
-ranked-for (stage.Delete d) k r h = h
-ranked-for (stage.Relaxed d) k r h = h
-ranked-for (stage.Removal job d) k r h = h
+pub ranked-for : (s : Stage) (k : Key) (r : ℕ) → Wants s → Ranked k r →
+    Ranked (keyFor s k) (rankFor s r)
+ranked-for stage.Idle k r w h = h
+ranked-for (stage.Insert i) k r w h = h
+ranked-for (stage.Delete d) k r w h = h
+ranked-for (stage.Relaxed d) k r w h = h
+ranked-for (stage.Remove w d) k r s h = at-entry (w .due) (w .ticket) refl refl (s .0) (s .1)
+ranked-for (stage.Removal job d) k r w h = h
+
+-- a key is the one of an entry where its rank is that entry's
+same-ranked : (k : Key) (r d t : ℕ) → t ≤ 999999 → d ≤ 999999 → Ranked k r →
+    keySame k (entryKey d t) ≡ eqb r (entryRank d t)
+same-ranked k r d t t≤ d≤ (at-head e f) =
+    rw (e, f) (sym (ne-eqb 0 (entryRank d t) (λ z. omega arith)))
+same-ranked k r d t t≤ d≤ (at-tail e f) =
+    rw (e, f) (sym (ne-eqb last (entryRank d t) (λ z. omega arith)))
+same-ranked k r d t t≤ d≤ (at-entry d′ t′ e f u v) = rw (e, f) (entries-same d′ t′ d t v t≤)
+
+-- whether the key is the one that a Remove carries
+pub asked-for : (s : Stage) (k : Key) (r : ℕ) → Wants s → Ranked k r → atKey s k ≡ asksFor s r
+asked-for stage.Idle k r w h = refl
+asked-for (stage.Insert i) k r w h = refl
+asked-for (stage.Delete d) k r w h = refl
+asked-for (stage.Relaxed d) k r w h = refl
+asked-for (stage.Remove w d) k r s h = same-ranked k r (w .due) (w .ticket) (s .1) (s .0) h
+asked-for (stage.Removal job d) k r w h = refl
 
 pub rank-at : (n : ℕ) (due tick : ℕ → ℕ) (x : ℕ) → rank n due tick x ≡ rankAt n x (due x) (tick x)
 unfolding rank

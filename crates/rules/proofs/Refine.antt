@@ -25,6 +25,8 @@ use Rattle.record.specs.declared.stages.Delete.the-variants as del
 use Rattle.record.specs.declared.stages.Removal.{Removal}
 use Rattle.record.specs.declared.stages.Removal.the-variants as rem
 use Rattle.record.specs.declared.stages.Relaxed.the-variants as rlx
+use Rattle.record.specs.declared.stages.Wanted.{Wanted}
+use Rattle.record.specs.declared.stages.Remove.the-variants as rmv
 use Rattle.record.specs.declared.stages.Stage.{Stage}
 use Rattle.record.specs.declared.stages.Job.{Job}
 use Rattle.record.specs.declared.stages.Stage.the-variants as stage
@@ -40,7 +42,7 @@ use Rattle.rules.specs.declared.decisions.Sought.{Sought}
 use Rattle.rules.specs.declared.decisions.Sought.the-variants as sght
 use Rattle.record.specs.Stages.{place}
 use Rattle.rules.specs.Decide.{insertSearched, insertSought, removalSearched, removalSought, seekStep, searchStep, decide}
-use Rattle.rules.specs.Decide.{placeTried, nodeTried, ownTried}
+use Rattle.rules.specs.Decide.{removeSearched, placeTried, nodeTried, ownTried}
 use Rattle.rules.specs.Calls.{readingPlace}
 use Rattle.record.specs.Stages.{seekPart}
 use Rattle.rules.specs.Effects.{nodeOf, changed, beginAfter, processorAfter, savedAfter as savedList}
@@ -51,10 +53,11 @@ use Rattle.rules.specs.Calls.{stepDecision}
 use Rattle.laws.specs.Update.{changedAt}
 use Rattle.laws.proofs.Updating.{changed-same, changed-other}
 use Rattle.rules.proofs.Put.{save-at}
-use Rattle.rules.proofs.View.{Pr, View, info, claim, key, tail}
+use Rattle.rules.proofs.View.{Pr, View, Wants, info, asksFor, entryRank, claim, key, tail}
 use Rattle.rules.proofs.Facts.{place-info}
 use Rattle.rules.proofs.Inv.{Inv}
-use Rattle.rules.proofs.Machine.{effected, prAfter, carried, decision, view, savedAfter}
+use Rattle.rules.proofs.Machine.{effected, prAfter, carried, decision, view, viewFor}
+use Rattle.rules.proofs.Machine.{savedAfter}
 use Rattle.rules.proofs.Move.{busy-at}
 use Rattle.rules.proofs.Read.{read-seen}
 use Rattle.rules.proofs.Lead.{sure}
@@ -207,6 +210,15 @@ reach-delete-searched job N s a (srch.Down b) l h =
 reach-delete-searched job N s a (srch.Done b) l h =
     record { effect = tt; saves = (l, h); due-small = tt }
 
+reach-remove-searched : (N : ℕ) (s : StepView) (w : Wanted) (a : Place) (r : Searched) →
+    1 ≤ a .level → a .level ≤ 8 → Reach N (removeSearched s w a r)
+reach-remove-searched N s w a (srch.Ahead b) l h =
+    record { effect = tt; saves = tt; due-small = tt }
+reach-remove-searched N s w a (srch.Down b) l h =
+    record { effect = tt; saves = (l, h); due-small = tt }
+reach-remove-searched N s w a (srch.Done b) l h =
+    record { effect = tt; saves = (l, h); due-small = tt }
+
 abbrev sought-reaches : ℕ → Sought → Type 0
 sought-reaches N (sght.Goes e k) = reach N e × due-small e
 sought-reaches N (sght.Waits k h) = Unit {0}
@@ -279,6 +291,27 @@ module _ (v : View) (u : ℕ → ℕ → ℕ) (I : Inv v u) (p : ℕ) where
       cond-elim (Reach N) (ltb 0 (v .mk (a .node))) _ _
       (record { effect = tt; saves = tt; due-small = tt })
       (record { effect = A .0; saves = tt; due-small = tt })
+  reaches (stage.Remove w (rmv.Search a)) e k =
+      let A = at-place _ e k in
+      let s = viewFor v (v .pr p) (entryRank (w .due) (w .ticket))
+      (asksFor (stage.Remove w (rmv.Search a))) a in
+      reach-remove-searched N s w a (searchStep s a) (A .1) (A .2)
+  reaches (stage.Remove w (rmv.ReadNext a)) e k =
+      let b = key v (v .fwd (a .node) 1) in
+      cond-elim (Reach N) (ltb b (entryRank (w .due) (w .ticket))) _ _
+      (record { effect = tt; saves = tt; due-small = tt })
+      (cond-elim (Reach N) (eqb b (entryRank (w .due) (w .ticket))) _ _
+      (record { effect = tt; saves = tt; due-small = tt })
+      (record { effect = tt; saves = tt; due-small = tt }))
+  reaches (stage.Remove w (rmv.TestStamp a)) e k =
+      cond-elim (Reach N) (ltb (v .st (a .node)) (v .pr p .begin)) _ _
+      (record { effect = tt; saves = tt; due-small = tt })
+      (record { effect = tt; saves = tt; due-small = tt })
+  reaches (stage.Remove w (rmv.SetMark a)) e k =
+      let A = at-place _ e k in
+      cond-elim (Reach N) (ltb 0 (v .mk (a .node))) _ _
+      (record { effect = tt; saves = tt; due-small = tt })
+      (record { effect = A .0; saves = tt; due-small = tt })
   reaches (stage.Removal job (rem.Search a)) e k = let A = at-place _ e k in
       reach-delete-searched job N (view v (v .pr p) (key v (v .pr p .own)) a) a
       (searchStep (view v (v .pr p) (key v (v .pr p .own)) a) a) (A .1) (A .2)
@@ -322,8 +355,10 @@ own-small v u I p k = elim (ℕ-discrete (claim v p .kind) 1) [
 ]
 
 -- the decision is the view's
-pub decision-same : (q : Queue) (u : ℕ → ℕ → ℕ) (S : Sized q) (I : Inv (viewOf q) u) (p : ℕ) → 1 ≤ claim (viewOf q) p .kind → stepDecision q (processorAt q p) ≡ decision (viewOf q) p (processorAt q p .stage)
-decision-same q u S I p k =
+pub decision-same : (q : Queue) (u : ℕ → ℕ → ℕ) (S : Sized q) (I : Inv (viewOf q) u) (p : ℕ) →
+    1 ≤ claim (viewOf q) p .kind → Wants (processorAt q p .stage) →
+    stepDecision q (processorAt q p) ≡ decision (viewOf q) p (processorAt q p .stage)
+decision-same q u S I p k w =
     let c = processorAt q p in
     let s = c .stage in
     let v = viewOf q in
@@ -331,7 +366,9 @@ decision-same q u S I p k =
     let A = at-place v u I p s refl k in
     let i = place-info (v .ht (c .own)) s in
     let r = read-seen v u I p (readingPlace s .node) (readingPlace s .level) k (A .1) (omega (arith, A .0)) (rw (sym (i .0), sym (i .1)) at (B .place .seen)) in
-    ap (λ (g : StepView). decide g s) (step-view-same q c (readingPlace s) (A .1) (omega (arith, B .begun-by, I .core .clock)) (λ n n≤. S .small n) (r .0) (own-small v u I p k))
+    ap (λ (g : StepView). decide g s)
+    (step-view-same q c (readingPlace s) (A .1) (omega (arith, B .begun-by, I .core .clock))
+    (λ n n≤. S .small n) (r .0) (own-small v u I p k) w)
 
 -- the lengths stay
 record Shape (a b : Node) : Type 0 where

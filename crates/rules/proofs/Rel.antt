@@ -5,8 +5,6 @@ use Prim.Native.Nat.{ℕ, suc, _+_, _≤_}
 use native.Mathlib.Omega.{arith}
 use native.Mathlib.Decide.{ℕ-discrete}
 use lib.Dec.{ltb}
-use Rattle.record.specs.declared.stages.Job.{Job}
-use Rattle.record.specs.declared.stages.Job.the-variants as jobs
 use Rattle.record.specs.declared.stages.Stage.{Stage}
 use Rattle.record.specs.declared.stages.Stage.the-variants as stage
 use Rattle.rules.specs.declared.answers.Answer.{Answer}
@@ -22,30 +20,38 @@ use Rattle.rules.proofs.Facts.{kind-any}
 use Rattle.rules.proofs.StageKinds.{kind-busy}
 use Rattle.rules.proofs.Assemble.{ticked}
 use Rattle.rules.proofs.Machine.{effected, prAfter, carried}
-use Rattle.rules.specs.Book.{BookEntry, Open, nothing, inserting, walking, relaxing}
-use Rattle.rules.specs.Book.{unlinking, Book, agrees, moves, feedStep}
+use Rattle.rules.specs.Book.{BookEntry, Open, nothing, inserting, walking, relaxing, seeking}
+use Rattle.rules.specs.Book.{unlinking, Book, isGone, agrees, moves, feedStep}
 
 -- B1: what a processor has open, by its stage, its begin and its own node's ticket
-abbrev pub opensFor : Job → ℕ → Open
-opensFor jobs.Deliver t = unlinking t
-
 abbrev pub opens : Stage → ℕ → ℕ → Open
 opens stage.Idle T t = nothing
 opens (stage.Insert i) T t = inserting t
 opens (stage.Delete d) T t = walking T
 opens (stage.Relaxed d) T t = relaxing T
-opens (stage.Removal job r) T t = opensFor job t
+opens (stage.Remove w d) T t = seeking w T
+opens (stage.Removal job r) T t = unlinking job t
 
 pub opens-idle : (h : ℕ) (s : Stage) → info h s .kind ≡ 0 → (T t : ℕ) → opens s T t ≡ nothing
 opens-idle h stage.Idle k T t = refl
 opens-idle h (stage.Insert i) k T t = absurd (omega (arith, kind-busy h (stage.Insert i) refl))
 opens-idle h (stage.Delete d) k T t = absurd (omega (arith, kind-busy h (stage.Delete d) refl))
 opens-idle h (stage.Relaxed d) k T t = absurd (omega (arith, kind-busy h (stage.Relaxed d) refl))
+opens-idle h (stage.Remove w d) k T t =
+    absurd (omega (arith, kind-busy h (stage.Remove w d) refl))
 opens-idle h (stage.Removal job r) k T t =
     absurd (omega (arith, kind-busy h (stage.Removal job r) refl))
 
 abbrev pub lineOf : (ℕ → ℕ) → (ℕ → ℕ) → (ℕ → ℕ) → (ℕ → ℕ) → ℕ → BookEntry
-lineOf due item st mk n = record { written = true; due = due n; item = item n; answeredAt = st n; marked = ltb 0 (mk n); handedOut = false }
+lineOf due item st mk n = record {
+  written = true;
+  due = due n;
+  item = item n;
+  answeredAt = st n;
+  marked = ltb 0 (mk n);
+  handedOut = false;
+  takenBack = false;
+}
 
 -- a call that moves or waits
 abbrev pub counted : Book → Book
@@ -74,8 +80,9 @@ pub record Rel (v : View) (b : Book) : Type 0 where
       (v .tick (v .pr p .own))
   -- B2
   pub kept : (n : ℕ) → 1 ≤ n → n ≤ v .nodes → v .us n ≡ 1 → b .entry (v .tick n) ≡ lineOf (v .due) (v .item) (v .st) (v .mk) n
-  pub found : (t : ℕ) → b .entry t .written ≡ true → b .entry t .handedOut ≡ false → Found (v .us) (v .tick) (v .nodes) t
-  pub unhanded : (t : ℕ) → b .entry t .marked ≡ false → b .entry t .handedOut ≡ false
+  pub found : (t : ℕ) → b .entry t .written ≡ true → isGone (b .entry t) ≡ false →
+      Found (v .us) (v .tick) (v .nodes) t
+  pub unhanded : (t : ℕ) → b .entry t .marked ≡ false → isGone (b .entry t) ≡ false
   -- the entry of an open Insert, whose node may be retired already
   pub filed : (q : ℕ) → claim v q .kind ≡ 1 → Filed (b .entry) (v .tick) (v .due) (v .item) (v .pr q .own)
   -- tickets are times, and have passed
@@ -95,6 +102,7 @@ moving (ans.Began t) = ⊥
 moving ans.Moved = Unit {0}
 moving (ans.Waits h) = Unit {0}
 moving ans.Empty = ⊥
+moving (ans.NotThere w) = ⊥
 moving (ans.Did d e) = ⊥
 
 abbrev pub quiet : Effect → Type 0
@@ -116,6 +124,19 @@ pub record Quiet (own : ℕ) (s : Stage) (d : Decision) : Type 0 where
   pub begin-same : (t begin : ℕ) → beginAfter t begin (d .change) ≡ begin
   pub kind-same : (h : ℕ) → info h (d .stage) .kind ≡ info h s .kind
   pub opens-same : (T t : ℕ) → opens (d .stage) T t ≡ opens s T t
+
+pub quiet-by : {own : ℕ} {s : Stage} {d : Decision} → moving (d .answer) → quiet (d .effect) →
+    d .own ≡ own → ((t begin : ℕ) → beginAfter t begin (d .change) ≡ begin) →
+    ((h : ℕ) → info h (d .stage) .kind ≡ info h s .kind) →
+    ((T t : ℕ) → opens (d .stage) T t ≡ opens s T t) → Quiet own s d
+quiet-by answer effect own begin kind opening = record {
+  answer = answer;
+  effect = effect;
+  own-same = own;
+  begin-same = begin;
+  kind-same = kind;
+  opens-same = opening;
+}
 
 rel-effected : (v : View) (p : ℕ) (b : Book) (e : Effect) → quiet e → Rel v b → Rel (effected v e p) b
 rel-effected v p b eff.Keep q R = R
@@ -189,7 +210,8 @@ moves-busy b h stage.Idle T t k≥ = absurd (omega arith)
 moves-busy b h (stage.Insert i) T t k≥ = refl
 moves-busy b h (stage.Delete d) T t k≥ = refl
 moves-busy b h (stage.Relaxed d) T t k≥ = refl
-moves-busy b h (stage.Removal jobs.Deliver r) T t k≥ = refl
+moves-busy b h (stage.Remove w d) T t k≥ = refl
+moves-busy b h (stage.Removal job r) T t k≥ = refl
 
 fed-moving : (b : Book) (p h : ℕ) (k : Stage) (T t : ℕ) → 1 ≤ info h k .kind →
     b .opened p ≡ opens k T t → (a : Answer) → moving a → feedStep b p a ≡ agrees (counted b)
@@ -198,6 +220,7 @@ fed-moving b p h k T t k≥ e (ans.Began n) m = absurd m
 fed-moving b p h k T t k≥ e ans.Moved m = rw e (moves-busy b h k T t k≥)
 fed-moving b p h k T t k≥ e (ans.Waits l) m = rw e (moves-busy b h k T t k≥)
 fed-moving b p h k T t k≥ e ans.Empty m = absurd m
+fed-moving b p h k T t k≥ e (ans.NotThere w) m = absurd m
 fed-moving b p h k T t k≥ e (ans.Did d x) m = absurd m
 
 pub quiet-booked : (v : View) (p : ℕ) (b : Book) (d : Decision) → Rel v b → 1 ≤ claim v p .kind →

@@ -6,7 +6,7 @@ use native.Mathlib.Omega.{arith}
 use native.Mathlib.Decide.{ℕ-discrete}
 use Rattle.laws.specs.Update.{changedAt}
 use Rattle.laws.proofs.Updating.{changed-same, changed-other}
-use Rattle.rules.specs.Book.{BookEntry, inserting, Book, afterCall}
+use Rattle.rules.specs.Book.{BookEntry, inserting, Book, isGone, justFiled, afterCall}
 use Rattle.rules.proofs.Put.{ever}
 use Rattle.rules.proofs.View.{View, info, claim}
 use Rattle.rules.proofs.Inv.{Inv}
@@ -23,7 +23,7 @@ module _ (v : View) (u : ℕ → ℕ → ℕ) (I : Inv v u) (b : Book) (R : Rel 
   t = v .clock + 1
 
   abbrev new-line : BookEntry
-  new-line = record { written = true; due = d; item = i; answeredAt = ever; marked = false; handedOut = false }
+  new-line = justFiled d i
 
   abbrev w : View
   w = filled v p x d i h fwd lk
@@ -31,7 +31,8 @@ module _ (v : View) (u : ℕ → ℕ → ℕ) (I : Inv v u) (b : Book) (R : Rel 
   pub rel-insert : Rel (ticked w p (inserter v p x)) (afterCall b (changedAt (b .entry) t new-line) p (inserting t))
   rel-insert = record { count = omega (arith, R .count); opened = λ q. opened q (ℕ-discrete q p); kept = λ n. kept′ n (ℕ-discrete n x); found = λ s. found s (ℕ-discrete s t); unhanded = λ s. unhanded s (ℕ-discrete s t); filed = λ q. filed q (ℕ-discrete q p); late = λ s. late s (ℕ-discrete s t); marker = λ n q. marker n q (ℕ-discrete n x) }
     where
-      unhanded : (s : ℕ) → Dec (s ≡ t) → changedAt (b .entry) t new-line s .marked ≡ false → changedAt (b .entry) t new-line s .handedOut ≡ false
+      unhanded : (s : ℕ) → Dec (s ≡ t) → changedAt (b .entry) t new-line s .marked ≡ false →
+          isGone (changedAt (b .entry) t new-line s) ≡ false
       unhanded s (yes e) = rw (e, changed-same (b .entry) t new-line) λ m. refl
       unhanded s (no ne) = rw (changed-other (b .entry) t new-line s ne) (R .unhanded s)
 
@@ -65,7 +66,8 @@ module _ (v : View) (u : ℕ → ℕ → ℕ) (I : Inv v u) (b : Book) (R : Rel 
       kept′ n (no ne) = rw (changed-other (v .tick) x t n ne, changed-other (v .us) x 1 n ne, changed-other (v .due) x d n ne, changed-other (v .item) x i n ne, changed-other (v .st) x ever n ne, changed-other (v .mk) x 0 n ne) λ n≥ n≤ nu.
           changed-other (b .entry) t new-line (v .tick n) (λ e. omega (arith, I .core .entered n n≥ (omega arith) .ticket)) ∙ R .kept n n≥ n≤ nu
 
-      found : (s : ℕ) → Dec (s ≡ t) → changedAt (b .entry) t new-line s .written ≡ true → changedAt (b .entry) t new-line s .handedOut ≡ false → Found (w .us) (w .tick) (v .nodes) s
+      found : (s : ℕ) → Dec (s ≡ t) → changedAt (b .entry) t new-line s .written ≡ true →
+          isGone (changedAt (b .entry) t new-line s) ≡ false → Found (w .us) (w .tick) (v .nodes) s
       found s (yes e) = rw e λ y m. record { node = x; low = x≥; high = x≤; used = changed-same (v .us) x 1; ticket = changed-same (v .tick) x t }
       found s (no ne) = rw (changed-other (b .entry) t new-line s ne) λ y m.
           let F = R .found s y m in

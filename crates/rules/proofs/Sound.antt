@@ -11,9 +11,13 @@ use Rattle.laws.specs.Update.{changedAt}
 use Rattle.laws.proofs.Updating.{changed-other}
 use Rattle.record.specs.declared.queues.Queue.{Queue}
 use Rattle.record.specs.Queues.{processorAt, freshProcessor}
-use Rattle.record.specs.Stages.{place, isIdle}
+use Rattle.record.specs.Stages.{place, wantedOf, isIdle}
+use Rattle.record.specs.Stages.{carried as carriedBy}
+use Rattle.record_check.specs.declared.check.Sizes.{Sizes}
+use Rattle.record_check.specs.Check.{sizesOf}
 use Rattle.record.specs.declared.stages.Delete.the-variants as del
 use Rattle.record.specs.declared.stages.Relaxed.the-variants as rlx
+use Rattle.record.specs.declared.stages.Remove.the-variants as rmv
 use Rattle.record.specs.declared.stages.Stage.{Stage}
 use Rattle.record.specs.declared.stages.Stage.the-variants as stage
 use Rattle.rules.specs.declared.answers.Answer.{Answer}
@@ -21,25 +25,28 @@ use Rattle.rules.specs.declared.answers.Answer.the-variants as ans
 use Rattle.rules.specs.declared.answers.Outcome.{Outcome}
 use Rattle.rules.specs.declared.decisions.Decision.{Decision}
 use Rattle.rules.specs.Answers.{refused}
-use Rattle.rules.specs.Book.{Book, Open, nothing, inserting, walking, relaxing, Verdict}
-use Rattle.rules.specs.Book.{agrees, afterCall, feedInsert, feedDelete, feedRelaxed, feedStep}
+use Rattle.rules.specs.Book.{Book, Open, nothing, inserting, walking, relaxing, seeking}
+use Rattle.rules.specs.Book.{Verdict, agrees, afterCall, justFiled, feedInsert, feedDelete}
+use Rattle.rules.specs.Book.{feedRelaxed, feedRemove, feedStep}
 use Rattle.rules.specs.declared.calls.Call.{Call}
 use Rattle.rules.specs.declared.calls.Call.the-variants as call
 use Rattle.rules.specs.Calls.{stepDecision, insertDecision, decisionOf, processorOf}
 use Rattle.rules.specs.Calls.{walkBegins, called, beginInsert, beginDeleteMin, beginRelaxed}
-use Rattle.rules.specs.Calls.{step}
+use Rattle.rules.specs.Calls.{beginRemove, step}
 use Rattle.rules.proofs.Allowed.{Allowed, of-call, idle-begins, busy-steps, Numbers, numbers}
 use Rattle.rules.specs.Choice.{chosen}
 use Rattle.rules.specs.Effects.{accepted, processorAfter}
 use Rattle.rules.specs.Runs.{after}
 use Rattle.rules.proofs.Put.{ever}
-use Rattle.rules.proofs.View.{View, Info, info, walkInfo, claim, tail}
+use Rattle.rules.proofs.View.{View, Info, info, walkInfo, Wants, claim, tail}
 use Rattle.rules.proofs.Inv.{Inv}
 use Rattle.rules.proofs.Machine.{carried, decision, relevel}
 use Rattle.laws.proofs.Booleans.{or-left, or-right}
 use Rattle.rules.proofs.Kept.{kept, untilAfter}
 use Rattle.rules.proofs.StageKinds.{kind-idle, kind-busy, idle-false}
-use Rattle.rules.proofs.Begin.{walker, begin-walk, begin-insert, cleared, own-ne}
+use Rattle.rules.proofs.Assemble.{ticked}
+use Rattle.rules.proofs.Begin.{walker, begin-walk, begin-find, begin-insert, cleared, own-ne}
+use Rattle.rules.proofs.ValidFacts.{ValidCarried, valid-facts}
 use Rattle.rules.proofs.Rel.{opens, opens-idle, Rel}
 use Rattle.rules.proofs.RelInsert.{rel-insert}
 use Rattle.rules.proofs.Booked.{booked, rel-open}
@@ -49,6 +56,15 @@ use Rattle.rules.proofs.Lead.{sure}
 use Rattle.rules.proofs.Held.{Holds, by-place, by-own, by-node, Held, Takes, Passes, held-carried, node-held, passes}
 use Rattle.rules.specs.Locks.{Lock}
 use Rattle.rules.proofs.Choose.{Free, chosen-free}
+
+-- check 21 holds the key of a Remove to its ranges
+wants-of : (n : Sizes) (s : Stage) (own : ℕ) → ValidCarried n (carriedBy s) own → Wants s
+wants-of n stage.Idle own G = tt
+wants-of n (stage.Insert i) own G = tt
+wants-of n (stage.Delete d) own G = tt
+wants-of n (stage.Relaxed d) own G = tt
+wants-of n (stage.Remove w d) own G = (G .wanted .due, G .wanted .ticket .high)
+wants-of n (stage.Removal job r) own G = tt
 
 pub record Sound (q : Queue) (b : Book) : Type 0 where
   pub sized : Sized q
@@ -117,36 +133,56 @@ module _ (q : Queue) (b : Book) (S : Sound q b) where
         (v .tick (v .pr p .own))
 
     pub step-agrees : Agrees (feedStep b p) (step q p)
-    step-agrees = of (call.Step p) (feedStep b p) (λ n. refl)
-        (λ A. busy (omega (arith, A .ticks)) (A .here) (busy-steps _ (A .turn)))
+    step-agrees =
+        of-call (Agrees (feedStep b p)) q (call.Step p)
+        (λ n. refused-agrees (feedStep b p) n refl)
+        (λ ok A. busy (omega (arith, A .ticks)) (A .here) (busy-steps _ (A .turn))
+        (wants-of (sizesOf q) (processorAt q p .stage) (processorAt q p .own)
+        (valid-facts q ok .processors p (A .here) .carries)))
       where
-        busy : q .clock + 1 ≤ 999999 → p < q .processorCount → isIdle (processorAt q p .stage) ≡ false → Agrees (feedStep b p) (accepted q p (stepDecision q (processorAt q p)))
-        busy t≤ p< i =
+        busy : q .clock + 1 ≤ 999999 → p < q .processorCount →
+            isIdle (processorAt q p .stage) ≡ false → Wants (processorAt q p .stage) →
+            Agrees (feedStep b p) (accepted q p (stepDecision q (processorAt q p)))
+        busy t≤ p< i w =
             let s = processorAt q p .stage in
             let k = kind-busy (v .ht (v .pr p .own)) s i in
             let room : v .clock + 1 < ever = omega arith in
-            let B = booked v (S .until) (S .inv) (node-held v (S .held)) room b (S .rel) p s refl k in
-            subst (λ (d : Decision). Agrees (feedStep b p) (accepted q p d)) (sym (decision-same q (S .until) (S .sized) (S .inv) p k))
+            let H = node-held v (S .held) in
+            let B = booked v (S .until) (S .inv) H room b (S .rel) p s refl k w in
+            subst (λ (d : Decision). Agrees (feedStep b p) (accepted q p d))
+            (sym (decision-same q (S .until) (S .sized) (S .inv) p k w))
             (accepted-agrees (feedStep b p) p (decision v p s) (B .after) (untilAfter v (S .until) p s) p< t≤ (reaches v (S .until) (S .inv) p s refl k) (passes v p (v .ht (v .pr p .own)) s)
-            (B .fed) (kept v (S .until) (S .inv) (node-held v (S .held)) room p s refl k) (B .rel))
+            (B .fed) (kept v (S .until) (S .inv) H room p s refl k w) (B .rel))
 
-    -- the begin of a walk at the stage s, after which o is open
-    walk-begun : (feeds : Answer → Verdict) (s : Stage) (o : Open) →
-        info (v .ht 0) s ≡ walkInfo 2 0 (place 0 1) → o ≡ opens s (q .clock + 1) (v .tick 0) →
+    -- the begin of an operation that takes no node, at the stage s, after which o is open
+    ownless-begun : (feeds : Answer → Verdict) (s : Stage) (o : Open) →
+        info (v .ht 0) s .kind ≡ 2 →
+        (v .clock + 1 < ever → claim v p .kind ≡ 0 → Inv (ticked v p (walker v p s)) (S .until)) →
+        o ≡ opens s (q .clock + 1) (v .tick 0) →
         (b .opened p ≡ nothing → b .count ≡ q .clock →
         feeds (ans.Began (q .clock + 1)) ≡ agrees (afterCall b (b .entry) p o)) →
         q .clock + 1 ≤ 999999 → p < q .processorCount → isIdle (processorAt q p .stage) ≡ true →
         Agrees feeds (accepted q p (walkBegins (q .clock + 1) s))
-    walk-begun feeds s o is same fed t≤ p< i =
+    ownless-begun feeds s o two inv same fed t≤ p< i =
         let K = kind-idle (v .ht (v .pr p .own)) (processorAt q p .stage) i in
         let d : Decision = walkBegins (q .clock + 1) s in
         accepted-agrees feeds p d (afterCall b (b .entry) p o) (S .until) p< t≤
         (record { effect = tt; saves = tt; due-small = tt })
         (idle-passes p K d (λ h l t. absurd t))
         (fed (open-idle i) (S .rel .count))
-        (begin-walk v (S .until) (S .inv) (omega arith) p K s is)
-        (rel-open v b (S .rel) p (walker v p s) o same
-        (λ k. omega (arith, ap (λ (f : Info). f .kind) is)) (λ k. omega arith))
+        (inv (omega arith) K)
+        (rel-open v b (S .rel) p (walker v p s) o same (λ k. omega arith) (λ k. omega arith))
+
+    -- of a walk
+    walk-begun : (feeds : Answer → Verdict) (s : Stage) (o : Open) →
+        info (v .ht 0) s ≡ walkInfo 2 0 (place 0 1) → o ≡ opens s (q .clock + 1) (v .tick 0) →
+        (b .opened p ≡ nothing → b .count ≡ q .clock →
+        feeds (ans.Began (q .clock + 1)) ≡ agrees (afterCall b (b .entry) p o)) →
+        q .clock + 1 ≤ 999999 → p < q .processorCount → isIdle (processorAt q p .stage) ≡ true →
+        Agrees feeds (accepted q p (walkBegins (q .clock + 1) s))
+    walk-begun feeds s o is =
+        ownless-begun feeds s o (ap (λ (f : Info). f .kind) is)
+        (λ room K. begin-walk v (S .until) (S .inv) room p K s is)
 
     pub delete-agrees : Agrees (feedDelete b p) (beginDeleteMin q p)
     delete-agrees = of (call.DeleteMin p) (feedDelete b p) (λ n. refl)
@@ -162,6 +198,17 @@ module _ (q : Queue) (b : Book) (S : Sound q b) where
         (λ i c. rw (i, eq-eqb (q .clock + 1) (b .count + 1) (omega arith)))
         (omega (arith, A .ticks)) (A .here) (idle-begins _ (A .turn)))
 
+    pub remove-agrees : (due ticket : ℕ) →
+        Agrees (feedRemove b p (wantedOf due ticket)) (beginRemove q p due ticket)
+    remove-agrees due ticket =
+        let w = wantedOf due ticket in
+        of (call.Remove p due ticket) (feedRemove b p w) (λ n. refl)
+        (λ A. ownless-begun (feedRemove b p w)
+        (stage.Remove w (rmv.Search (place 0 (q .levelCount)))) (seeking w (q .clock + 1)) refl
+        (λ room K. begin-find v (S .until) (S .inv) room p K w) refl
+        (λ i c. rw (i, eq-eqb (q .clock + 1) (b .count + 1) (omega arith)))
+        (omega (arith, A .ticks)) (A .here) (idle-begins _ (A .turn)))
+
     module _ (due item height : ℕ) where
       insert-begun : q .clock + 1 ≤ 999999 → p < q .processorCount → isIdle (processorAt q p .stage) ≡ true → due ≤ 999999 → 1 ≤ height → height ≤ q .levelCount → (x : ℕ) → Free q x →
           Agrees (feedInsert b p due item) (accepted q p (insertDecision q x due item height))
@@ -169,7 +216,8 @@ module _ (q : Queue) (b : Book) (S : Sound q b) where
           let room : v .clock + 1 < ever = omega arith in
           let K = kind-idle (v .ht (v .pr p .own)) (processorAt q p .stage) i in
           accepted-agrees (feedInsert b p due item) p (insertDecision q x due item height)
-          (afterCall b (changedAt (b .entry) (q .clock + 1) (record { written = true; due = due; item = item; answeredAt = ever; marked = false; handedOut = false })) p (inserting (q .clock + 1)))
+          (afterCall b (changedAt (b .entry) (q .clock + 1) (justFiled due item)) p
+          (inserting (q .clock + 1)))
           (cleared (S .until) x) p< t≤ (record { effect = (F .low, F .high); saves = tt; due-small = due≤ }) (idle-passes p K (insertDecision q x due item height) (λ h l t. by-node refl t))
           (rw (open-idle i, eq-eqb (q .clock + 1) (b .count + 1) (omega (arith, S .rel .count))))
           (begin-insert v (S .until) (S .inv) room p K x due item height fw lw (F .low) (F .high) due≤ h≥ h≤ (F .unused) older unseen fw-same lw-same)

@@ -14,6 +14,9 @@ use Rattle.record.specs.declared.stages.Delete.the-variants as del
 use Rattle.record.specs.declared.stages.Job.{Job}
 use Rattle.record.specs.declared.stages.Relaxed.{Relaxed}
 use Rattle.record.specs.declared.stages.Relaxed.the-variants as rlx
+use Rattle.record.specs.declared.stages.Wanted.{Wanted}
+use Rattle.record.specs.declared.stages.Remove.{Remove}
+use Rattle.record.specs.declared.stages.Remove.the-variants as rmv
 use Rattle.record.specs.declared.stages.Stage.{Stage}
 use Rattle.record.specs.declared.stages.Stage.the-variants as stage
 use Rattle.record.specs.Stages.{isIdle}
@@ -24,6 +27,7 @@ kind-idle h stage.Idle e = refl
 kind-idle h (stage.Insert i) e = let z : _≡_ {A = ℕ} 0 1 = cc in absurd (omega arith)
 kind-idle h (stage.Delete i) e = let z : _≡_ {A = ℕ} 0 1 = cc in absurd (omega arith)
 kind-idle h (stage.Relaxed i) e = let z : _≡_ {A = ℕ} 0 1 = cc in absurd (omega arith)
+kind-idle h (stage.Remove w i) e = let z : _≡_ {A = ℕ} 0 1 = cc in absurd (omega arith)
 kind-idle h (stage.Removal job r) e = let z : _≡_ {A = ℕ} 0 1 = cc in absurd (omega arith)
 
 pub insert-kind : (h : ℕ) (i : Insert) → info h (stage.Insert i) .kind ≡ 1
@@ -47,6 +51,12 @@ pub relaxed-kind : (h : ℕ) (d : Relaxed) → info h (stage.Relaxed d) .kind �
 relaxed-kind h (rlx.ReadNext a) = refl
 relaxed-kind h (rlx.SetMark a) = refl
 
+pub remove-kind : (h : ℕ) (w : Wanted) (d : Remove) → info h (stage.Remove w d) .kind ≡ 2
+remove-kind h w (rmv.Search a) = refl
+remove-kind h w (rmv.ReadNext a) = refl
+remove-kind h w (rmv.TestStamp a) = refl
+remove-kind h w (rmv.SetMark a) = refl
+
 pub removal-kind : (job : Job) (h : ℕ) (r : Removal) → info h (stage.Removal job r) .kind ≡ 3
 removal-kind job h (rem.Search a) = refl
 removal-kind job h rem.HoldNode = refl
@@ -67,6 +77,7 @@ kind-busy h stage.Idle e = let z : _≡_ {A = ℕ} 0 1 = cc in absurd (omega ari
 kind-busy h (stage.Insert i) e = omega (arith, insert-kind h i)
 kind-busy h (stage.Delete i) e = omega (arith, walk-kind h i)
 kind-busy h (stage.Relaxed i) e = omega (arith, relaxed-kind h i)
+kind-busy h (stage.Remove w i) e = omega (arith, remove-kind h w i)
 kind-busy h (stage.Removal job r) e = omega (arith, removal-kind job h r)
 
 pub idle-false : (h : ℕ) (s : Stage) → 1 ≤ info h s .kind → isIdle s ≡ false
@@ -74,4 +85,5 @@ idle-false h stage.Idle e = absurd (omega arith)
 idle-false h (stage.Insert i) e = refl
 idle-false h (stage.Delete i) e = refl
 idle-false h (stage.Relaxed i) e = refl
+idle-false h (stage.Remove w i) e = refl
 idle-false h (stage.Removal job r) e = refl

@@ -59,7 +59,14 @@ module _ (s : Sizes) where
   place-later a A = record { node = A .node; level = A .level }
 
   carried-later : (g : Carried) (own : ℕ) → ValidCarried s g own → ValidCarried (later s) g own
-  carried-later g own G = record { own-high = G .own-high; has-own = G .has-own; place = place-later (g .place) (G .place); ahead = G .ahead; marks = G .marks }
+  carried-later g own G = record {
+    own-high = G .own-high;
+    has-own = G .has-own;
+    place = place-later (g .place) (G .place);
+    ahead = G .ahead;
+    marks = G .marks;
+    wanted = G .wanted;
+  }
 
   processor-later : (c : Processor) → ValidProcessor s c → ValidProcessor (later s) c
   processor-later c C = record { begin = omega (arith, C .begin); saved = C .saved; carries = carried-later (carried (c .stage)) (c .own) (C .carries) }
@@ -256,7 +263,14 @@ fresh-processor-valid s l =
     record {
       begin = omega arith;
       saved = λ k k<. replicate-either (λ y. y ≤ s .nodeCount + 1) 8 k 0 0 (omega arith) (omega arith);
-      carries = record { own-high = omega arith; has-own = λ e. absurd (false≢true e); place = omega arith; ahead = omega arith; marks = λ e. absurd (false≢true e) };
+      carries = record {
+        own-high = omega arith;
+        has-own = λ e. absurd (false≢true e);
+        place = omega arith;
+        ahead = omega arith;
+        marks = λ e. absurd (false≢true e);
+        wanted = omega arith;
+      };
     }
 
 pub fresh-valid : (P N L : ℕ) → 1 ≤ P → P ≤ 16 → 1 ≤ N → N ≤ 200 → 1 ≤ L → L ≤ 8 → valid (freshQueue P N L) ≡ true

@@ -23,6 +23,9 @@ use Rattle.record.specs.declared.stages.Delete.{Delete}
 use Rattle.record.specs.declared.stages.Delete.the-variants as del
 use Rattle.record.specs.declared.stages.Relaxed.{Relaxed}
 use Rattle.record.specs.declared.stages.Relaxed.the-variants as rlx
+use Rattle.record.specs.declared.stages.Wanted.{Wanted}
+use Rattle.record.specs.declared.stages.Remove.{Remove}
+use Rattle.record.specs.declared.stages.Remove.the-variants as rmv
 use Rattle.record.specs.declared.stages.Stage.{Stage}
 use Rattle.record.specs.declared.stages.Job.{Job}
 use Rattle.record.specs.declared.stages.Job.the-variants as jobs
@@ -32,7 +35,7 @@ use Rattle.record.specs.Limits.{maxNumber}
 use Rattle.record_check.specs.Making.{outside}
 use Rattle.record.specs.Nodes.{stampedBefore}
 use Rattle.record.specs.Queues.{nodeAt, processorAt}
-use Rattle.record.specs.Stages.{place, seekRow, carriedOf, carried}
+use Rattle.record.specs.Stages.{place, wantedOf, noneWanted, seekRow, carriedOf, carried}
 use Rattle.rules.specs.declared.answers.Answer.{Answer}
 use Rattle.rules.specs.declared.answers.Outcome.{Outcome}
 use Rattle.rules.specs.declared.decisions.Effect.{Effect}
@@ -51,11 +54,13 @@ use Rattle.rules.specs.Effects.{applied}
 use Rattle.rules.specs.declared.calls.Call.{Call}
 use Rattle.rules.specs.declared.calls.Call.the-variants as call
 use Rattle.rules.specs.Calls.{readingPlace, stepViewOf, stepDecision, insertDecision}
-use Rattle.rules.specs.Calls.{nextOf, walkBegins, decisionOf, processorOf}
-use Rattle.rules.proofs.Allowed.{Allowed, of-call, numbers}
+use Rattle.rules.specs.Calls.{nextOf, walkBegins, removeDecision, keyRefusal, decisionOf}
+use Rattle.rules.specs.Calls.{processorOf}
+use Rattle.rules.proofs.Allowed.{Allowed, passed, of-call, numbers}
 use Rattle.rules.specs.Runs.{Turn, calls, backlog, markers, after}
 use Rattle.laws.proofs.Booleans.{cond-cases, no}
-use Rattle.rules.proofs.ValidFacts.{Within, ValidPlace, ValidCarried, ValidProcessor, ValidQueue, valid-facts}
+use Rattle.rules.proofs.ValidFacts.{Within, ValidPlace, ValidWanted, ValidCarried}
+use Rattle.rules.proofs.ValidFacts.{ValidProcessor, ValidQueue, valid-facts}
 
 -- the node x that an Insert takes, and its numbers
 pub record ValidFill (s : Sizes) (x d i h : ℕ) : Type 0 where
@@ -152,16 +157,34 @@ removal-reads job (rem.FreeLevel a) = refl
 removal-reads job rem.FreeNode = refl
 removal-reads job rem.Retire = refl
 
+none-valid : ValidWanted noneWanted
+none-valid = omega arith
+
 module _ (s : Sizes) (levels : 1 ≤ s .levelCount) where
   abbrev at : Bool → Place → Carried
-  at own a = record { own = own; place = a; ahead = a .node; marking = false }
+  at own a = record
+      { own = own; place = a; ahead = a .node; marking = false; wanted = noneWanted }
 
   -- a stage with an own node, and one without
   owning : (own : ℕ) (a : Place) → Within own (s .nodeCount) → ValidPlace s a → ValidCarried s (at true a) own
-  owning own a O P = record { own-high = omega arith; has-own = λ e. O; place = P; ahead = P .node; marks = λ e. absurd (false≢true e) }
+  owning own a O P = record {
+    own-high = omega arith;
+    has-own = λ e. O;
+    place = P;
+    ahead = P .node;
+    marks = λ e. absurd (false≢true e);
+    wanted = none-valid;
+  }
 
   ownless : (own : ℕ) (a : Place) → own ≤ s .nodeCount + 1 → ValidPlace s a → ValidCarried s (at false a) own
-  ownless own a O P = record { own-high = O; has-own = λ e. absurd (false≢true e); place = P; ahead = P .node; marks = λ e. absurd (false≢true e) }
+  ownless own a O P = record {
+    own-high = O;
+    has-own = λ e. absurd (false≢true e);
+    place = P;
+    ahead = P .node;
+    marks = λ e. absurd (false≢true e);
+    wanted = none-valid;
+  }
 
   head-place : (i : ℕ) → Within i (s .levelCount) → ValidPlace s (place 0 i)
   head-place i I = record { node = omega arith; level = I }
@@ -210,7 +233,17 @@ module _ (s : Sizes) (levels : 1 ≤ s .levelCount) where
       (λ x. (G .place, owning (v .own) a (G .has-own refl) (G .place))) (λ x. owning (v .own) a (G .has-own refl) (G .place))
   seek-valid v (seek.Confirm a) W G =
       cond-cases (ValidSought (v .own)) (v .nextBeforeKey) _ _
-      (λ x. (tt, record { own-high = G .own-high; has-own = G .has-own; place = G .place; ahead = W .next; marks = λ e. absurd (false≢true e) }))
+      (λ x. (
+        tt,
+        record {
+          own-high = G .own-high;
+          has-own = G .has-own;
+          place = G .place;
+          ahead = W .next;
+          marks = λ e. absurd (false≢true e);
+          wanted = none-valid;
+        },
+      ))
       (λ x. G .place)
   seek-valid v (seek.Release a b) W G =
       (G .place, owning (v .own) (place b (a .level)) (G .has-own refl) (record { node = G .ahead; level = G .place .level }))
@@ -325,7 +358,14 @@ module _ (s : Sizes) (levels : 1 ≤ s .levelCount) where
   delete-valid v (del.TestStamp a) W G =
       cond-cases (λ d. ValidDecision s d) (v .stamped) _ _
       (λ x. moved-valid v eff.Keep (stage.Delete (del.SetMark a)) tt
-      (record { own-high = G .own-high; has-own = G .has-own; place = G .place; ahead = G .ahead; marks = λ e. W .stamped x }))
+      (record {
+        own-high = G .own-high;
+        has-own = G .has-own;
+        place = G .place;
+        ahead = G .ahead;
+        marks = λ e. W .stamped x;
+        wanted = none-valid;
+      }))
       (λ x. moved-valid v eff.Keep (stage.Delete (del.ReadNext a)) tt G)
   delete-valid v (del.SetMark a) W G =
       cond-cases (λ d. ValidDecision s d) (v .marked) _ _
@@ -354,6 +394,7 @@ module _ (s : Sizes) (levels : 1 ≤ s .levelCount) where
           low = let ne : (v .next ≡ 0 → ⊥) = eqb-false (v .next) 0 y in omega arith;
           high = W .inside x;
         };
+        wanted = none-valid;
       })))
   relaxed-valid v (rlx.SetMark a) W G =
       cond-cases (λ d. ValidDecision s d) (v .marked) _ _
@@ -361,11 +402,65 @@ module _ (s : Sizes) (levels : 1 ≤ s .levelCount) where
       (ownless (v .own) a (G .own-high) (G .place)))
       (λ x. marking-valid jobs.Deliver v a (W .levelCount) (G .marks refl))
 
+  -- a Remove before its mark
+  seeking-valid : (w : Wanted) (own : ℕ) (a : Place) → ValidWanted w → own ≤ s .nodeCount + 1 →
+      ValidPlace s a →
+      ValidCarried s
+      (record { own = false; place = a; ahead = a .node; marking = false; wanted = w }) own
+  seeking-valid w own a K O A = record {
+    own-high = O;
+    has-own = λ e. absurd (false≢true e);
+    place = A;
+    ahead = A .node;
+    marks = λ e. absurd (false≢true e);
+    wanted = K;
+  }
+
+  remove-valid : (v : StepView) (w : Wanted) (d : Remove) →
+      ValidView s (readingPlace (stage.Remove w d)) v →
+      ValidCarried s (carried (stage.Remove w d)) (v .own) →
+      ValidDecision s (Decide.removeStep v w d)
+  remove-valid v w (rmv.Search a) W G =
+      let K = G .wanted in
+      search-cases v a W (G .place) (λ r. ValidDecision s (Decide.removeSearched v w a r))
+      (λ b B. moved-valid v eff.Keep (stage.Remove w (rmv.Search b)) tt
+      (seeking-valid w (v .own) b K (G .own-high) B))
+      (λ b B. saving-valid v a (stage.Remove w (rmv.Search b)) (G .place)
+      (seeking-valid w (v .own) b K (G .own-high) B))
+      (saving-valid v a (stage.Remove w (rmv.ReadNext a)) (G .place)
+      (seeking-valid w (v .own) a K (G .own-high) (G .place)))
+  remove-valid v w (rmv.ReadNext a) W G =
+      let b = place (v .next) 1 in
+      let at : ValidPlace s b = record { node = W .next; level = level-one } in
+      let C = seeking-valid w (v .own) b (G .wanted) (G .own-high) at in
+      cond-cases (λ d. ValidDecision s d) (v .nextBeforeKey) _ _
+      (λ x. moved-valid v eff.Keep (stage.Remove w (rmv.ReadNext b)) tt C)
+      (λ x. cond-cases (λ d. ValidDecision s d) (v .nextHasKey) _ _
+      (λ y. moved-valid v eff.Keep (stage.Remove w (rmv.TestStamp b)) tt C)
+      (λ y. answers-valid eff.Keep _ tt))
+  remove-valid v w (rmv.TestStamp a) W G =
+      cond-cases (λ d. ValidDecision s d) (v .stamped) _ _
+      (λ x. moved-valid v eff.Keep (stage.Remove w (rmv.SetMark a)) tt
+      (record {
+        own-high = G .own-high;
+        has-own = λ e. absurd (false≢true e);
+        place = G .place;
+        ahead = G .ahead;
+        marks = λ e. W .stamped x;
+        wanted = G .wanted;
+      }))
+      (λ x. answers-valid eff.Keep _ tt)
+  remove-valid v w (rmv.SetMark a) W G =
+      cond-cases (λ d. ValidDecision s d) (v .marked) _ _
+      (λ x. answers-valid eff.Keep _ tt)
+      (λ x. marking-valid jobs.TakeBack v a (W .levelCount) (G .marks refl))
+
   pub decide-valid : (v : StepView) (g : Stage) → ValidView s (readingPlace g) v → ValidCarried s (carried g) (v .own) → ValidDecision s (Decide.decide v g)
   decide-valid v stage.Idle W G = moved-valid v eff.Keep stage.Idle tt G
   decide-valid v (stage.Insert i) W G = insert-valid v i W G
   decide-valid v (stage.Delete d) W G = delete-valid v d W G
   decide-valid v (stage.Relaxed d) W G = relaxed-valid v d W G
+  decide-valid v (stage.Remove w d) W G = remove-valid v w d W G
   decide-valid v (stage.Removal job r) W G = removal-valid job v r W G
 
   pub reading-valid : (g : Stage) (own : ℕ) → ValidCarried s (carried g) own → ValidPlace s (readingPlace g)
@@ -377,6 +472,13 @@ module _ (s : Sizes) (levels : 1 ≤ s .levelCount) where
   reading-valid (stage.Relaxed (rlx.ReadNext a)) own G =
       record { node = G .place .node; level = level-one }
   reading-valid (stage.Relaxed (rlx.SetMark a)) own G =
+      record { node = G .place .node; level = level-one }
+  reading-valid (stage.Remove w (rmv.Search a)) own G = G .place
+  reading-valid (stage.Remove w (rmv.ReadNext a)) own G =
+      record { node = G .place .node; level = level-one }
+  reading-valid (stage.Remove w (rmv.TestStamp a)) own G =
+      record { node = G .place .node; level = level-one }
+  reading-valid (stage.Remove w (rmv.SetMark a)) own G =
       record { node = G .place .node; level = level-one }
   reading-valid (stage.Removal job r) own G = subst (ValidPlace s) (removal-reads job r) (G .place)
 
@@ -423,7 +525,8 @@ insert-begins-valid q x due item height Q F =
 
 -- a Delete_Min's or a Relaxed one's
 walk-begins-valid : (q : Queue) → ValidQueue q → (g : Stage) →
-    carried g ≡ record { own = false; place = place 0 1; ahead = 0; marking = false } →
+    carried g ≡ record
+    { own = false; place = place 0 1; ahead = 0; marking = false; wanted = noneWanted } →
     ValidDecision (sizesOf q) (walkBegins (q .clock + 1) g)
 walk-begins-valid q Q g is =
     let levels = Q .sizes .levelCount .low in
@@ -433,6 +536,18 @@ walk-begins-valid q Q g is =
       carries = subst (λ (c : Carried). ValidCarried (sizesOf q) c 0) (sym is)
           (ownless (sizesOf q) levels 0 (place 0 1) (omega arith)
           (head-place (sizesOf q) levels 1 (omega arith)));
+    }
+
+-- a Remove's
+remove-begins-valid : (q : Queue) (w : Wanted) → ValidQueue q → ValidWanted w →
+    ValidDecision (sizesOf q) (removeDecision q w)
+remove-begins-valid q w Q K =
+    let levels = Q .sizes .levelCount .low in
+    record {
+      effect = tt;
+      change = tt;
+      carries = seeking-valid (sizesOf q) levels w 0 (place 0 (q .levelCount)) K (omega arith)
+          (head-place (sizesOf q) levels (q .levelCount) (omega arith));
     }
 
 -- what a call does to the record q: nothing, or it applies a decision in range, made on a record that passes check 21
@@ -459,6 +574,16 @@ insert-does q p due item height A Q =
       height = in-range height (q .levelCount) (n .height-within);
     })
 
+-- the numbers that 38 lets pass
+wanted-range : (due ticket : ℕ) → keyRefusal due ticket ≡ 0 → ValidWanted (wantedOf due ticket)
+wanted-range due ticket h =
+    let e = passed (ltb maxNumber due || outside ticket maxNumber) 38 0 (omega arith) h .0 in
+    record {
+      due = ltb-false maxNumber due (or-left _ _ e);
+      ticket = in-range ticket maxNumber
+          (or-right (ltb maxNumber due) (outside ticket maxNumber) e);
+    }
+
 pub decides-valid : (q : Queue) (c : Call) → Allowed q c → ValidQueue q →
     ValidDecision (sizesOf q) (decisionOf q c)
 decides-valid q (call.Insert p due item height) A Q = insert-does q p due item height A Q
@@ -466,6 +591,8 @@ decides-valid q (call.DeleteMin p) A Q =
     walk-begins-valid q Q (stage.Delete (del.ReadNext (place 0 1))) refl
 decides-valid q (call.Relaxed p) A Q =
     walk-begins-valid q Q (stage.Relaxed (rlx.ReadNext (place 0 1))) refl
+decides-valid q (call.Remove p due ticket) A Q =
+    remove-begins-valid q (wantedOf due ticket) Q (wanted-range due ticket (A .numbers))
 decides-valid q (call.Step p) A Q = step-valid q (processorAt q p) Q (Q .processors p (A .here))
 
 pub does : (q : Queue) (c : Turn) → Does q (after q c)

@@ -19,7 +19,10 @@ use Rattle.record.specs.declared.queues.Processor.{Processor}
 use Rattle.record.specs.declared.queues.Queue.{Queue}
 use Rattle.record.specs.declared.stages.Carried.{Carried}
 use Rattle.record.specs.declared.stages.Place.{Place}
-use Rattle.record_check.specs.Check.{within, sizesOf, sizesValid, stampValid, useValid, nodeValid, placeValid, ownValid, markingValid, carriedValid, processorValid, valid}
+use Rattle.record.specs.declared.stages.Wanted.{Wanted}
+use Rattle.record_check.specs.Check.{within, sizesOf, sizesValid, stampValid, useValid, nodeValid}
+use Rattle.record_check.specs.Check.{placeValid, ownValid, markingValid, wantedValid, carriedValid}
+use Rattle.record_check.specs.Check.{processorValid, valid}
 use Rattle.record.specs.Limits.{maxProcessors, maxNodes, maxLevels, maxNumber}
 use Rattle.record.specs.Queues.{nodeAt, processorAt}
 use Rattle.record.specs.Stages.{carried}
@@ -50,6 +53,10 @@ pub record ValidNode (s : Sizes) (x : ℕ) (n : Node) : Type 0 where
   pub stamp-time : (t : ℕ) → n .stamp ≡ stamp.At t → t ≤ s .clock
   pub retired : (t : ℕ) → n .state ≡ use′.Retired t → t ≤ s .clock
 
+pub record ValidWanted (w : Wanted) : Type 0 where
+  pub due : w .due ≤ maxNumber
+  pub ticket : Within (w .ticket) maxNumber
+
 pub record ValidPlace (s : Sizes) (a : Place) : Type 0 where
   pub node : a .node ≤ s .nodeCount + 1
   pub level : Within (a .level) (s .levelCount)
@@ -63,6 +70,8 @@ pub record ValidCarried (s : Sizes) (g : Carried) (own : ℕ) : Type 0 where
   pub ahead : g .ahead ≤ s .nodeCount + 1
   -- the place at W3 is an entry's node
   pub marks : g .marking ≡ true → Within (g .place .node) (s .nodeCount)
+  -- the key of a Remove
+  pub wanted : ValidWanted (g .wanted)
 
 pub record ValidProcessor (s : Sizes) (c : Processor) : Type 0 where
   pub begin : c .begin ≤ s .clock
@@ -182,15 +191,37 @@ facts-marking : (s : Sizes) (marking : Bool) (x : ℕ) → (marking ≡ true →
 facts-marking s true x h = facts-within _ _ (h refl)
 facts-marking s false x h = refl
 
+wanted-facts : (w : Wanted) → wantedValid w ≡ true → ValidWanted w
+wanted-facts w h = record {
+  due = leb-true _ _ (and-left _ _ h);
+  ticket = within-facts _ _ (and-right (leb (w .due) maxNumber) (within (w .ticket) maxNumber) h);
+}
+
+facts-wanted : (w : Wanted) → ValidWanted w → wantedValid w ≡ true
+facts-wanted w v = and-both _ _ (le-leb _ _ (v .due)) (facts-within _ _ (v .ticket))
+
 pub carried-facts : (s : Sizes) (g : Carried) (own : ℕ) → carriedValid s g own ≡ true → ValidCarried s g own
 carried-facts s g own h =
-    let t = and-four _ _ _ _ h in
+    let rest = ownValid s (g .own) own && placeValid s (g .place)
+    && leb (g .ahead) (s .nodeCount + 1) && markingValid s (g .marking) (g .place .node) in
+    let t = and-four _ _ _ _ (and-left rest (wantedValid (g .wanted)) h) in
     let o = own-facts s (g .own) own (t .0) in
-    record { own-high = o .0; has-own = o .1; place = place-facts s (g .place) (t .1); ahead = leb-true _ _ (t .2); marks = marking-facts s (g .marking) (g .place .node) (t .3) }
+    record {
+      own-high = o .0;
+      has-own = o .1;
+      place = place-facts s (g .place) (t .1);
+      ahead = leb-true _ _ (t .2);
+      marks = marking-facts s (g .marking) (g .place .node) (t .3);
+      wanted = wanted-facts (g .wanted) (and-right rest (wantedValid (g .wanted)) h);
+    }
 
 pub facts-carried : (s : Sizes) (g : Carried) (own : ℕ) → ValidCarried s g own → carriedValid s g own ≡ true
 facts-carried s g own v =
-    and-all-four _ _ _ _ (facts-own s (g .own) own (v .own-high) (v .has-own)) (facts-place s (g .place) (v .place)) (le-leb _ _ (v .ahead)) (facts-marking s (g .marking) (g .place .node) (v .marks))
+    and-both _ _
+    (and-all-four _ _ _ _ (facts-own s (g .own) own (v .own-high) (v .has-own))
+    (facts-place s (g .place) (v .place)) (le-leb _ _ (v .ahead))
+    (facts-marking s (g .marking) (g .place .node) (v .marks)))
+    (facts-wanted (g .wanted) (v .wanted))
 
 pub processor-facts : (s : Sizes) (c : Processor) → processorValid s c ≡ true → ValidProcessor s c
 processor-facts s c h =

@@ -1,7 +1,7 @@
 -- The record as functions of numbers, and what a stage claims of its processor.
-use Prim.Native.Nat.{ℕ, _+_, _-_, _*_}
+use Prim.Native.Nat.{ℕ, _+_, _-_, _*_, _≤_}
 use lib.Dec.{eqb}
-use mathlib.Core.Bool.{cond}
+use mathlib.Core.Bool.{Bool, false, cond}
 use Rattle.record.specs.Stages.{place}
 use Rattle.record.specs.declared.stages.Place.{Place}
 use Rattle.record.specs.declared.stages.Seek.{Seek}
@@ -14,6 +14,9 @@ use Rattle.record.specs.declared.stages.Removal.{Removal}
 use Rattle.record.specs.declared.stages.Removal.the-variants as rem
 use Rattle.record.specs.declared.stages.Relaxed.{Relaxed}
 use Rattle.record.specs.declared.stages.Relaxed.the-variants as rlx
+use Rattle.record.specs.declared.stages.Wanted.{Wanted}
+use Rattle.record.specs.declared.stages.Remove.{Remove}
+use Rattle.record.specs.declared.stages.Remove.the-variants as rmv
 use Rattle.record.specs.declared.stages.Stage.{Stage}
 use Rattle.record.specs.declared.stages.Stage.the-variants as stage
 
@@ -121,6 +124,13 @@ abbrev pub relaxes : Relaxed → Info
 relaxes (rlx.ReadNext a) = walkInfo 2 0 a
 relaxes (rlx.SetMark a) = walkInfo 1 1 a
 
+-- of a Remove before its mark (02, W5): until it is at its key the place is before it
+abbrev pub finds : Wanted → Remove → Info
+finds w (rmv.Search a) = standing 0 0 (entryRank (w .due) (w .ticket)) 0 (a .level + 1) a
+finds w (rmv.ReadNext a) = standing 0 0 (entryRank (w .due) (w .ticket)) 0 9 (place (a .node) 1)
+finds w (rmv.TestStamp a) = standing 0 0 last (entryRank (w .due) (w .ticket)) 9 (place (a .node) 1)
+finds w (rmv.SetMark a) = standing 0 2 last (entryRank (w .due) (w .ticket)) 9 (place (a .node) 1)
+
 abbrev pub removals : ℕ → Removal → Info
 removals h (rem.Search a) = record { kind = 3; node = a .node; level = a .level; b = a .node; hp = 0; ho = 0; hn = 0; nx = 0; lo = h; from = a .level + 1; strict = 0; early = 0; past = 0; goal = 0; found = 0 }
 removals h rem.HoldNode = record { kind = 3; node = 0; level = 1; b = 0; hp = 0; ho = 0; hn = 0; nx = 0; lo = h; from = 1; strict = 0; early = 0; past = 0; goal = 0; found = 0 }
@@ -138,6 +148,7 @@ info h stage.Idle = record { kind = 0; node = 0; level = 1; b = 0; hp = 0; ho = 
 info h (stage.Insert i) = inserts h i
 info h (stage.Delete d) = walks d
 info h (stage.Relaxed x) = relaxes x
+info h (stage.Remove w x) = finds w x
 info h (stage.Removal job r) = removals h r
 
 -- the key of the operation, k being the own node's
@@ -146,7 +157,29 @@ rankFor stage.Idle k = k
 rankFor (stage.Insert i) k = k
 rankFor (stage.Delete d) k = k
 rankFor (stage.Relaxed x) k = k
+rankFor (stage.Remove w x) k = entryRank (w .due) (w .ticket)
 rankFor (stage.Removal job r) k = k
+
+-- whether r is the key that a Remove carries; nothing else asks
+abbrev pub unasked : ℕ → Bool
+unasked r = false
+
+abbrev pub asksFor : Stage → ℕ → Bool
+asksFor stage.Idle = unasked
+asksFor (stage.Insert i) = unasked
+asksFor (stage.Delete d) = unasked
+asksFor (stage.Relaxed x) = unasked
+asksFor (stage.Remove w x) = λ r. eqb r (entryRank (w .due) (w .ticket))
+asksFor (stage.Removal job r) = unasked
+
+-- the due minute and the ticket that a Remove carries are in their ranges
+abbrev pub Wants : Stage → Type 0
+Wants stage.Idle = Unit {0}
+Wants (stage.Insert i) = Unit {0}
+Wants (stage.Delete d) = Unit {0}
+Wants (stage.Relaxed x) = Unit {0}
+Wants (stage.Remove w x) = (w .due ≤ 999999) × (w .ticket ≤ 999999)
+Wants (stage.Removal job r) = Unit {0}
 
 -- what processor q claims in v
 abbrev pub claim : View → ℕ → Info

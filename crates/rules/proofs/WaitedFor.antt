@@ -9,12 +9,12 @@ use borrow.Author.Tests.{ltb-true, ltb-false}
 use Rattle.laws.proofs.Booleans.{no}
 use Rattle.record.specs.declared.queues.Processor.{Processor}
 use Rattle.record.specs.declared.queues.Queue.{Queue}
-use Rattle.record.specs.declared.stages.Job.the-variants as jobs
 use Rattle.record.specs.declared.stages.Stage.{Stage}
 use Rattle.record.specs.declared.stages.Stage.the-variants as stage
 use Rattle.record.specs.Queues.{freshQueue, processorAt}
 use Rattle.record.specs.Stages.{carried, isIdle}
-use Rattle.rules.specs.Book.{Book, Open, nothing, inserting, walking, relaxing, unlinking}
+use Rattle.rules.specs.Book.{Book, Open, nothing, inserting, walking, relaxing, seeking}
+use Rattle.rules.specs.Book.{unlinking}
 use Rattle.rules.specs.Calls.{idleAt}
 use Rattle.rules.specs.Demand3.{WaitedFor, WaitsForABusyHolder}
 use Rattle.rules.specs.Locks.{Lock, level, node, holderOf, holdsPlace, holdsOwn, holdsNode}
@@ -50,6 +50,7 @@ busy-by holds none stage.Idle h = no (sym none ∙ h)
 busy-by holds none (stage.Insert i) h = refl
 busy-by holds none (stage.Delete d) h = refl
 busy-by holds none (stage.Relaxed d) h = refl
+busy-by holds none (stage.Remove w d) h = refl
 busy-by holds none (stage.Removal job r) h = refl
 
 claims-busy : (c : Processor) (l : Lock) → Claims c l → isIdle (c .stage) ≡ false
@@ -63,14 +64,16 @@ isOpen nothing = false
 isOpen (inserting t) = true
 isOpen (walking t) = true
 isOpen (relaxing t) = true
-isOpen (unlinking t) = true
+isOpen (seeking w t) = true
+isOpen (unlinking job t) = true
 
 open-busy : (g : Stage) (T t : ℕ) → isIdle g ≡ false → isOpen (opens g T t) ≡ true
 open-busy stage.Idle T t i = no (sym i)
 open-busy (stage.Insert i) T t e = refl
 open-busy (stage.Delete d) T t e = refl
 open-busy (stage.Relaxed d) T t e = refl
-open-busy (stage.Removal jobs.Deliver r) T t e = refl
+open-busy (stage.Remove w d) T t e = refl
+open-busy (stage.Removal job r) T t e = refl
 
 abbrev isNode : Lock → Bool
 isNode (level n i) = false

@@ -22,6 +22,9 @@ use Rattle.record.specs.declared.stages.Delete.{Delete}
 use Rattle.record.specs.declared.stages.Delete.the-variants as del
 use Rattle.record.specs.declared.stages.Relaxed.{Relaxed}
 use Rattle.record.specs.declared.stages.Relaxed.the-variants as rlx
+use Rattle.record.specs.declared.stages.Wanted.{Wanted}
+use Rattle.record.specs.declared.stages.Remove.{Remove}
+use Rattle.record.specs.declared.stages.Remove.the-variants as rmv
 use Rattle.record.specs.declared.stages.Stage.{Stage}
 use Rattle.record.specs.declared.stages.Stage.the-variants as stage
 use Rattle.record.specs.Queues.{processorAt}
@@ -41,7 +44,8 @@ use Rattle.rules.specs.Calls.{readingPlace, stepViewOf, stepDecision, ca
 use Rattle.rules.specs.Decide.{attempt, waits, searchStep, seekStep, placeTried}
 use Rattle.rules.specs.Decide.{insertSearched, insertSought, insertStep}
 use Rattle.rules.specs.Decide.{removing, removalSearched, removalSought, nodeTried, ownTried}
-use Rattle.rules.specs.Decide.{removalStep, deleteStep, relaxedStep, decide}
+use Rattle.rules.specs.Decide.{removalStep, deleteStep, relaxedStep, removeSearched}
+use Rattle.rules.specs.Decide.{removeStep, decide}
 use Rattle.rules.specs.Locks.{Lock, level, node, holderOf}
 use Rattle.rules.specs.Locks.{Asks, insert-place, removal-place, own-node, own-level}
 use Rattle.rules.specs.Runs.{Reply, answered, counted, listed}
@@ -152,6 +156,7 @@ module _ (s : StepView) where
       cond-elim (Waiting (removing j (rem.FreeLevel a))) (leb (a .level) 1) _ _ no no
   removal-waits j rem.FreeNode = no
   removal-waits jobs.Deliver rem.Retire = no
+  removal-waits jobs.TakeBack rem.Retire = no
 
   delete-waits : (d : Delete) → Waiting (stage.Delete d) (deleteStep s d)
   delete-waits (del.ReadNext a) =
@@ -168,11 +173,26 @@ module _ (s : StepView) where
   relaxed-waits (rlx.SetMark a) =
       cond-elim (Waiting (stage.Relaxed (rlx.SetMark a))) (s .marked) _ _ no no
 
+  remove-waits : (w : Wanted) (d : Remove) → Waiting (stage.Remove w d) (removeStep s w d)
+  remove-waits w (rmv.Search a) =
+      let g = stage.Remove w (rmv.Search a) in
+      let P : Searched → Type 0 = λ o. Waiting g (removeSearched s w a o) in
+      cond-elim P (s .nextBeforeKey) _ _ no (cond-elim P (leb (a .level) 1) _ _ no no)
+  remove-waits w (rmv.ReadNext a) =
+      let g = stage.Remove w (rmv.ReadNext a) in
+      cond-elim (Waiting g) (s .nextBeforeKey) _ _ no
+      (cond-elim (Waiting g) (s .nextHasKey) _ _ no no)
+  remove-waits w (rmv.TestStamp a) =
+      cond-elim (Waiting (stage.Remove w (rmv.TestStamp a))) (s .stamped) _ _ no no
+  remove-waits w (rmv.SetMark a) =
+      cond-elim (Waiting (stage.Remove w (rmv.SetMark a))) (s .marked) _ _ no no
+
   pub stands : (g : Stage) → Waiting g (decide s g)
   stands stage.Idle = no
   stands (stage.Insert i) = insert-waits i
   stands (stage.Delete d) = delete-waits d
   stands (stage.Relaxed d) = relaxed-waits d
+  stands (stage.Remove w d) = remove-waits w d
   stands (stage.Removal j r) = removal-waits j r
 
 -- the lock that a step has read is the one that its stage asks for
@@ -198,6 +218,7 @@ named (ans.Began t) = 0
 named ans.Moved = 0
 named (ans.Waits h) = h
 named ans.Empty = 0
+named (ans.NotThere w) = 0
 named (ans.Did d e) = 0
 
 abbrev answerIn : Reply → Answer

@@ -1,5 +1,6 @@
 -- Answers (01, the steps): a refusal's number; the time of a begin; and what a step reports, with
--- what the entry holds where it reports of one, or with the processor that it waits for (02, W1).
+-- what the entry holds where it reports of one, with the processor that it waits for (02, W1), or
+-- with the key that is not there (02, W5).
 -- Whatever is told of an answer, to hosts, in lists and in histories, goes by its report.
 use Prim.Native.Nat.{ℕ}
 use mathlib.Core.Bool.{Bool, true, false}
@@ -22,15 +23,17 @@ abbrev pub deedCode : Deed → ℕ
 deedCode deed.Marked = 4
 deedCode deed.Inserted = 5
 deedCode deed.HandedOut = 6
+deedCode deed.TakenBack = 7
 
 -- an answer in document 01's numbers: of a refusal its number; of the rest 0 for a begin, and 1 to
--- 6 in the order in which document 01 names a step's reports
+-- 6 in the order in which document 01 names a step's reports; 7 and 8 for a Remove's (02, W5)
 abbrev pub reported : Answer → Report
 reported (ans.Refused n) = report n []
 reported (ans.Began t) = report 0 (t ∷ [])
 reported ans.Moved = report 1 []
 reported (ans.Waits h) = report 2 (h ∷ [])
 reported ans.Empty = report 3 []
+reported (ans.NotThere w) = report 8 (w .due ∷ w .ticket ∷ [])
 reported (ans.Did d e) = report (deedCode d) (entryValues e)
 
 abbrev pub plainFrom : ℕ → ℕ → ℕ → ℕ → PlainAnswer
@@ -55,6 +58,7 @@ isRefused (ans.Began t) = false
 isRefused ans.Moved = false
 isRefused (ans.Waits h) = false
 isRefused ans.Empty = false
+isRefused (ans.NotThere w) = false
 isRefused (ans.Did d e) = false
 
 abbrev pub isWaits : Answer → Bool
@@ -63,4 +67,5 @@ isWaits (ans.Began t) = false
 isWaits ans.Moved = false
 isWaits (ans.Waits h) = true
 isWaits ans.Empty = false
+isWaits (ans.NotThere w) = false
 isWaits (ans.Did d e) = false

@@ -16,6 +16,9 @@ use Rattle.record.specs.declared.stages.Delete.{Delete}
 use Rattle.record.specs.declared.stages.Delete.the-variants as del
 use Rattle.record.specs.declared.stages.Relaxed.{Relaxed}
 use Rattle.record.specs.declared.stages.Relaxed.the-variants as rlx
+use Rattle.record.specs.declared.stages.Wanted.{Wanted}
+use Rattle.record.specs.declared.stages.Remove.{Remove}
+use Rattle.record.specs.declared.stages.Remove.the-variants as rmv
 use Rattle.record.specs.declared.stages.Stage.{Stage}
 use Rattle.record.specs.declared.stages.Stage.the-variants as stage
 use Rattle.record.specs.Stages.{place}
@@ -168,6 +171,7 @@ removalFreed job s a =
 -- what L8 answers, by the removal's job
 abbrev pub handing : Job → Entry → Answer
 handing jobs.Deliver e = ans.Did deed.HandedOut e
+handing jobs.TakeBack e = ans.Did deed.TakenBack e
 
 -- L3: the place leads past the own node; L4: that one leads back to the place; L5: its lock is
 -- free; L7: and its node lock; L8: it is retired, and the job tells the answer
@@ -230,10 +234,43 @@ abbrev pub relaxedStep : StepView → Relaxed → Decision
 relaxedStep s (rlx.ReadNext a) = relaxedOn s
 relaxedStep s (rlx.SetMark a) = markTest s a (stage.Relaxed (rlx.ReadNext a))
 
+-- a Remove's Search (02, W5), after which it reads on from the last place
+abbrev pub removeSearched : StepView → Wanted → Place → Searched → Decision
+removeSearched s w a (srch.Ahead b) = moved s eff.Keep (stage.Remove w (rmv.Search b))
+removeSearched s w a (srch.Down b) = saving s a (stage.Remove w (rmv.Search b))
+removeSearched s w a (srch.Done b) = saving s a (stage.Remove w (rmv.ReadNext b))
+
+-- what it wants is not there
+abbrev pub missing : Wanted → Decision
+missing w = answers eff.Keep (ans.NotThere w)
+
+-- on along level 1 as long as the key ahead is smaller; on its own key it goes on to the stamp
+abbrev pub removeOn : StepView → Wanted → Decision
+removeOn s w =
+    cond (s .nextBeforeKey) (moved s eff.Keep (stage.Remove w (rmv.ReadNext (place (s .next) 1))))
+    (cond (s .nextHasKey)
+    (moved s eff.Keep (stage.Remove w (rmv.TestStamp (place (s .next) 1))))
+    (missing w))
+
+-- the stamp as at W2 and the mark as at W3, but it walks past nothing
+abbrev pub removeStamp : StepView → Wanted → Place → Decision
+removeStamp s w a =
+    cond (s .stamped) (moved s eff.Keep (stage.Remove w (rmv.SetMark a))) (missing w)
+
+abbrev pub removeMark : StepView → Wanted → Place → Decision
+removeMark s w a = cond (s .marked) (missing w) (marking jobs.TakeBack s a)
+
+abbrev pub removeStep : StepView → Wanted → Remove → Decision
+removeStep s w (rmv.Search a) = removeSearched s w a (searchStep s a)
+removeStep s w (rmv.ReadNext a) = removeOn s w
+removeStep s w (rmv.TestStamp a) = removeStamp s w a
+removeStep s w (rmv.SetMark a) = removeMark s w a
+
 -- an idle processor has no step: the call is refused before this
 abbrev pub decide : StepView → Stage → Decision
 decide s stage.Idle = moved s eff.Keep stage.Idle
 decide s (stage.Insert i) = insertStep s i
 decide s (stage.Delete d) = deleteStep s d
 decide s (stage.Relaxed x) = relaxedStep s x
+decide s (stage.Remove w x) = removeStep s w x
 decide s (stage.Removal job r) = removalStep job s r

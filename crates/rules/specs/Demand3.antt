@@ -11,12 +11,17 @@ use Rattle.record.specs.declared.queues.Queue.{Queue}
 use Rattle.record.specs.Limits.{maxProcessors, maxNodes, maxLevels}
 use Rattle.record_check.specs.Check.{valid}
 use Rattle.record.specs.Queues.{freshQueue, nodeAt, processorAt}
+use Rattle.record.specs.declared.stages.Job.{Job}
+use Rattle.record.specs.declared.stages.Job.the-variants as jobs
+use Rattle.record.specs.declared.stages.Wanted.{Wanted}
+use Rattle.record.specs.Stages.{wantedOf}
 use Rattle.record_markers.specs.Markers.{inUseAt}
 use Rattle.rules.specs.declared.answers.Answer.the-variants as ans
+use Rattle.rules.specs.declared.answers.Deed.{Deed}
 use Rattle.rules.specs.declared.answers.Deed.the-variants as deed
 use Rattle.rules.specs.declared.answers.Entry.{Entry}
-use Rattle.rules.specs.Book.{Book, nothing, walking, relaxing, unlinking, emptyBook, agrees}
-use Rattle.rules.specs.Book.{judged, now, earlier, answeredIn, pendingIn}
+use Rattle.rules.specs.Book.{Book, nothing, walking, relaxing, seeking, unlinking, emptyBook}
+use Rattle.rules.specs.Book.{agrees, judged, now, earlier, answeredIn, pendingIn, isGone}
 use Rattle.rules.specs.Calls.{idleAt}
 use Rattle.rules.specs.Locks.{Lock, level, node, holderOf, Claims}
 use Rattle.rules.specs.Runs.{Turn, stepBy, backlog, Reply, answered, counted, reply, afterAll}
@@ -114,15 +119,47 @@ RelaxedEmptyIsTrue =
     → (p begin : ℕ) → b .opened p ≡ relaxing begin → stepReply P N L cs p
     ≡ answered ans.Empty → NoneLeftRelaxed b p
 
--- And there is no third: whoever marks, or is told EMPTY, has one of the two open.
+-- A Remove (02, W5) marks the entry of its key, which had been answered when it began and was not
+-- marked before.
+pub record MarkedForRemove (b : Book) (p : ℕ) (e : Entry) : Type 0 where
+  pub begin : ℕ
+  pub opened : b .opened p ≡ seeking (wantedOf (e .due) (e .ticket)) begin
+  pub left : Left b begin (e .ticket)
+  pub entered : Entered b e
+
+abbrev pub RemoveMarksItsKey : Type 0
+RemoveMarksItsKey =
+    (P N L : ℕ) → InRange P N L → (cs : List Turn) (b : Book) → BookAfter P N L cs b
+    → (p begin : ℕ) (w : Wanted) (e : Entry) → b .opened p ≡ seeking w begin → stepReply P N L cs p
+    ≡ answered (ans.Did deed.Marked e) → MarkedForRemove b p e
+
+-- Not there: this is told to a Remove alone, with its own key; and if the entry of that key had
+-- been answered when it began, another step had marked it.
+pub record Missed (b : Book) (p : ℕ) (w : Wanted) : Type 0 where
+  pub begin : ℕ
+  pub opened : b .opened p ≡ seeking w begin
+  pub marked : b .entry (w .ticket) .written ≡ true → b .entry (w .ticket) .due ≡ w .due
+      → b .entry (w .ticket) .answeredAt < begin → b .entry (w .ticket) .marked ≡ true
+
+abbrev pub NotThereIsTrue : Type 0
+NotThereIsTrue =
+    (P N L : ℕ) → InRange P N L → (cs : List Turn) (b : Book) → BookAfter P N L cs b
+    → (p : ℕ) (w : Wanted) → stepReply P N L cs p ≡ answered (ans.NotThere w) → Missed b p w
+
+-- And there are no others: whoever is told EMPTY has one of the first two open, and whoever marks
+-- one of the three.
 pub data WalkOpen (b : Book) (p : ℕ) : Type 0 where
   delete-min : (begin : ℕ) → b .opened p ≡ walking begin → WalkOpen b p
   relaxed : (begin : ℕ) → b .opened p ≡ relaxing begin → WalkOpen b p
 
-abbrev pub MarkedByAWalk : Type 0
-MarkedByAWalk =
+pub data MarksOpen (b : Book) (p : ℕ) : Type 0 where
+  walk : WalkOpen b p → MarksOpen b p
+  remove : (w : Wanted) (begin : ℕ) → b .opened p ≡ seeking w begin → MarksOpen b p
+
+abbrev pub MarkedByOneOfThree : Type 0
+MarkedByOneOfThree =
     (P N L : ℕ) → InRange P N L → (cs : List Turn) (b : Book) → BookAfter P N L cs b
-    → (p : ℕ) (e : Entry) → stepReply P N L cs p ≡ answered (ans.Did deed.Marked e) → WalkOpen b p
+    → (p : ℕ) (e : Entry) → stepReply P N L cs p ≡ answered (ans.Did deed.Marked e) → MarksOpen b p
 
 abbrev pub EmptyToAWalk : Type 0
 EmptyToAWalk =
@@ -131,15 +168,29 @@ EmptyToAWalk =
 
 -- What is handed out is what this Delete_Min, of either kind, marked.
 pub record Delivered (b : Book) (p : ℕ) (e : Entry) : Type 0 where
-  pub opened : b .opened p ≡ unlinking (e .ticket)
+  pub opened : b .opened p ≡ unlinking jobs.Deliver (e .ticket)
   pub entered : Entered b e
   pub not-before : b .entry (e .ticket) .handedOut ≡ false
+  pub not-taken-back : b .entry (e .ticket) .takenBack ≡ false
 
 abbrev pub HandedOutIsMarked : Type 0
 HandedOutIsMarked =
     (P N L : ℕ) → InRange P N L → (cs : List Turn) (b : Book) → BookAfter P N L cs b
     → (p : ℕ) (e : Entry) → stepReply P N L cs p
     ≡ answered (ans.Did deed.HandedOut e) → Delivered b p e
+
+-- What is taken back is what this Remove marked (02, W5).
+pub record TakenBack (b : Book) (p : ℕ) (e : Entry) : Type 0 where
+  pub opened : b .opened p ≡ unlinking jobs.TakeBack (e .ticket)
+  pub entered : Entered b e
+  pub not-before : b .entry (e .ticket) .takenBack ≡ false
+  pub not-handed-out : b .entry (e .ticket) .handedOut ≡ false
+
+abbrev pub TakenBackIsMarked : Type 0
+TakenBackIsMarked =
+    (P N L : ℕ) → InRange P N L → (cs : List Turn) (b : Book) → BookAfter P N L cs b
+    → (p : ℕ) (e : Entry) → stepReply P N L cs p
+    ≡ answered (ans.Did deed.TakenBack e) → TakenBack b p e
 
 -- Nothing is marked twice, and nothing is handed out twice: a step of p and, any calls later, one
 -- of r
@@ -156,6 +207,23 @@ HandedOutOnce =
     → stepReply P N L cs p ≡ answered (ans.Did deed.HandedOut e) →
     stepReply P N L (cs ++ (stepBy p ∷ ds)) r
     ≡ answered (ans.Did deed.HandedOut f) → e .ticket ≡ f .ticket → ⊥
+
+-- Nor is anything taken back twice, or both handed out and taken back, in either order.
+abbrev pub NeverAfter : Deed → Deed → Type 0
+NeverAfter c d =
+    (P N L : ℕ) → InRange P N L → (cs ds : List Turn) (p r : ℕ) (e f : Entry)
+    → stepReply P N L cs p ≡ answered (ans.Did c e) →
+    stepReply P N L (cs ++ (stepBy p ∷ ds)) r
+    ≡ answered (ans.Did d f) → e .ticket ≡ f .ticket → ⊥
+
+abbrev pub TakenBackOnce : Type 0
+TakenBackOnce = NeverAfter deed.TakenBack deed.TakenBack
+
+abbrev pub HandedOutNotTakenBack : Type 0
+HandedOutNotTakenBack = NeverAfter deed.HandedOut deed.TakenBack
+
+abbrev pub TakenBackNotHandedOut : Type 0
+TakenBackNotHandedOut = NeverAfter deed.TakenBack deed.HandedOut
 
 -- Backlog (02, W2). k is the number of the book's entries that are answered and not marked. With
 -- the marked ones among the answered it makes up all that are answered, one for each Insert that
@@ -177,16 +245,19 @@ BacklogIsPending =
     × (reply (afterAll (freshQueue P N L) cs) backlog ≡ counted (count.Pending k))
     × Pending b k
 
--- Markers (02, W6). Processor p has the entry with ticket t marked, and not yet handed out.
+-- Markers (02, W6). Processor p has the entry with ticket t marked, and not yet handed out or taken
+-- back.
 pub record Delivering (b : Book) (p t : ℕ) : Type 0 where
-  pub opened : b .opened p ≡ unlinking t
+  pub job : Job
+  pub opened : b .opened p ≡ unlinking job t
   pub marked : b .entry t .marked ≡ true
-  pub not-yet : b .entry t .handedOut ≡ false
+  pub not-yet : isGone (b .entry t) ≡ false
 
--- node x is marked by p exactly if the book has p with x's entry marked and not yet handed out
+-- node x is marked by p exactly if the book has p with x's entry marked and neither of these yet
 pub record MarkerIs (q : Queue) (b : Book) (x p : ℕ) : Type 0 where
   pub told : nodeAt q x .mark ≡ suc p → Delivering b p (nodeAt q x .ticket)
-  pub back : b .opened p ≡ unlinking (nodeAt q x .ticket) → nodeAt q x .mark ≡ suc p
+  pub back : (job : Job) → b .opened p ≡ unlinking job (nodeAt q x .ticket)
+      → nodeAt q x .mark ≡ suc p
 
 -- every node in use, of every record reached
 abbrev pub MarkerDelivers : Type 0

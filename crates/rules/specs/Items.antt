@@ -16,8 +16,8 @@ use Rattle.rules.specs.declared.answers.Answer.the-variants as ans
 use Rattle.rules.specs.declared.answers.Entry.{Entry}
 use Rattle.rules.specs.declared.calls.Call.{Call}
 use Rattle.rules.specs.declared.calls.Call.the-variants as call
-use Rattle.rules.specs.Runs.{Turn, calls, deleteMin, relaxed, stepBy, backlog, markers, after}
-use Rattle.rules.specs.Runs.{Reply, answered, counted, listed, reply}
+use Rattle.rules.specs.Runs.{Turn, calls, deleteMin, relaxed, remove, stepBy, backlog}
+use Rattle.rules.specs.Runs.{markers, after, Reply, answered, counted, listed, reply}
 
 -- f gives new numbers to items: what was in its range and nothing else comes to be in it. 0 stays,
 -- which nodes hold that no entry has used; any other number may become 0.
@@ -59,6 +59,7 @@ renamedAnswer f (ans.Began t) = ans.Began t
 renamedAnswer f ans.Moved = ans.Moved
 renamedAnswer f (ans.Waits h) = ans.Waits h
 renamedAnswer f ans.Empty = ans.Empty
+renamedAnswer f (ans.NotThere w) = ans.NotThere w
 renamedAnswer f (ans.Did d e) = ans.Did d (renamedEntry f e)
 
 abbrev pub renamedReply : (ℕ → ℕ) → Reply → Reply
@@ -70,6 +71,7 @@ abbrev pub renamedCall : (ℕ → ℕ) → Call → Call
 renamedCall f (call.Insert p due item height) = call.Insert p due (f item) height
 renamedCall f (call.DeleteMin p) = call.DeleteMin p
 renamedCall f (call.Relaxed p) = call.Relaxed p
+renamedCall f (call.Remove p due ticket) = call.Remove p due ticket
 renamedCall f (call.Step p) = call.Step p
 
 abbrev pub renamedTurn : (ℕ → ℕ) → Turn → Turn
@@ -82,6 +84,7 @@ abbrev pub itemOf : Call → ℕ
 itemOf (call.Insert p due item height) = item
 itemOf (call.DeleteMin p) = 0
 itemOf (call.Relaxed p) = 0
+itemOf (call.Remove p due ticket) = 0
 itemOf (call.Step p) = 0
 
 abbrev pub itemIn : Turn → ℕ
@@ -109,11 +112,12 @@ abbrev pub zeroFor : ℕ → ℕ → ℕ
 zeroFor k n = cond (eqb n k) 0 n
 
 -- A record with item 0 where another has k is taken by check 21 where that one is, its Inserts are
--- answered and its entries marked and handed out at the same steps, with 0 for k.
+-- answered and its entries marked, handed out and taken back at the same steps, with 0 for k.
 pub record GoesOnWithZero (k : ℕ) (q : Queue) : Type 0 where
   pub taken : valid (renamed (zeroFor k) q) ≡ valid q
   pub begun : (p : ℕ) → SameButItems (zeroFor k) q (deleteMin p)
   pub begun-relaxed : (p : ℕ) → SameButItems (zeroFor k) q (relaxed p)
+  pub begun-remove : (p due ticket : ℕ) → SameButItems (zeroFor k) q (remove p due ticket)
   pub stepped : (p : ℕ) → SameButItems (zeroFor k) q (stepBy p)
 
 abbrev pub ItemZeroGoesOn : Type 0

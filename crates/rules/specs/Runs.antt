@@ -28,6 +28,9 @@ deleteMin p = calls (call.DeleteMin p)
 abbrev pub relaxed : ℕ → Turn
 relaxed p = calls (call.Relaxed p)
 
+abbrev pub remove : ℕ → ℕ → ℕ → Turn
+remove p due ticket = calls (call.Remove p due ticket)
+
 abbrev pub stepBy : ℕ → Turn
 stepBy p = calls (call.Step p)
 

@@ -2,6 +2,7 @@
 ghost use mathlib.Core.Path.{_≡_};
 ghost use Rattle.rules.specs.Answers.{plainFrom, plainOf, deedCode, isRefused, isWaits};
 use record::Queue;
+use record::Wanted;
 
 // What an entry holds.
 pub struct Entry {
@@ -15,6 +16,7 @@ pub enum Deed {
     Marked,
     Inserted,
     HandedOut,
+    TakenBack,
 }
 
 // specs/Answers.antt gives document 01's number and values of each case.
@@ -25,6 +27,8 @@ pub enum Answer {
     // for a lock, and the processor that holds it (02, W1)
     Waits(u8),
     Empty,
+    // a Remove's: the key that it was to take back (02, W5)
+    NotThere(Wanted),
     Did(Deed, Entry),
 }
 
@@ -54,6 +58,17 @@ fn with_value(code: u32, value: u32) -> PlainAnswer
     }
 }
 
+fn with_key(code: u32, w: Wanted) -> PlainAnswer
+    ensures { λ r. ⌜ r ≡ plainFrom code (w .due) (w .ticket) 0 ⌝ }
+{
+    PlainAnswer {
+        code: code,
+        first: w.due,
+        second: w.ticket,
+        third: 0,
+    }
+}
+
 fn with_entry(code: u32, e: Entry) -> PlainAnswer
     ensures { λ r. ⌜ r ≡ plainFrom code (e .due) (e .item) (e .ticket) ⌝ }
 {
@@ -72,6 +87,7 @@ fn deed_code(d: Deed) -> u32
         Deed::Marked => 4,
         Deed::Inserted => 5,
         Deed::HandedOut => 6,
+        Deed::TakenBack => 7,
     }
 }
 
@@ -84,6 +100,7 @@ pub fn plain(a: Answer) -> PlainAnswer
         Answer::Moved => with_value(1, 0),
         Answer::Waits(h) => with_value(2, h as u32),
         Answer::Empty => with_value(3, 0),
+        Answer::NotThere(w) => with_key(8, w),
         Answer::Did(d, e) => with_entry(deed_code(d), e),
     }
 }
@@ -97,6 +114,7 @@ pub fn is_refused(a: Answer) -> bool
         Answer::Moved => false,
         Answer::Waits(_) => false,
         Answer::Empty => false,
+        Answer::NotThere(_) => false,
         Answer::Did(_, _) => false,
     }
 }
@@ -110,6 +128,7 @@ pub fn is_waits(a: Answer) -> bool
         Answer::Moved => false,
         Answer::Waits(_) => true,
         Answer::Empty => false,
+        Answer::NotThere(_) => false,
         Answer::Did(_, _) => false,
     }
 }

@@ -12,10 +12,11 @@ pub struct StepView {
     pub own: u8,
     pub height: u8,
     pub ownNodeLock: u8,
-    // the node after the place at its level; whether its key is before the own node's; whether it
-    // is the tail
+    // the node after the place at its level; whether its key is before the operation's; whether it
+    // is the operation's, which a Remove alone asks; whether it is the tail
     pub next: u8,
     pub nextBeforeKey: bool,
+    pub nextHasKey: bool,
     pub nextIsTail: bool,
     // who holds the place's lock at the level
     pub placeLock: u8,

@@ -5,7 +5,7 @@ ghost use mathlib.Core.Bool.{_||_};
 ghost use lib.Dec.{ltb};
 ghost use Rattle.record.specs.Limits.{maxNumber};
 ghost use Rattle.rules.specs.Calls.{processorOf, turnRefusal, insertRefusal, numbersRefusal};
-ghost use Rattle.rules.specs.Calls.{nodeRefusal, refusalBy};
+ghost use Rattle.rules.specs.Calls.{keyRefusal, nodeRefusal, refusalBy};
 use record::limits::MAX_NUMBER;
 use record_check::outside;
 use rules::Call;
@@ -17,6 +17,7 @@ pub fn processor_of(c: Call) -> u32
         Call::Insert(p, _, _, _) => p,
         Call::DeleteMin(p) => p,
         Call::Relaxed(p) => p,
+        Call::Remove(p, _, _) => p,
         Call::Step(p) => p,
     }
 }
@@ -29,6 +30,7 @@ fn turn_refusal(c: Call, idle: bool) -> u8
         Call::Insert(_, _, _, _) => if idle { 0 } else { 33 },
         Call::DeleteMin(_) => if idle { 0 } else { 33 },
         Call::Relaxed(_) => if idle { 0 } else { 33 },
+        Call::Remove(_, _, _) => if idle { 0 } else { 33 },
         Call::Step(_) => if idle { 34 } else { 0 },
     }
 }
@@ -59,6 +61,18 @@ fn insert_refusal(due: u32, item: u32, height: u32, levels: u8) -> u8
     if unfit { 36 } else { 0 }
 }
 
+// 38 of a Remove's.
+fn key_refusal(due: u32, ticket: u32) -> u8
+    ensures { λ r. ⌜ r ≡ keyRefusal due ticket ⌝ }
+{
+    let far = MAX_NUMBER < due;
+    let unfit = outside(ticket, MAX_NUMBER);
+    if far {
+        return 38;
+    }
+    if unfit { 38 } else { 0 }
+}
+
 fn numbers_refusal(c: Call, levels: u8) -> u8
     ensures { λ r. ⌜ r ≡ numbersRefusal c levels ⌝ }
 {
@@ -66,6 +80,7 @@ fn numbers_refusal(c: Call, levels: u8) -> u8
         Call::Insert(_, due, item, height) => insert_refusal(due, item, height, levels),
         Call::DeleteMin(_) => 0,
         Call::Relaxed(_) => 0,
+        Call::Remove(_, due, ticket) => key_refusal(due, ticket),
         Call::Step(_) => 0,
     }
 }
@@ -96,6 +111,7 @@ pub fn node_refusal(c: Call, x: u8) -> u8
         Call::Insert(_, _, _, _) => if x == 0 { 37 } else { 0 },
         Call::DeleteMin(_) => 0,
         Call::Relaxed(_) => 0,
+        Call::Remove(_, _, _) => 0,
         Call::Step(_) => 0,
     }
 }

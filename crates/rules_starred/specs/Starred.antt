@@ -2,8 +2,8 @@
 -- definitions, and what document 01 expects. Run 2 is as document 02 changes it (W8), with its
 -- examples and the last count that is taken; the backlog along the printed run is document 02's
 -- (W2), and so are markers (W6), asked along that run and run 5, the holders of locks that are
--- waited for (W1), and the Relaxed Delete_Min (W3). proofs/Starred.antt has the one fact that
--- covers the table.
+-- waited for (W1), the Relaxed Delete_Min (W3) and the Remove (W5). proofs/Starred.antt has the one
+-- fact that covers the table.
 use Prim.Native.Nat.{ℕ, zero, suc, _-_}
 use mathlib.Core.Path.{_≡_}
 use mathlib.Core.List.{List, [], _∷_, _++_}
@@ -17,8 +17,8 @@ use Rattle.record_check.specs.Making.{made}
 use Rattle.record.specs.Queues.{freshQueue, processorAt}
 use Rattle.rules.specs.Answers.{reported}
 use Rattle.record_markers.specs.Markers.{reportedMarkers}
-use Rattle.rules.specs.Runs.{Turn, insert, deleteMin, relaxed, stepBy, backlog, markers, after}
-use Rattle.rules.specs.Runs.{afterAll, Reply, answered, counted, listed, reply}
+use Rattle.rules.specs.Runs.{Turn, insert, deleteMin, relaxed, remove, stepBy, backlog, markers}
+use Rattle.rules.specs.Runs.{after, afterAll, Reply, answered, counted, listed, reply}
 
 -- what is asked
 pub data Question : Type 0 where
@@ -67,8 +67,8 @@ pub record StarredRun : Type 0 where
 abbrev pub run : Question → List ℕ → StarredRun
 run question expected = record { asked = question; expected = expected }
 
--- the numbers that `reported` gives a begin, a move, a wait, EMPTY, a mark, an Insert's answer and
--- a hand-out
+-- the numbers that `reported` gives a begin, a move, a wait, EMPTY, a mark, an Insert's answer, a
+-- hand-out, an entry that is taken back and one that is not there
 abbrev began : ℕ
 began = 0
 
@@ -89,6 +89,12 @@ insertAnswered = 5
 
 abbrev handedOut : ℕ
 handedOut = 6
+
+abbrev takenBack : ℕ
+takenBack = 7
+
+abbrev notThere : ℕ
+notThere = 8
 
 -- the queue of the printed sheet, the queue of runs 4 to 6, and one of three processors and two
 -- nodes
@@ -167,6 +173,50 @@ relaxedLedBack =
     filed
     ++ (deleteMin 0 ∷ stepBy 0 ∷ stepBy 0 ∷ relaxed 1 ∷ stepBy 1 ∷ stepBy 0 ∷ stepBy 1
     ∷ (replicate 8 (stepBy 0) ++ (stepBy 1 ∷ [])))
+
+-- a Remove of the printed sheet's entry is at its mark; it has marked; and it has one step to go
+abbrev pub removeFinds : List Turn
+removeFinds = filed ++ (remove 0 7 1 ∷ replicate 3 (stepBy 0))
+
+abbrev pub removeMarks : List Turn
+removeMarks = removeFinds ++ (stepBy 0 ∷ [])
+
+abbrev pub removeGoes : List Turn
+removeGoes = removeMarks ++ replicate 11 (stepBy 0)
+
+abbrev pub removeEnds : List Turn
+removeEnds = removeGoes ++ (stepBy 0 ∷ [])
+
+-- a Remove begins before the Insert of its entry answers, and is at the test of the stamp
+abbrev pub removeComesEarly : List Turn
+removeComesEarly =
+    insert 0 7 42 1
+    ∷ (replicate 8 (stepBy 0) ++ (remove 1 7 1 ∷ stepBy 0 ∷ stepBy 1 ∷ stepBy 1 ∷ []))
+
+-- a Remove is at its mark, and a Delete_Min or another Remove has just marked the entry
+abbrev pub removeComesLate : List Turn
+removeComesLate =
+    filed
+    ++ (deleteMin 1 ∷ stepBy 1 ∷ stepBy 1 ∷ remove 0 7 1
+    ∷ (replicate 3 (stepBy 0) ++ (stepBy 1 ∷ [])))
+
+abbrev pub removesMeet : List Turn
+removesMeet =
+    filed
+    ++ (remove 0 7 1 ∷ remove 1 7 1
+    ∷ (replicate 3 (stepBy 0) ++ (replicate 3 (stepBy 1) ++ (stepBy 0 ∷ []))))
+
+-- an earlier entry was filed when a Remove had ended its Search, and the Remove is at its mark
+abbrev pub removeReadsOn : List Turn
+removeReadsOn =
+    filed
+    ++ (remove 2 7 1 ∷ stepBy 2 ∷ insert 1 5 8 1
+    ∷ (replicate 9 (stepBy 1) ++ replicate 3 (stepBy 2)))
+
+-- as ownMeets, with a Remove
+abbrev pub removeMeets : List Turn
+removeMeets =
+    filed ++ (insert 1 9 8 1 ∷ (replicate 4 (stepBy 1) ++ (remove 2 7 1 ∷ replicate 9 (stepBy 2))))
 
 -- so many times from one on, at each of them 0 and this count; and the times from one to another
 abbrev counts : ℕ → ℕ → ℕ → List ℕ
@@ -249,6 +299,41 @@ starred =
     ∷ run (answer single (relaxed 0 ∷ []) (stepBy 0)) (2 ∷ empty ∷ [])
     ∷ run (answer pair [] (relaxed 2)) (0 ∷ 32 ∷ [])
     ∷ run (answer pair (relaxed 0 ∷ []) (relaxed 0)) (1 ∷ 33 ∷ [])
+    -- 02, W5: the entry of the key is marked and taken back, and its node is to be had again
+    ∷ run (answer single removeFinds (stepBy 0)) (15 ∷ marked ∷ 7 ∷ 42 ∷ 1 ∷ [])
+    ∷ run (answer single removeGoes (stepBy 0)) (27 ∷ takenBack ∷ 7 ∷ 42 ∷ 1 ∷ [])
+    ∷ run (own single removeEnds (insert 0 8 43 1) 0) (1 ∷ began ∷ 28 ∷ [])
+    -- from the mark on it is in no backlog, and markers tells who has it
+    ∷ run (answer single removeFinds backlog) (14 ∷ 0 ∷ 1 ∷ [])
+    ∷ run (answer single removeMarks backlog) (15 ∷ 0 ∷ 0 ∷ [])
+    ∷ run (answer single removeMarks (markers (9 ∷ 9 ∷ []))) (15 ∷ 0 ∷ 1 ∷ 1 ∷ 0 ∷ [])
+    -- another ticket, another minute, no entry at all; and a ticket that is above the clock
+    ∷ run (answer single (filed ++ (remove 0 7 2 ∷ stepBy 0 ∷ stepBy 0 ∷ [])) (stepBy 0))
+    (14 ∷ notThere ∷ 7 ∷ 2 ∷ [])
+    ∷ run (answer single (filed ++ (remove 0 6 1 ∷ stepBy 0 ∷ [])) (stepBy 0))
+    (13 ∷ notThere ∷ 6 ∷ 1 ∷ [])
+    ∷ run (answer single (remove 0 0 1 ∷ stepBy 0 ∷ []) (stepBy 0)) (3 ∷ notThere ∷ 0 ∷ 1 ∷ [])
+    ∷ run (answer single filed (remove 0 7 999999)) (11 ∷ began ∷ 11 ∷ [])
+    -- an entry that was answered after the begin; one that a Delete_Min has marked, or another
+    -- Remove
+    ∷ run (answer pair removeComesEarly (stepBy 1)) (14 ∷ notThere ∷ 7 ∷ 1 ∷ [])
+    ∷ run (answer pair removeComesLate (stepBy 0)) (19 ∷ notThere ∷ 7 ∷ 1 ∷ [])
+    ∷ run (answer pair removesMeet (stepBy 1)) (20 ∷ notThere ∷ 7 ∷ 1 ∷ [])
+    -- what it has marked, a Delete_Min and a Relaxed one leave out
+    ∷ run (answer pair (removeMarks ++ (deleteMin 1 ∷ replicate 3 (stepBy 1))) (stepBy 1))
+    (20 ∷ empty ∷ [])
+    ∷ run (answer pair (removeMarks ++ (relaxed 1 ∷ replicate 2 (stepBy 1))) (stepBy 1))
+    (19 ∷ empty ∷ [])
+    -- it reads on over an earlier entry to the one of its key; it waits for 1 at L2
+    ∷ run (answer triple removeReadsOn (stepBy 2)) (26 ∷ marked ∷ 7 ∷ 42 ∷ 1 ∷ [])
+    ∷ run (answer triple removeMeets (stepBy 2)) (26 ∷ waiting ∷ 1 ∷ [])
+    -- 38 at its edges, behind 32 and 33
+    ∷ run (answer single [] (remove 0 999999 999999)) (1 ∷ began ∷ 1 ∷ [])
+    ∷ run (answer single [] (remove 0 1000000 1)) (0 ∷ 38 ∷ [])
+    ∷ run (answer single [] (remove 0 0 0)) (0 ∷ 38 ∷ [])
+    ∷ run (answer single [] (remove 0 0 1000000)) (0 ∷ 38 ∷ [])
+    ∷ run (answer single [] (remove 1 0 0)) (0 ∷ 32 ∷ [])
+    ∷ run (answer single (remove 0 0 1 ∷ []) (remove 0 0 0)) (1 ∷ 33 ∷ [])
     ∷ []
 
 -- every row's question has the expected result

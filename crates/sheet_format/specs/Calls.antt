@@ -12,23 +12,25 @@ use Rattle.rules.specs.Runs.{Turn, calls, backlog, markers, after, afterAll}
 use Rattle.sheet_format.specs.declared.events.HistoryLine.{HistoryLine}
 use Rattle.sheet_format.specs.declared.lines.SheetLine.{SheetLine}
 use Rattle.sheet_format.specs.Events.{callEvents}
-use Rattle.sheet_format.specs.Letters.{letterI, letterD, letterL}
+use Rattle.sheet_format.specs.Letters.{letterI, letterD, letterL, letterX}
 use Rattle.sheet_format.specs.Lines.{lineOf, partAt, lineCount}
 
--- what belongs to the letter of a line after the Q line: I, D, L, or S
-abbrev pub byLetter : {A : Type 0} → ℕ → A → A → A → A → A
-byLetter letter i d r s =
-    cond (eqb letter letterI) i (cond (eqb letter letterD) d (cond (eqb letter letterL) r s))
+-- what belongs to the letter of a line after the Q line: I, D, L, X, or S
+abbrev pub byLetter : {A : Type 0} → ℕ → A → A → A → A → A → A
+byLetter letter i d r x s =
+    cond (eqb letter letterI) i
+    (cond (eqb letter letterD) d (cond (eqb letter letterL) r (cond (eqb letter letterX) x s)))
 
 -- the call of a line
 abbrev pub callOf : SheetLine → Call
 callOf l =
     byLetter (l .letter) (call.Insert (l .first) (l .second) (l .third) (l .fourth))
-    (call.DeleteMin (l .first)) (call.Relaxed (l .first)) (call.Step (l .first))
+    (call.DeleteMin (l .first)) (call.Relaxed (l .first))
+    (call.Remove (l .first) (l .second) (l .third)) (call.Step (l .first))
 
 -- how often a line makes it, if none is refused
 abbrev pub callsOf : SheetLine → ℕ
-callsOf l = byLetter (l .letter) 1 1 1 (l .second)
+callsOf l = byLetter (l .letter) 1 1 1 1 (l .second)
 
 -- the calls of a line, n at most; a refused one is the last
 unfoldable pub lineCalls : Queue → SheetLine → ℕ → List Turn

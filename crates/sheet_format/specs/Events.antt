@@ -1,7 +1,7 @@
 -- The history (01, sheet and history): a line for each begin, each refusal and each answer that is
 -- no move and no wait. Its five numbers are the time, the processor and three more: what an entry
--- holds for A, M and T; an Insert's due, item and height for I; 0 for D, L and E; the number of
--- the refusal for R, at the clock as it stands.
+-- holds for A, M, T and U; an Insert's due, item and height for I; a Remove's due and ticket, and
+-- 0, for X and N; 0 for D, L and E; the number of the refusal for R, at the clock as it stands.
 use Prim.Native.Nat.{ℕ, _+_}
 use mathlib.Core.Bool.{Bool, cond}
 use mathlib.Core.List.{List, [], _∷_, _++_}
@@ -16,7 +16,8 @@ use Rattle.rules.specs.Answers.{reported}
 use Rattle.rules.specs.Calls.{processorOf}
 use Rattle.sheet_format.specs.declared.events.HistoryLine.{HistoryLine}
 use Rattle.sheet_format.specs.Letters.{noLetter, letterA, letterD, letterE, letterI, letterL}
-use Rattle.sheet_format.specs.Letters.{letterM, letterR, letterS, letterT}
+use Rattle.sheet_format.specs.Letters.{letterM, letterN, letterR, letterS, letterT, letterU}
+use Rattle.sheet_format.specs.Letters.{letterX}
 use Rattle.sheet_format.specs.Lines.{lineLengthFor, lineBytes}
 
 -- ---- what a call prints
@@ -26,6 +27,7 @@ abbrev pub callLetter : Call → ℕ
 callLetter (call.Insert p due item height) = letterI
 callLetter (call.DeleteMin p) = letterD
 callLetter (call.Relaxed p) = letterL
+callLetter (call.Remove p due ticket) = letterX
 callLetter (call.Step p) = letterS
 
 -- the numbers of a call behind its processor
@@ -33,13 +35,16 @@ abbrev pub callValues : Call → List ℕ
 callValues (call.Insert p due item height) = due ∷ item ∷ height ∷ []
 callValues (call.DeleteMin p) = []
 callValues (call.Relaxed p) = []
+callValues (call.Remove p due ticket) = due ∷ ticket ∷ []
 callValues (call.Step p) = []
 
 -- the letter in the history, by the answer's number: a begin's own, none for a move and a wait; a
 -- number that is not here is a refusal's
 abbrev pub letterFor : Call → ℕ → ℕ
 letterFor c n =
-    getD (callLetter c ∷ noLetter ∷ noLetter ∷ letterE ∷ letterM ∷ letterA ∷ letterT ∷ []) n letterR
+    getD
+    (callLetter c ∷ noLetter ∷ noLetter ∷ letterE ∷ letterM ∷ letterA ∷ letterT ∷ letterU ∷ letterN
+    ∷ []) n letterR
 
 -- the numbers behind the processor: of a begin its own, of a refusal its number, else the answer's
 abbrev pub valuesFor : Call → Report → List ℕ

@@ -38,6 +38,9 @@ letterL = 76
 abbrev pub letterM : ℕ
 letterM = 77
 
+abbrev pub letterN : ℕ
+letterN = 78
+
 abbrev pub letterQ : ℕ
 letterQ = 81
 
@@ -49,6 +52,12 @@ letterS = 83
 
 abbrev pub letterT : ℕ
 letterT = 84
+
+abbrev pub letterU : ℕ
+letterU = 85
+
+abbrev pub letterX : ℕ
+letterX = 88
 
 -- the largest number of seven columns
 abbrev pub maxField : ℕ
@@ -68,6 +77,8 @@ letterRules =
     (maxField ∷ 0 ∷ 0 ∷ 0 ∷ [])
     ∷ rule letterL (true ∷ false ∷ false ∷ false ∷ []) (0 ∷ 0 ∷ 0 ∷ 0 ∷ [])
     (maxField ∷ 0 ∷ 0 ∷ 0 ∷ [])
+    ∷ rule letterX (true ∷ true ∷ true ∷ false ∷ []) (0 ∷ 0 ∷ 0 ∷ 0 ∷ [])
+    (maxField ∷ maxField ∷ maxField ∷ 0 ∷ [])
     ∷ rule letterS (true ∷ true ∷ false ∷ false ∷ []) (0 ∷ 1 ∷ 0 ∷ 0 ∷ [])
     (maxField ∷ 999 ∷ 0 ∷ 0 ∷ [])
     ∷ []

@@ -19,6 +19,8 @@ pub const LETTER_L: u8 = 76;
 
 pub const LETTER_M: u8 = 77;
 
+pub const LETTER_N: u8 = 78;
+
 pub const LETTER_Q: u8 = 81;
 
 pub const LETTER_R: u8 = 82;
@@ -26,6 +28,10 @@ pub const LETTER_R: u8 = 82;
 pub const LETTER_S: u8 = 83;
 
 pub const LETTER_T: u8 = 84;
+
+pub const LETTER_U: u8 = 85;
+
+pub const LETTER_X: u8 = 88;
 
 // A number has so many columns, and is at most this.
 pub const WIDTH: usize = 7;

@@ -15,6 +15,7 @@ use crate::letters::LETTER_I;
 use crate::letters::LETTER_L;
 use crate::letters::LETTER_Q;
 use crate::letters::LETTER_S;
+use crate::letters::LETTER_X;
 use crate::letters::LINE;
 use crate::letters::LINE_FEED;
 use crate::letters::MAX_FIELD;
@@ -43,7 +44,7 @@ pub enum Reading {
 }
 
 // How many letters a sheet has.
-const LETTERS: usize = 5;
+const LETTERS: usize = 6;
 
 // Where the fields of a line start.
 const FIRST: usize = 1;
@@ -58,7 +59,7 @@ const FOURTH: usize = THIRD + WIDTH;
 const END: usize = LINE - 1;
 
 // The letters of a sheet: `letterRules` of specs/Letters.antt.
-const RULES: [LetterRule; 5] = [
+const RULES: [LetterRule; 6] = [
     LetterRule {
         letter: LETTER_Q,
         used: [true, true, true, false],
@@ -82,6 +83,12 @@ const RULES: [LetterRule; 5] = [
         used: [true, false, false, false],
         low: [0, 0, 0, 0],
         high: [MAX_FIELD, 0, 0, 0],
+    },
+    LetterRule {
+        letter: LETTER_X,
+        used: [true, true, true, false],
+        low: [0, 0, 0, 0],
+        high: [MAX_FIELD, MAX_FIELD, MAX_FIELD, 0],
     },
     LetterRule {
         letter: LETTER_S,
@@ -140,7 +147,7 @@ fn keeps_rule(rule: LetterRule, a: u32, b: u32, c: u32, d: u32) -> bool
 // The same of the rule at this place of the table. Each rule is named by itself, so that the
 // compiler puts its bounds into the tests; a rule at any place it would copy for each line.
 fn numbers_keep(index: usize, a: u32, b: u32, c: u32, d: u32) -> bool
-    requires { ⌜ index < 5 ⌝ }
+    requires { ⌜ index < 6 ⌝ }
     ensures { λ r. ⌜ r ≡ numbersKeep (getD letterRules index noRule) (a ∷ b ∷ c ∷ d ∷ []) ⌝ }
 {
     if index == 0 {
@@ -159,7 +166,11 @@ fn numbers_keep(index: usize, a: u32, b: u32, c: u32, d: u32) -> bool
         let rule = RULES[3];
         return keeps_rule(rule, a, b, c, d);
     }
-    let rule = RULES[4];
+    if index == 4 {
+        let rule = RULES[4];
+        return keeps_rule(rule, a, b, c, d);
+    }
+    let rule = RULES[5];
     keeps_rule(rule, a, b, c, d)
 }
 

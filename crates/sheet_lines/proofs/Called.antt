@@ -38,7 +38,7 @@ module _ (b : List ℕ) (s : Sound b) where
   pub long-enough : 7 ≤ length b
   long-enough = omega (arith, s .long)
 
-  pub short-enough : length b ≤ 8561
+  pub short-enough : length b ≤ 8705
   unfolding queueIn
   short-enough =
       let z = valid-facts (queueIn b) (s .passes) .sizes in

@@ -7,22 +7,23 @@ use native.Mathlib.Omega.{arith}
 use lib.Dec.{eqb}
 use lib.ListN.{getD}
 use borrow.Author.Tests.{eq-eqb, ne-eqb}
+use Rattle.laws.proofs.Booleans.{cond-elim}
 use Rattle.record.specs.Report.{Report, report}
 use Rattle.rules.specs.declared.calls.Call.{Call}
-use Rattle.rules.specs.declared.calls.Call.the-variants as call
 use Rattle.rules.specs.Calls.{processorOf}
 use Rattle.sheet_format.specs.declared.events.HistoryLine.{HistoryLine}
 use Rattle.sheet_format.specs.declared.lines.SheetLine.{SheetLine}
-use Rattle.sheet_format.specs.Calls.{callOf}
+use Rattle.sheet_format.specs.Calls.{byLetter, callOf}
 use Rattle.sheet_format.specs.Events.{callLetter, callValues, letterFor, valuesFor, event, eventFor}
-use Rattle.sheet_format.specs.Letters.{letterD, letterI, letterL, letterR}
+use Rattle.sheet_format.specs.Letters.{letterD, letterI, letterL, letterR, letterX}
 
 -- the letters, with that of a begin first
 abbrev pub letters : ℕ → List ℕ
-letters own = own ∷ 0 ∷ 0 ∷ 69 ∷ 77 ∷ 65 ∷ 84 ∷ []
+letters own = own ∷ 0 ∷ 0 ∷ 69 ∷ 77 ∷ 65 ∷ 84 ∷ 85 ∷ 78 ∷ []
 
 -- a number of the table, and one past its end
-pub known-letter : (own n : ℕ) → (n ≡ 0 → ⊥) → n < 7 → getD (letters 0) n 0 ≡ getD (letters own) n 82
+pub known-letter :
+    (own n : ℕ) → (n ≡ 0 → ⊥) → n < 9 → getD (letters 0) n 0 ≡ getD (letters own) n 82
 known-letter own zero z h = absurd (z refl)
 known-letter own (suc zero) z h = refl
 known-letter own (suc (suc zero)) z h = refl
@@ -30,26 +31,28 @@ known-letter own (suc (suc (suc zero))) z h = refl
 known-letter own (suc (suc (suc (suc zero)))) z h = refl
 known-letter own (suc (suc (suc (suc (suc zero))))) z h = refl
 known-letter own (suc (suc (suc (suc (suc (suc zero)))))) z h = refl
-known-letter own (suc (suc (suc (suc (suc (suc (suc n))))))) z h = absurd (omega arith)
+known-letter own (suc (suc (suc (suc (suc (suc (suc zero))))))) z h = refl
+known-letter own (suc (suc (suc (suc (suc (suc (suc (suc zero)))))))) z h = refl
+known-letter own (suc (suc (suc (suc (suc (suc (suc (suc (suc n))))))))) z h = absurd (omega arith)
+
+-- what is so for each letter is so for any
+by-letter :
+    {A : Type 0} (P : A → Type 0) (letter : ℕ) {i d r x s : A} →
+    P i → P d → P r → P x → P s → P (byLetter letter i d r x s)
+by-letter P letter a b c e f =
+    cond-elim P (eqb letter letterI) _ _ a
+    (cond-elim P (eqb letter letterD) _ _ b
+    (cond-elim P (eqb letter letterL) _ _ c
+    (cond-elim P (eqb letter letterX) _ _ e f)))
 
 module _ (l : SheetLine) where
   abbrev c : Call
   c = callOf l
 
   -- its call is of the line's processor
-  line-processor : processorOf c ≡ l .first
+  pub line-processor : processorOf c ≡ l .first
   line-processor =
-      by (eqb (l .letter) letterI) (eqb (l .letter) letterD) (eqb (l .letter) letterL)
-    where
-      by : (i d x : Bool) →
-          processorOf
-          (cond i (call.Insert (l .first) (l .second) (l .third) (l .fourth))
-          (cond d (call.DeleteMin (l .first))
-          (cond x (call.Relaxed (l .first)) (call.Step (l .first))))) ≡ l .first
-      by true d x = refl
-      by false true x = refl
-      by false false true = refl
-      by false false false = refl
+      by-letter (λ (x : Call). processorOf x ≡ l .first) (l .letter) refl refl refl refl refl
 
   module _ (time : ℕ) where
     -- with these numbers behind the processor
@@ -67,26 +70,29 @@ module _ (l : SheetLine) where
         ≡ eventFor c time (report 0 [])
     insert-line e = rw (eq-eqb (l .letter) letterI e) refl
 
-    no-values : (l .letter ≡ letterI → ⊥) → callValues c ≡ []
-    no-values n =
-        rw (ne-eqb (l .letter) letterI n)
-        (by (eqb (l .letter) letterD) (eqb (l .letter) letterL))
-      where
-        by : (d x : Bool) →
-            callValues
-            (cond d (call.DeleteMin (l .first))
-            (cond x (call.Relaxed (l .first)) (call.Step (l .first)))) ≡ []
-        by true x = refl
-        by false true = refl
-        by false false = refl
+    pub remove-line :
+        (l .letter ≡ letterX) →
+        event letterX time (l .first) (l .second) (l .third) 0 ≡ eventFor c time (report 0 [])
+    remove-line e = rw e refl
+
+    abbrev Bare : Call → Type 0
+    Bare x = callValues x ≡ []
+
+    no-values : (l .letter ≡ letterI → ⊥) → (l .letter ≡ letterX → ⊥) → Bare c
+    no-values n m =
+        rw (ne-eqb (l .letter) letterI n, ne-eqb (l .letter) letterX m)
+        (cond-elim Bare (eqb (l .letter) letterD) _ _ refl
+        (cond-elim Bare (eqb (l .letter) letterL) _ _ refl refl))
 
     pub walk-line :
-        (letter : ℕ) → letter ≡ callLetter c → (l .letter ≡ letterI → ⊥) →
+        (letter : ℕ) → letter ≡ callLetter c →
+        (l .letter ≡ letterI → ⊥) →
+        (l .letter ≡ letterX → ⊥) →
         event letter time (l .first) 0 0 0 ≡ eventFor c time (report 0 [])
-    walk-line letter e n =
+    walk-line letter e n m =
         ap (λ (x : ℕ). event x time (l .first) 0 0 0) e
         ∙ with-processor (callLetter c) []
-        ∙ ap (lineWith (callLetter c) (processorOf c)) (sym (no-values n))
+        ∙ ap (lineWith (callLetter c) (processorOf c)) (sym (no-values n m))
 
     module _ (r : Report) where
       pub begun-line : r .number ≡ 0 → eventFor c time (report 0 []) ≡ eventFor c time r

@@ -26,7 +26,7 @@ use Rattle.rules.specs.Answers.{refused, isRefused, isWaits}
 use Rattle.rules.specs.declared.calls.Call.{Call}
 use Rattle.rules.specs.declared.calls.Call.the-variants as call
 use Rattle.rules.specs.Calls.{readingPlace, stepViewOf, stepDecision, decisionOf, refusalOf}
-use Rattle.rules.specs.Calls.{calledValid, called}
+use Rattle.rules.specs.Calls.{processorOf, calledValid, called}
 use Rattle.rules.specs.Runs.{Turn}
 use Rattle.rules.proofs.Inner.{call-inner}
 use Rattle.rules.proofs.Allowed.{Allowed, allowed, busy-steps}
@@ -37,7 +37,6 @@ use Rattle.sheet_format.specs.declared.events.HistoryLine.{HistoryLine}
 use Rattle.sheet_format.specs.declared.lines.SheetLine.{SheetLine}
 use Rattle.sheet_format.specs.Calls.{callOf, callsPrint}
 use Rattle.sheet_format.specs.Events.{isSilent, callEvents}
-use Rattle.sheet_format.specs.Letters.{letterD, letterI, letterL}
 use Rattle.image.specs.Image.{imageOf, queueIn, lengthOf, Sound}
 use Rattle.image.specs.Numbers.{number32}
 use Rattle.image.specs.OneToOne.{Trim}
@@ -51,6 +50,7 @@ use Rattle.rules.proofs.ValidFacts.{valid-facts}
 use Rattle.sheet_lines.specs.Waiting.{waitsLeft, later}
 use Rattle.image_parts.proofs.Readings.{clock-is}
 use Rattle.sheet_lines.proofs.Called.{callOn, call-kept, call-queue, clock-high}
+use Rattle.sheet_lines.proofs.Printings.{line-processor}
 use Rattle.sheet_lines.proofs.Histories.{leftOf, Going, oneMore, goes-on, prints-on}
 use Rattle.sheet_lines.proofs.States.{Written, Within, call-silent}
 
@@ -81,22 +81,14 @@ nothing-changes q p h a =
 
 -- the line's next call waits, whatever the clock is below its end
 pub record Waiting (l : SheetLine) (q : Queue) : Type 0 where
-  pub no-insert : eqb (l .letter) letterI ≡ false
-  pub no-delete : eqb (l .letter) letterD ≡ false
-  pub no-relaxed : eqb (l .letter) letterL ≡ false
+  pub steps : callOf l ≡ call.Step (l .first)
   pub known : leb (q .processorCount) (l .first) ≡ false
   pub busy : isIdle (processorAt q (l .first) .stage) ≡ false
   pub stands : isWaits (stepDecision q (processorAt q (l .first)) .answer) ≡ true
 
 still : (l : SheetLine) (q : Queue) (m : ℕ) → Waiting l q → Waiting l (later q m)
-still l q m w = record {
-  no-insert = w .no-insert;
-  no-delete = w .no-delete;
-  no-relaxed = w .no-relaxed;
-  known = w .known;
-  busy = w .busy;
-  stands = w .stands;
-}
+still l q m w =
+    record { steps = w .steps; known = w .known; busy = w .busy; stands = w .stands }
 
 -- for whom it waits
 abbrev holding : (l : SheetLine) (q : Queue) → Waiting l q → ℕ
@@ -110,14 +102,12 @@ once l q w h =
     let c = processorAt q (l .first) in
     let a = readingPlace (c .stage) in
     let same = stands (stepViewOf q c a) (c .stage) (w .stands) .same in
-    rw (w .no-insert)
-    (rw (w .no-delete)
-    (rw (w .no-relaxed)
-    (rw (lt-leb maxNumber (q .clock) h)
+    ap (calledValid q) (w .steps)
+    ∙ rw (lt-leb maxNumber (q .clock) h)
     (rw (w .known)
     (rw (w .busy)
     (ap (λ (d : Decision). accepted q (l .first) d) same
-    ∙ nothing-changes q (l .first) (holding l q w) a))))))
+    ∙ nothing-changes q (l .first) (holding l q w) a)))
 
 later-none : (q : Queue) → q ≡ later q 0
 later-none q =
@@ -193,15 +183,18 @@ abbrev Moves : Outcome → Type 0
 Moves o = isWaits (o .answer) ≡ false
 
 module _ (q : Queue) where
-  insert-moves : (p due item height : ℕ) → Moves (calledValid q (call.Insert p due item height))
-  insert-moves p due item height =
-      cond-elim Moves (eqb (refusalOf q (call.Insert p due item height)) 0) _ _ refl refl
+  begin-moves : (c : Call) → isWaits (decisionOf q c .answer) ≡ false → Moves (calledValid q c)
+  begin-moves c d = cond-elim Moves (eqb (refusalOf q c) 0) _ _ d refl
 
-  delete-moves : (p : ℕ) → Moves (calledValid q (call.DeleteMin p))
-  delete-moves p = cond-elim Moves (eqb (refusalOf q (call.DeleteMin p)) 0) _ _ refl refl
-
-  relaxed-moves : (p : ℕ) → Moves (calledValid q (call.Relaxed p))
-  relaxed-moves p = cond-elim Moves (eqb (refusalOf q (call.Relaxed p)) 0) _ _ refl refl
+  waits-steps :
+      (c : Call) → isWaits (calledValid q c .answer) ≡ true → c ≡ call.Step (processorOf c)
+  waits-steps (call.Insert p due item height) h =
+      no (sym (begin-moves (call.Insert p due item height) refl) ∙ h)
+  waits-steps (call.DeleteMin p) h = no (sym (begin-moves (call.DeleteMin p) refl) ∙ h)
+  waits-steps (call.Relaxed p) h = no (sym (begin-moves (call.Relaxed p) refl) ∙ h)
+  waits-steps (call.Remove p due ticket) h =
+      no (sym (begin-moves (call.Remove p due ticket) refl) ∙ h)
+  waits-steps (call.Step p) h = refl
 
   waited-step :
       (p : ℕ) → isWaits (calledValid q (call.Step p) .answer) ≡ true →
@@ -220,39 +213,22 @@ module _ (q : Queue) where
       go false z e = no e
 
 module _ (l : SheetLine) (q : Queue) where
-  waiting-by :
-      (i d x : Bool) →
-      eqb (l .letter) letterI ≡ i →
-      eqb (l .letter) letterD ≡ d →
-      eqb (l .letter) letterL ≡ x →
-      isWaits
-      (calledValid q (cond i (call.Insert (l .first) (l .second) (l .third) (l .fourth))
-      (cond d (call.DeleteMin (l .first))
-      (cond x (call.Relaxed (l .first)) (call.Step (l .first))))) .answer)
-      ≡ true →
-      (q .clock < maxNumber) × Waiting l q
-  waiting-by true d x e f g h =
-      no (sym (insert-moves q (l .first) (l .second) (l .third) (l .fourth)) ∙ h)
-  waiting-by false true x e f g h = no (sym (delete-moves q (l .first)) ∙ h)
-  waiting-by false false true e f g h = no (sym (relaxed-moves q (l .first)) ∙ h)
-  waiting-by false false false e f g h =
-      let p = waited-step q (l .first) h in
+  waiting : isWaits (callOn l q .answer) ≡ true → (q .clock < maxNumber) × Waiting l q
+  waiting h =
+      let steps : callOf l ≡ call.Step (l .first) =
+      waits-steps q (callOf l) h ∙ ap call.Step (line-processor l) in
+      let p =
+      waited-step q (l .first)
+      (sym (ap (λ (c : Call). isWaits (calledValid q c .answer)) steps) ∙ h) in
       let A = p .0 in (
         A .ticks,
         record {
-          no-insert = e;
-          no-delete = f;
-          no-relaxed = g;
+          steps = steps;
           known = lt-leb _ _ (A .here);
           busy = busy-steps _ (A .turn);
           stands = p .1;
         },
       )
-
-  waiting : isWaits (callOn l q .answer) ≡ true → (q .clock < maxNumber) × Waiting l q
-  waiting =
-      waiting-by (eqb (l .letter) letterI) (eqb (l .letter) letterD) (eqb (l .letter) letterL) refl
-      refl refl
 
   -- it prints nothing, and does not end its line
   waits-silent : (a : Answer) → isWaits a ≡ true → isSilent (callOf l) a ≡ true
@@ -261,6 +237,7 @@ module _ (l : SheetLine) (q : Queue) where
   waits-silent ans.Moved h = no h
   waits-silent (ans.Waits p) h = refl
   waits-silent ans.Empty h = no h
+  waits-silent (ans.NotThere w) h = no h
   waits-silent (ans.Did d e) h = no h
 
   waits-left : (a : Answer) (n : ℕ) → isWaits a ≡ true → n ≡ cond (isRefused a) 0 n
@@ -269,6 +246,7 @@ module _ (l : SheetLine) (q : Queue) where
   waits-left ans.Moved n h = no h
   waits-left (ans.Waits p) n h = refl
   waits-left ans.Empty n h = no h
+  waits-left (ans.NotThere w) n h = no h
   waits-left (ans.Did d e) n h = no h
 
 -- no more than are left, and no more than the clock takes

@@ -8,6 +8,7 @@ ghost use Rattle.sheet_format.specs.Calls.{callOf, callsOf};
 use image_begin::begin_delete_min_at;
 use image_begin::begin_insert_at;
 use image_begin::begin_relaxed_at;
+use image_begin::begin_remove_at;
 use image_step::step_at;
 use rules::Answer;
 use rules::answers::is_refused;
@@ -15,6 +16,7 @@ use sheet_format::SheetLine;
 use sheet_format::letters::LETTER_D;
 use sheet_format::letters::LETTER_I;
 use sheet_format::letters::LETTER_L;
+use sheet_format::letters::LETTER_X;
 
 // How many calls a line makes, if none is refused: an S line its steps, any other one.
 pub fn calls_of(l: SheetLine) -> u32
@@ -25,6 +27,7 @@ pub fn calls_of(l: SheetLine) -> u32
         LETTER_I => 1,
         LETTER_D => 1,
         LETTER_L => 1,
+        LETTER_X => 1,
         _ => l.second,
     }
 }
@@ -43,6 +46,9 @@ pub fn call_line(image: &mut [u8], l: SheetLine) -> Answer
     }
     if l.letter == LETTER_L {
         return begin_relaxed_at(image, l.first);
+    }
+    if l.letter == LETTER_X {
+        return begin_remove_at(image, l.first, l.second, l.third);
     }
     step_at(image, l.first)
 }

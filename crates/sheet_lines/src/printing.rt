@@ -16,13 +16,16 @@ use sheet_format::letters::LETTER_E;
 use sheet_format::letters::LETTER_I;
 use sheet_format::letters::LETTER_L;
 use sheet_format::letters::LETTER_M;
+use sheet_format::letters::LETTER_N;
 use sheet_format::letters::LETTER_R;
 use sheet_format::letters::LETTER_S;
 use sheet_format::letters::LETTER_T;
+use sheet_format::letters::LETTER_U;
+use sheet_format::letters::LETTER_X;
 use sheet_format::letters::NO_LETTER;
 
 // The letters by the answer's number. That of a begin, 0, is the line's own.
-const LETTERS: [u8; 7] = [
+const LETTERS: [u8; 9] = [
     NO_LETTER,
     NO_LETTER,
     NO_LETTER,
@@ -30,9 +33,11 @@ const LETTERS: [u8; 7] = [
     LETTER_M,
     LETTER_A,
     LETTER_T,
+    LETTER_U,
+    LETTER_N,
 ];
 
-const KNOWN: u32 = 7;
+const KNOWN: u32 = 9;
 
 fn own_letter(l: SheetLine) -> u8
     ensures { λ r. ⌜ r ≡ callLetter (callOf l) ⌝ }
@@ -42,6 +47,7 @@ fn own_letter(l: SheetLine) -> u8
         LETTER_I => LETTER_I,
         LETTER_D => LETTER_D,
         LETTER_L => LETTER_L,
+        LETTER_X => LETTER_X,
         _ => LETTER_S,
     }
 }
@@ -89,6 +95,9 @@ fn begun_event(l: SheetLine, time: u32) -> HistoryLine
 {
     if l.letter == LETTER_I {
         return event(LETTER_I, time, l.first, l.second, l.third, l.fourth);
+    }
+    if l.letter == LETTER_X {
+        return event(LETTER_X, time, l.first, l.second, l.third, 0);
     }
     let letter = own_letter(l);
     event(letter, time, l.first, 0, 0, 0)

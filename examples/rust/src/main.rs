@@ -1,7 +1,8 @@
 //! Workers of one process share a queue. They are woken in a random order that
 //! follows from a seed, and each makes one call when it is woken. The last of
 //! them warms a cache: it takes withdrawals by Relaxed Delete_Mins, which need
-//! not wait until the filing is answered.
+//! not wait until the filing is answered. Now and then a studio renews, and the
+//! worker that filed its withdrawal takes it back, if nobody has taken it.
 //!
 //!     darthog-workers SEED [SHEET]
 //!
@@ -27,6 +28,8 @@ struct Run {
     queue: Queue,
     levels: u32,
     busy: Vec<bool>,
+    /// What each worker has filed last, until its studio renews.
+    filed: Vec<Option<Entry>>,
     /// What each worker has marked last.
     marked: Vec<Option<Entry>>,
     history: History,
@@ -41,6 +44,7 @@ impl Run {
             queue: Queue::new(processors, entries, levels)?,
             levels,
             busy: vec![false; processors as usize],
+            filed: vec![None; processors as usize],
             marked: vec![None; processors as usize],
             history: History(String::new()),
             waits: Vec::new(),
@@ -55,6 +59,8 @@ impl Run {
             self.bad_call(worker, random);
         } else if self.busy[worker as usize] {
             self.step(worker);
+        } else if random.one_in(6) {
+            self.renew(worker);
         } else if random.one_in(2) {
             self.insert(worker, random.below(50), 1 + random.below(999_999), random);
         } else {
@@ -65,7 +71,8 @@ impl Run {
     /// A call that is mostly refused.
     fn bad_call(&mut self, worker: u32, random: &mut Random) {
         let unknown = self.busy.len() as u32 + random.below(100);
-        match random.below(7) {
+        match random.below(8) {
+            7 => self.remove(worker, 5, 1_000_000 * random.below(2)),
             0 => self.step(unknown),
             1 => self.step(worker),
             2 => self.take(worker),
@@ -90,6 +97,25 @@ impl Run {
             Ok(time) => {
                 self.busy[worker as usize] = true;
                 self.history.line('I', time, worker, [due, item, height]);
+            }
+            Err(refusal) => self.refused(worker, refusal),
+        }
+    }
+
+    /// Takes back what the worker has filed last; where that was taken back
+    /// already, or nothing was filed, it looks for a ticket that is not there.
+    fn renew(&mut self, worker: u32) {
+        let filed = self.filed[worker as usize].take();
+        let (due, ticket) = filed.map_or((7, 999_999), |entry| (entry.due, entry.ticket));
+        self.remove(worker, due, ticket);
+    }
+
+    fn remove(&mut self, worker: u32, due: u32, ticket: u32) {
+        self.sheet.line('X', [worker, due, ticket, 0]);
+        match self.queue.begin_remove(worker, due, ticket) {
+            Ok(time) => {
+                self.busy[worker as usize] = true;
+                self.history.line('X', time, worker, [due, ticket, 0]);
             }
             Err(refusal) => self.refused(worker, refusal),
         }
@@ -130,16 +156,25 @@ impl Run {
                 self.busy[worker as usize] = false;
                 self.history.line('E', time, worker, [0; 3]);
             }
+            Ok(Step::NotThere { due, ticket }) => {
+                self.busy[worker as usize] = false;
+                self.history.line('N', time, worker, [due, ticket, 0]);
+            }
             Ok(Step::Inserted(entry)) => {
-                self.busy[worker as usize] = false;
-                self.history.entry('A', time, worker, entry);
+                self.filed[worker as usize] = Some(entry);
+                self.ends('A', worker, entry);
             }
-            Ok(Step::HandedOut(entry)) => {
-                self.busy[worker as usize] = false;
-                self.history.entry('T', time, worker, entry);
-            }
+            Ok(Step::HandedOut(entry)) => self.ends('T', worker, entry),
+            Ok(Step::TakenBack(entry)) => self.ends('U', worker, entry),
             Err(refusal) => self.refused(worker, refusal),
         }
+    }
+
+    /// The worker's operation ends with this entry.
+    fn ends(&mut self, letter: char, worker: u32, entry: Entry) {
+        self.busy[worker as usize] = false;
+        self.history
+            .entry(letter, self.queue.clock(), worker, entry);
     }
 
     fn refused(&mut self, worker: u32, refusal: Refusal) {

@@ -41,10 +41,12 @@ pub enum Call {
     Markers(u32),
     /// The begin of a Relaxed Delete_Min.
     Relaxed(u32),
+    /// The begin of a Remove: processor, due, ticket.
+    Remove(u32, u32, u32),
 }
 
 /// The entries that are lent bytes, as counts name them.
-pub const ENTRIES: [&str; 7] = [
+pub const ENTRIES: [&str; 8] = [
     "make",
     "insert",
     "delete_min",
@@ -52,6 +54,7 @@ pub const ENTRIES: [&str; 7] = [
     "backlog",
     "markers",
     "relaxed",
+    "remove",
 ];
 
 impl Call {
@@ -65,6 +68,7 @@ impl Call {
             Call::Backlog => ENTRIES[4],
             Call::Markers(_) => ENTRIES[5],
             Call::Relaxed(_) => ENTRIES[6],
+            Call::Remove(..) => ENTRIES[7],
         }
     }
 
@@ -86,6 +90,11 @@ impl Call {
             } => Call::Insert(cut(processor), cut(due), cut(item), cut(height)),
             ReferenceCall::DeleteMin { processor } => Call::DeleteMin(cut(processor)),
             ReferenceCall::Relaxed { processor } => Call::Relaxed(cut(processor)),
+            ReferenceCall::Remove {
+                processor,
+                due,
+                ticket,
+            } => Call::Remove(cut(processor), cut(due), cut(ticket)),
             ReferenceCall::Step { processor } => Call::Step(cut(processor)),
             ReferenceCall::Backlog => Call::Backlog,
             ReferenceCall::Markers { room } => Call::Markers(cut(room as u64)),
@@ -102,6 +111,9 @@ impl Call {
             }
             Call::DeleteMin(processor) => Some([raw::CALL_DELETE_MIN, processor, 0, 0, 0]),
             Call::Relaxed(processor) => Some([raw::CALL_RELAXED, processor, 0, 0, 0]),
+            Call::Remove(processor, due, ticket) => {
+                Some([raw::CALL_REMOVE, processor, due, ticket, 0])
+            }
             Call::Step(processor) => Some([raw::CALL_STEP, processor, 0, 0, 0]),
         }
     }
@@ -121,6 +133,11 @@ impl Call {
             },
             Call::Relaxed(processor) => ReferenceCall::Relaxed {
                 processor: u64::from(processor),
+            },
+            Call::Remove(processor, due, ticket) => ReferenceCall::Remove {
+                processor: u64::from(processor),
+                due: u64::from(due),
+                ticket: u64::from(ticket),
             },
             Call::Step(processor) => ReferenceCall::Step {
                 processor: u64::from(processor),
@@ -182,6 +199,9 @@ impl Lent {
                 }
                 Call::DeleteMin(p) => raw::darthog_begin_delete_min(image, length, p),
                 Call::Relaxed(p) => raw::darthog_begin_relaxed(image, length, p),
+                Call::Remove(p, due, ticket) => {
+                    raw::darthog_begin_remove(image, length, p, due, ticket)
+                }
                 Call::Step(p) => raw::darthog_step(image, length, p),
                 Call::Backlog => raw::darthog_backlog(image, length),
                 Call::Markers(room) => {
@@ -437,17 +457,18 @@ impl Counts {
 }
 
 /// Every code that an entry on lent bytes can give back.
-pub const ALL_CODES: [(&str, &[u32]); 7] = [
+pub const ALL_CODES: [(&str, &[u32]); 8] = [
     ("make", &[0, 11, 12, 13, 21]),
     ("insert", &[0, 21, 31, 32, 33, 35, 39, 36, 37]),
     ("delete_min", &[0, 21, 31, 32, 33]),
-    ("step", &[1, 2, 3, 4, 5, 6, 21, 31, 32, 34]),
+    ("step", &[1, 2, 3, 4, 5, 6, 7, 8, 21, 31, 32, 34]),
     ("backlog", &[0, 21]),
     ("markers", &[0, 21, 43]),
     ("relaxed", &[0, 21, 31, 32, 33]),
+    ("remove", &[0, 21, 31, 32, 33, 38]),
 ];
 
-/// A number at or past an edge: of processors, sizes, dues, items, heights.
+/// A number at or past an edge: of processors, sizes, dues, items, tickets, heights.
 pub fn edge(random: &mut Random) -> u32 {
     let edges = [
         0,
@@ -520,9 +541,10 @@ pub fn any_call(random: &mut Random, queue: &Queue) -> Call {
         sizes.0 = u32::from(queue.processor_count);
         sizes.1 = u32::from(queue.node_count);
     }
-    match random.below(20) {
+    match random.below(22) {
         0 => Call::Backlog,
         18 | 19 => Call::Relaxed(processor),
+        20 | 21 => Call::Remove(processor, due, item),
         16 => Call::Markers(any_room(random, queue)),
         1 | 2 => Call::DeleteMin(processor),
         3..=6 => Call::Insert(processor, due, item, height),

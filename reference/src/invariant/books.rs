@@ -2,8 +2,8 @@
 
 use super::{Conjunct, View};
 use crate::book::Open;
-use crate::claims::Role;
-use crate::queue::{Stage, Use};
+use crate::claims::{Claim, Role};
+use crate::queue::{Job, Stage, Use};
 
 pub(super) const CONJUNCTS: &[Conjunct] = &[
     ("BookOpen", book_open),
@@ -15,27 +15,44 @@ pub(super) const CONJUNCTS: &[Conjunct] = &[
 /// stage says.
 fn book_open(view: &View) -> bool {
     view.book.count == view.queue.clock
-        && view.processors().all(|(number, _, p)| {
-            let open = match p.role {
-                Role::Idle => Open::Nothing,
-                Role::Insert => Open::Insert(view.node(p.own).ticket),
-                Role::Walk => Open::DeleteMin {
-                    begin: p.begin,
-                    marked: None,
-                },
-                Role::Relaxed => Open::Relaxed(p.begin),
-                Role::Delete => Open::DeleteMin {
-                    begin: p.begin,
-                    marked: Some(view.node(p.own).ticket),
-                },
-            };
-            view.book.open[number] == open
-        })
+        && view
+            .processors()
+            .all(|(number, _, p)| view.book.open[number] == open_by_stage(view, p))
 }
 
-/// Entries not handed out and nodes in use correspond one to one, with equal
-/// due, item, ticket, answer time and mark. (A handed-out entry is struck from
-/// the book once it is answered; until then it is `BookRetired`'s.)
+/// What a processor has open, as its stage says.
+fn open_by_stage(view: &View, p: &Claim) -> Open {
+    let begin = p.begin;
+    let own = view.node(p.own);
+    match (p.role, p.wanted) {
+        (Role::Idle, _) => Open::Nothing,
+        (Role::Insert, _) => Open::Insert(own.ticket),
+        (Role::Walk, _) => Open::DeleteMin {
+            begin,
+            marked: None,
+        },
+        (Role::Relaxed, _) => Open::Relaxed(begin),
+        (Role::Delete, _) if p.job == Job::HandOut => Open::DeleteMin {
+            begin,
+            marked: Some(own.ticket),
+        },
+        (Role::Delete | Role::Remove, wanted) => {
+            let marked = wanted.is_none();
+            let (due, ticket) = wanted.map_or((own.due, own.ticket), |it| (it.due, it.ticket));
+            Open::Remove {
+                begin,
+                due,
+                ticket,
+                marked,
+            }
+        }
+    }
+}
+
+/// Entries not handed out or taken back and nodes in use correspond one to one,
+/// with equal due, item, ticket, answer time and mark. (A handed-out entry is
+/// struck from the book once it is answered; until then it is `BookRetired`'s. One
+/// that is taken back is struck at once.)
 fn book_entries(view: &View) -> bool {
     let mut in_use = 0;
     for n in view.entry_nodes() {
@@ -52,6 +69,7 @@ fn book_entries(view: &View) -> bool {
             || written.answered != node.stamp
             || written.marked != node.is_marked()
             || written.handed_out
+            || written.taken_back
         {
             return false;
         }
@@ -75,7 +93,7 @@ fn book_retired(view: &View) -> bool {
         };
         let written = &view.book.entries[i];
         let settled = written.handed_out && written.marked && written.answered.is_none();
-        if !settled || written.entry != view.queue.entry(p.own) {
+        if !settled || written.taken_back || written.entry != view.queue.entry(p.own) {
             return false;
         }
     }

@@ -13,6 +13,8 @@ pub(super) const CONJUNCTS: &[Conjunct] = &[
     ("G4Fresh", g4_fresh),
     ("G4Before", g4_before),
     ("W3Stamp", w3_stamp),
+    ("XKey", x_key),
+    ("X3Stamp", x3_stamp),
     ("SavedFresh", saved_fresh),
     ("SavedBefore", saved_before),
     ("Back", back),
@@ -45,10 +47,10 @@ fn place_fresh(view: &View) -> bool {
 }
 
 /// The place of a search or lock-seek, and of the stages after it, is before
-/// the own node.
+/// the own node; that of a Remove that has not found its key is before the key.
 fn place_before(view: &View) -> bool {
     view.busy().all(|(_, _, p)| match p.place {
-        Some(a) if p.before_own => view.key(a.node) < view.key(p.own),
+        Some(a) if p.before_own => view.key(a.node) < view.sought(p),
         _ => true,
     })
 }
@@ -77,15 +79,32 @@ fn w3_stamp(view: &View) -> bool {
     })
 }
 
+/// At X2 and X3 the place is an entry's node with the key that is wanted.
+fn x_key(view: &View) -> bool {
+    view.busy().all(|(_, processor, _)| match processor.stage {
+        Stage::X2Test(wanted, a) | Stage::X3Mark(wanted, a) => view.key(a.node) == wanted.key(),
+        _ => true,
+    })
+}
+
+/// The place at X3 is stamped before the begin.
+fn x3_stamp(view: &View) -> bool {
+    view.busy().all(|(_, processor, p)| match processor.stage {
+        Stage::X3Mark(_, a) => view.node(a.node).stamp.is_some_and(|t| t < p.begin),
+        _ => true,
+    })
+}
+
 /// A saved node of this operation is the head or was linked at its level since
 /// the begin.
 fn saved_fresh(view: &View) -> bool {
     every_saved(view, |p, saved, j| view.seen(p.begin, saved, j))
 }
 
-/// A saved node of this operation is before the own node.
+/// A saved node of this operation is before the own node, or before the key that
+/// a Remove searches for.
 fn saved_before(view: &View) -> bool {
-    every_saved(view, |p, saved, _| view.key(saved) < view.key(p.own))
+    every_saved(view, |p, saved, _| view.key(saved) < view.sought(p))
 }
 
 fn every_saved(view: &View, holds: impl Fn(&Claim, u8, u8) -> bool) -> bool {
@@ -128,6 +147,6 @@ fn back(view: &View) -> bool {
 /// Whether a remover of n is at L4 on this level.
 fn in_limbo(view: &View, n: u8, i: u8) -> bool {
     view.busy().any(|(_, processor, p)| {
-        p.own == n && matches!(processor.stage, Stage::L4PointBack(a) if a.level == i)
+        p.own == n && matches!(processor.stage, Stage::L4PointBack(_, a) if a.level == i)
     })
 }

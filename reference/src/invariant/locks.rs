@@ -91,7 +91,7 @@ fn i2_own(view: &View) -> bool {
 /// At L2 the place leads to the own node.
 fn l2_next(view: &View) -> bool {
     view.busy().all(|(_, processor, p)| match processor.stage {
-        Stage::L2LockOwn(a) => view.forward(a.node, a.level) == p.own,
+        Stage::L2LockOwn(_, a) => view.forward(a.node, a.level) == p.own,
         _ => true,
     })
 }
@@ -99,7 +99,7 @@ fn l2_next(view: &View) -> bool {
 /// At L3 the place leads to the own node.
 fn l3_next(view: &View) -> bool {
     view.busy().all(|(_, processor, p)| match processor.stage {
-        Stage::L3Unlink(a) => view.forward(a.node, a.level) == p.own,
+        Stage::L3Unlink(_, a) => view.forward(a.node, a.level) == p.own,
         _ => true,
     })
 }
@@ -107,7 +107,7 @@ fn l3_next(view: &View) -> bool {
 /// At L4 the own forward number is the place's.
 fn l4_same(view: &View) -> bool {
     view.busy().all(|(_, processor, p)| match processor.stage {
-        Stage::L4PointBack(a) => leads_as_own(view, p, a),
+        Stage::L4PointBack(_, a) => leads_as_own(view, p, a),
         _ => true,
     })
 }
@@ -115,7 +115,7 @@ fn l4_same(view: &View) -> bool {
 /// At L4 the node after the place is after the own node.
 fn l4_after(view: &View) -> bool {
     view.busy().all(|(_, processor, p)| match processor.stage {
-        Stage::L4PointBack(a) => leads_past_own(view, p, a),
+        Stage::L4PointBack(_, a) => leads_past_own(view, p, a),
         _ => true,
     })
 }

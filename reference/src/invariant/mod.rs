@@ -110,6 +110,13 @@ impl<'a> View<'a> {
         self.queue.key(n)
     }
 
+    /// The key that an operation looks for: that of its own node, or the one that
+    /// a Remove carries.
+    fn sought(&self, p: &Claim) -> Key {
+        p.wanted
+            .map_or_else(|| self.key(p.own), |wanted| wanted.key())
+    }
+
     fn forward(&self, n: u8, i: u8) -> u8 {
         self.node(n).forward[slot(i)]
     }

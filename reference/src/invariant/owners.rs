@@ -45,7 +45,7 @@ fn own_nodes_differ(view: &View, role: Role) -> bool {
 /// then not before the Insert began.
 fn own_use(view: &View) -> bool {
     view.busy().all(|(_, processor, p)| {
-        matches!(p.role, Role::Walk | Role::Relaxed)
+        matches!(p.role, Role::Walk | Role::Relaxed | Role::Remove)
             || match view.node(p.own).state {
                 Use::InUse => true,
                 Use::Retired(time) => processor.stage == Stage::I5Stamp && p.begin <= time,
@@ -131,7 +131,7 @@ fn del_m(view: &View) -> bool {
 /// An Insert whose own node stands before its retirement is at I5.
 fn l8_insert_at_i5(view: &View) -> bool {
     view.of_role(Role::Delete).all(|(_, deleter, d)| {
-        deleter.stage != Stage::L8Retire
+        !matches!(deleter.stage, Stage::L8Retire(_))
             || view
                 .of_role(Role::Insert)
                 .all(|(_, insert, p)| p.own != d.own || insert.stage == Stage::I5Stamp)

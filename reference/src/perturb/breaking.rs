@@ -1,9 +1,9 @@
 //! Changes that break check 21.
 
 use super::{change, on_node, on_processor, stage_change};
-use super::{stages_at, stages_without_place, walk_stages_at, Change};
-use crate::queue::{Operation, Place, Queue, Stage, Use, HEAD, MAX_NUMBER};
-use crate::queue::{MAX_LEVELS, MAX_NODES, MAX_PROCESSORS};
+use super::{remove_stages_at, stages_at, stages_without_place, walk_stages_at, Change};
+use crate::queue::{Place, Queue, Stage, Use, Wanted, HEAD, MAX_NUMBER};
+use crate::queue::{MAX_LEVELS, MAX_NODES, MAX_PROCESSORS, OPERATIONS};
 
 /// Changes each of which breaks check 21: every looked-at field, one at a time,
 /// just out of its range and far out.
@@ -118,10 +118,42 @@ fn processor_breaking(queue: &Queue, p: usize) -> Vec<Change> {
     changes
 }
 
+/// Keys that no Remove may carry: due minutes and tickets.
+const BAD_KEYS: [(u32, u32); 6] = [
+    (MAX_NUMBER + 1, 1),
+    (u32::MAX, 1),
+    (0, 0),
+    (0, MAX_NUMBER + 1),
+    (0, u32::MAX),
+    (MAX_NUMBER + 1, 0),
+];
+
+const GOOD: Place = Place { node: 1, level: 1 };
+const GOOD_KEY: Wanted = Wanted { due: 0, ticket: 1 };
+
 fn stage_breaking(queue: &Queue, p: usize) -> Vec<Change> {
+    let mut changes = place_breaking(queue, p);
+    let tail = queue.tail();
+    for (due, ticket) in BAD_KEYS {
+        for stage in remove_stages_at(GOOD, Wanted { due, ticket }) {
+            changes.push(stage_change(p, stage, 1));
+        }
+    }
+    for own in [0, tail, tail + 1] {
+        let with_place = stages_at(GOOD, 1).into_iter();
+        for stage in with_place.chain(stages_without_place()) {
+            changes.push(stage_change(p, stage, own));
+        }
+    }
+    for op in OPERATIONS {
+        changes.push(stage_change(p, Stage::G4Unlock(op, GOOD, tail + 1), 1));
+    }
+    changes
+}
+
+fn place_breaking(queue: &Queue, p: usize) -> Vec<Change> {
     let mut changes = Vec::new();
     let tail = queue.tail();
-    let good = Place { node: 1, level: 1 };
     let bad_places = [
         (tail + 1, 1),
         (u8::MAX, 1),
@@ -131,23 +163,16 @@ fn stage_breaking(queue: &Queue, p: usize) -> Vec<Change> {
     ];
     for (node, level) in bad_places {
         let bad = Place { node, level };
-        for stage in stages_at(bad, 1).into_iter().chain(walk_stages_at(bad)) {
-            changes.push(stage_change(p, stage, 1));
-        }
+        let mut stages = stages_at(bad, 1);
+        stages.extend(walk_stages_at(bad));
+        stages.extend(remove_stages_at(bad, GOOD_KEY));
+        changes.extend(stages.into_iter().map(|stage| stage_change(p, stage, 1)));
     }
     for node in [HEAD, tail] {
         let end = Place { node, level: 1 };
         changes.push(stage_change(p, Stage::W3Mark(end), 1));
         changes.push(stage_change(p, Stage::RW3Mark(end), 1));
-    }
-    for own in [0, tail, tail + 1] {
-        let with_place = stages_at(good, 1).into_iter();
-        for stage in with_place.chain(stages_without_place()) {
-            changes.push(stage_change(p, stage, own));
-        }
-    }
-    for op in [Operation::Insert, Operation::DeleteMin] {
-        changes.push(stage_change(p, Stage::G4Unlock(op, good, tail + 1), 1));
+        changes.push(stage_change(p, Stage::X3Mark(GOOD_KEY, end), 1));
     }
     changes
 }

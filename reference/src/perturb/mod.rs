@@ -3,7 +3,7 @@
 
 use crate::calls::Call;
 use crate::queue::{Node, Operation, Place, Processor, Queue, Stage, Use, HEAD, MAX_NUMBER};
-use crate::queue::{MAX_LEVELS, MAX_PROCESSORS, NODE_SLOTS, UNMARKED};
+use crate::queue::{Wanted, JOBS, MAX_LEVELS, MAX_PROCESSORS, NODE_SLOTS, OPERATIONS, UNMARKED};
 use crate::schedule::{Schedule, Sizes};
 use crate::trial::fresh_of;
 
@@ -13,7 +13,7 @@ pub use breaking::breaking;
 
 /// Calls of every kind by processor 0, and calls that would be refused for
 /// their numbers: check 21 comes before these.
-pub const CALLS: [Call; 10] = [
+pub const CALLS: [Call; 12] = [
     Call::Backlog,
     Call::Markers { room: 400 },
     Call::Markers { room: 0 },
@@ -35,6 +35,16 @@ pub const CALLS: [Call; 10] = [
         due: u64::MAX,
         item: u64::MAX,
         height: 0,
+    },
+    Call::Remove {
+        processor: 0,
+        due: 0,
+        ticket: 1,
+    },
+    Call::Remove {
+        processor: 99,
+        due: u64::MAX,
+        ticket: 0,
     },
 ];
 
@@ -97,17 +107,15 @@ fn on_processor(p: usize, name: String, make: impl Fn(&mut Processor) + 'static)
 
 /// Every stage that stands at this place.
 pub fn stages_at(a: Place, b: u8) -> Vec<Stage> {
-    let mut stages = vec![
-        Stage::I1PointOwn(a),
-        Stage::I2Link(a),
-        Stage::I3Unlock(a),
-        Stage::L2LockOwn(a),
-        Stage::L3Unlink(a),
-        Stage::L4PointBack(a),
-        Stage::L5UnlockOwn(a),
-        Stage::L6Unlock(a),
-    ];
-    for op in [Operation::Insert, Operation::DeleteMin] {
+    let mut stages = vec![Stage::I1PointOwn(a), Stage::I2Link(a), Stage::I3Unlock(a)];
+    for job in JOBS {
+        stages.push(Stage::L2LockOwn(job, a));
+        stages.push(Stage::L3Unlink(job, a));
+        stages.push(Stage::L4PointBack(job, a));
+        stages.push(Stage::L5UnlockOwn(job, a));
+        stages.push(Stage::L6Unlock(job, a));
+    }
+    for op in OPERATIONS {
         stages.push(Stage::Search(op, a));
         stages.push(Stage::G1Read(op, a));
         stages.push(Stage::G2Lock(op, a));
@@ -128,15 +136,25 @@ pub fn walk_stages_at(a: Place) -> Vec<Stage> {
     ]
 }
 
+/// Every stage of a Remove up to its mark, at this place and with this key.
+pub fn remove_stages_at(a: Place, wanted: Wanted) -> Vec<Stage> {
+    vec![
+        Stage::XSearch(wanted, a),
+        Stage::X1Read(wanted, a),
+        Stage::X2Test(wanted, a),
+        Stage::X3Mark(wanted, a),
+    ]
+}
+
 /// Every stage with an own node and no place.
 pub fn stages_without_place() -> Vec<Stage> {
-    vec![
-        Stage::I4UnlockNode,
-        Stage::I5Stamp,
-        Stage::L1LockNode,
-        Stage::L7UnlockNode,
-        Stage::L8Retire,
-    ]
+    let mut stages = vec![Stage::I4UnlockNode, Stage::I5Stamp];
+    for job in JOBS {
+        stages.push(Stage::L1LockNode(job));
+        stages.push(Stage::L7UnlockNode(job));
+        stages.push(Stage::L8Retire(job));
+    }
+    stages
 }
 
 fn stage_change(p: usize, stage: Stage, own: u8) -> Change {
@@ -193,6 +211,11 @@ pub fn to_the_edge(queue: &Queue) -> Vec<Change> {
             changes.push(stage_change(p, Stage::W2Compare(end), 0));
             changes.push(stage_change(p, Stage::RW1Read(end), tail));
             changes.push(stage_change(p, Stage::Idle, node));
+            for wanted in edge_keys() {
+                changes.push(stage_change(p, Stage::XSearch(wanted, end), 0));
+                changes.push(stage_change(p, Stage::X1Read(wanted, end), tail));
+                changes.push(stage_change(p, Stage::X2Test(wanted, end), 0));
+            }
         }
         for stage in stages_without_place() {
             changes.push(stage_change(p, stage, last));
@@ -204,9 +227,17 @@ pub fn to_the_edge(queue: &Queue) -> Vec<Change> {
             };
             changes.push(stage_change(p, Stage::W3Mark(entry), tail));
             changes.push(stage_change(p, Stage::RW3Mark(entry), tail));
+            for wanted in edge_keys() {
+                changes.push(stage_change(p, Stage::X3Mark(wanted, entry), tail));
+            }
         }
     }
     changes
+}
+
+/// Keys of a Remove at the edges of their ranges, whatever the clock is.
+fn edge_keys() -> [Wanted; 2] {
+    [(0, 1), (MAX_NUMBER, MAX_NUMBER)].map(|(due, ticket)| Wanted { due, ticket })
 }
 
 /// Changes past P and N+1, one slot at a time, which no call may notice and no

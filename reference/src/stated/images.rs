@@ -2,20 +2,20 @@
 //! images of the printed run, where the pieces of a queue stand at the edges of
 //! its sizes, and bytes that every call refuses with 21.
 
-use crate::queue::{Node, Operation, Place, Processor, Queue, Stage, Use};
+use crate::queue::{Job, Node, Operation, Place, Processor, Queue, Stage, Use, Wanted};
 
 /// Processors and entries, and the length of their image; 0 where no queue has
 /// these sizes.
 pub const LENGTHS: [(u32, u32, usize); 21] = [
-    (1, 1, 147),
-    (1, 2, 188),
-    (2, 1, 164),
-    (2, 3, 246),
-    (16, 1, 402),
-    (1, 200, 8_306),
-    (15, 200, 8_544),
-    (16, 199, 8_520),
-    (16, 200, 8_561),
+    (1, 1, 156),
+    (1, 2, 197),
+    (2, 1, 182),
+    (2, 3, 264),
+    (16, 1, 546),
+    (1, 200, 8_315),
+    (15, 200, 8_679),
+    (16, 199, 8_664),
+    (16, 200, 8_705),
     (0, 0, 0),
     (0, 1, 0),
     (1, 0, 0),
@@ -31,7 +31,7 @@ pub const LENGTHS: [(u32, u32, usize); 21] = [
 ];
 
 /// An idle processor.
-const IDLE: [u8; 17] = [0; 17];
+const IDLE: [u8; 26] = [0; 26];
 
 /// A node as made where the tail is node 2.
 const AS_MADE: [u8; 41] = [
@@ -50,8 +50,10 @@ const AS_MADE: [u8; 41] = [
 /// times. At 1 the Insert has begun, at 10 it is answered, at 14 the Delete_Min
 /// has marked the entry, at 26 it is handed out.
 pub fn printed() -> Vec<(u32, Vec<u8>)> {
-    let inserting = [1, 0, 0, 0, 1, 1, 0, 1, 0, 0, 0, 0, 0, 0, 0, 0, 0];
-    let removing = [11, 0, 0, 0, 1, 14, 0, 1, 0, 0, 0, 0, 0, 0, 0, 0, 0];
+    let mut inserting = IDLE;
+    inserting[..8].copy_from_slice(&[1, 0, 0, 0, 1, 1, 0, 1]);
+    let mut removing = IDLE;
+    removing[..8].copy_from_slice(&[11, 0, 0, 0, 1, 14, 0, 1]);
     let mut leading_to_1 = AS_MADE;
     leading_to_1[0] = 1;
     let begun = [
@@ -90,21 +92,51 @@ pub fn printed() -> Vec<(u32, Vec<u8>)> {
 /// Sizes, the length of their image, and where the first and the last
 /// processor, the head and the tail start.
 pub const PLACES: [([u8; 3], usize, [usize; 4]); 5] = [
-    ([1, 1, 1], 147, [7, 7, 24, 106]),
-    ([2, 3, 2], 246, [7, 24, 41, 205]),
-    ([16, 1, 8], 402, [7, 262, 279, 361]),
-    ([1, 200, 1], 8_306, [7, 7, 24, 8_265]),
-    ([16, 200, 8], 8_561, [7, 262, 279, 8_520]),
+    ([1, 1, 1], 156, [7, 7, 33, 115]),
+    ([2, 3, 2], 264, [7, 33, 59, 223]),
+    ([16, 1, 8], 546, [7, 397, 423, 505]),
+    ([1, 200, 1], 8_315, [7, 7, 33, 8_274]),
+    ([16, 200, 8], 8_705, [7, 397, 423, 8_664]),
 ];
 
-/// A processor with another number in each of its bytes.
+/// A processor with another number in each of its bytes, as far as a removal has
+/// them, which is that of a Remove.
 const MANY: Processor = Processor {
     begin: 0x0403_0201,
     own: 5,
-    stage: Stage::G4Unlock(Operation::DeleteMin, Place { node: 7, level: 8 }, 9),
+    stage: Stage::G4Unlock(
+        Operation::Removal(Job::TakeBack),
+        Place { node: 7, level: 8 },
+        9,
+    ),
     saved: [10, 11, 12, 13, 14, 15, 16, 17],
 };
-const MANY_BYTES: [u8; 17] = [1, 2, 3, 4, 5, 19, 7, 8, 9, 10, 11, 12, 13, 14, 15, 16, 17];
+const MANY_BYTES: [u8; 26] = [
+    1, 2, 3, 4, 5, 19, 7, 8, 9, // begin, own node, stage
+    10, 11, 12, 13, 14, 15, 16, 17, // saved nodes
+    1,  // job
+    0, 0, 0, 0, 0, 0, 0, 0, // key
+];
+
+/// The same as far as a Remove at its mark has them.
+const MARKING: Processor = Processor {
+    begin: 0x0403_0201,
+    own: 5,
+    stage: Stage::X3Mark(
+        Wanted {
+            due: 0x1514_1312,
+            ticket: 0x1918_1716,
+        },
+        Place { node: 7, level: 8 },
+    ),
+    saved: [10, 11, 12, 13, 14, 15, 16, 17],
+};
+const MARKING_BYTES: [u8; 26] = [
+    1, 2, 3, 4, 5, 32, 7, 8, 0, // begin, own node, stage
+    10, 11, 12, 13, 14, 15, 16, 17, // saved nodes
+    0,  // job
+    18, 19, 20, 21, 22, 23, 24, 25, // key
+];
 
 /// A node with another number in each of its bytes, but tags.
 const FULL: Node = Node {
@@ -171,13 +203,17 @@ pub fn pieces() -> Vec<(String, Queue, Vec<u8>)> {
             let mut queue = zeros(sizes);
             let mut bytes = vec![0; length];
             bytes[..3].copy_from_slice(&sizes);
+            let piece: &[u8] = match number {
+                0 => &MANY_BYTES,
+                1 => &MARKING_BYTES,
+                _ => &FULL_BYTES,
+            };
             match number {
                 0 => queue.processors[0] = MANY,
-                1 => queue.processors[p - 1] = MANY,
+                1 => queue.processors[p - 1] = MARKING,
                 2 => queue.nodes[0] = FULL,
                 _ => queue.nodes[n + 1] = FULL,
             }
-            let piece: &[u8] = if number < 2 { &MANY_BYTES } else { &FULL_BYTES };
             bytes[start..start + piece.len()].copy_from_slice(piece);
             all.push((format!("{sizes:?}, at {start}"), queue, bytes));
         }
@@ -192,25 +228,25 @@ pub type ByteAt = (usize, u8);
 /// and all that differs from the fresh image.
 pub const BEGUN: [([u8; 3], [ByteAt; 4]); 5] = [
     ([1, 1, 1], [(3, 1), (7, 1), (12, 11), (14, 1)]),
-    ([2, 3, 2], [(3, 1), (24, 1), (29, 11), (31, 1)]),
-    ([16, 1, 8], [(3, 1), (262, 1), (267, 11), (269, 1)]),
+    ([2, 3, 2], [(3, 1), (33, 1), (38, 11), (40, 1)]),
+    ([16, 1, 8], [(3, 1), (397, 1), (402, 11), (404, 1)]),
     ([1, 200, 1], [(3, 1), (7, 1), (12, 11), (14, 1)]),
-    ([16, 200, 8], [(3, 1), (262, 1), (267, 11), (269, 1)]),
+    ([16, 200, 8], [(3, 1), (397, 1), (402, 11), (404, 1)]),
 ];
 
 /// The same with the begin of a Relaxed Delete_Min.
 pub const BEGUN_RELAXED: [([u8; 3], [ByteAt; 4]); 5] = [
     ([1, 1, 1], [(3, 1), (7, 1), (12, 27), (14, 1)]),
-    ([2, 3, 2], [(3, 1), (24, 1), (29, 27), (31, 1)]),
-    ([16, 1, 8], [(3, 1), (262, 1), (267, 27), (269, 1)]),
+    ([2, 3, 2], [(3, 1), (33, 1), (38, 27), (40, 1)]),
+    ([16, 1, 8], [(3, 1), (397, 1), (402, 27), (404, 1)]),
     ([1, 200, 1], [(3, 1), (7, 1), (12, 27), (14, 1)]),
-    ([16, 200, 8], [(3, 1), (262, 1), (267, 27), (269, 1)]),
+    ([16, 200, 8], [(3, 1), (397, 1), (402, 27), (404, 1)]),
 ];
 
 /// Four bytes of a fresh queue's image replaced: sizes, where the stage of the
 /// last processor stands, its tag, node, level and node of G3, and whether the
-/// calls take it. The walks, ordinary (11 to 13) and Relaxed (27, 28); from 29 on
-/// there is no stage.
+/// calls take it. The walks, ordinary (11 to 13) and Relaxed (27, 28). At 29 to 32
+/// a Remove carries a ticket, which is 0 here, and from 33 on there is no stage.
 pub const STAGES: [([u8; 3], usize, [u8; 4], bool); 42] = [
     ([1, 1, 1], 12, [11, 0, 1, 0], true),
     ([1, 1, 1], 12, [13, 0, 1, 0], false),
@@ -232,28 +268,28 @@ pub const STAGES: [([u8; 3], usize, [u8; 4], bool); 42] = [
     ([1, 1, 1], 12, [29, 1, 1, 0], false),
     ([1, 1, 1], 12, [30, 1, 1, 0], false),
     ([1, 1, 1], 12, [255, 1, 1, 0], false),
-    ([2, 3, 2], 29, [27, 0, 2, 0], true),
-    ([2, 3, 2], 29, [27, 4, 2, 0], true),
-    ([2, 3, 2], 29, [27, 5, 2, 0], false),
-    ([2, 3, 2], 29, [27, 4, 3, 0], false),
-    ([2, 3, 2], 29, [28, 1, 2, 0], true),
-    ([2, 3, 2], 29, [28, 3, 1, 0], true),
-    ([2, 3, 2], 29, [28, 0, 1, 0], false),
-    ([2, 3, 2], 29, [28, 4, 1, 0], false),
-    ([2, 3, 2], 29, [28, 3, 3, 0], false),
-    ([2, 3, 2], 29, [29, 3, 1, 0], false),
-    ([16, 200, 8], 267, [11, 201, 8, 0], true),
-    ([16, 200, 8], 267, [13, 200, 8, 0], true),
-    ([16, 200, 8], 267, [13, 201, 8, 0], false),
-    ([16, 200, 8], 267, [27, 0, 8, 0], true),
-    ([16, 200, 8], 267, [27, 201, 8, 0], true),
-    ([16, 200, 8], 267, [27, 202, 8, 0], false),
-    ([16, 200, 8], 267, [27, 0, 9, 0], false),
-    ([16, 200, 8], 267, [28, 1, 1, 0], true),
-    ([16, 200, 8], 267, [28, 200, 8, 0], true),
-    ([16, 200, 8], 267, [28, 0, 8, 0], false),
-    ([16, 200, 8], 267, [28, 201, 8, 0], false),
-    ([16, 200, 8], 267, [29, 1, 1, 0], false),
+    ([2, 3, 2], 38, [27, 0, 2, 0], true),
+    ([2, 3, 2], 38, [27, 4, 2, 0], true),
+    ([2, 3, 2], 38, [27, 5, 2, 0], false),
+    ([2, 3, 2], 38, [27, 4, 3, 0], false),
+    ([2, 3, 2], 38, [28, 1, 2, 0], true),
+    ([2, 3, 2], 38, [28, 3, 1, 0], true),
+    ([2, 3, 2], 38, [28, 0, 1, 0], false),
+    ([2, 3, 2], 38, [28, 4, 1, 0], false),
+    ([2, 3, 2], 38, [28, 3, 3, 0], false),
+    ([2, 3, 2], 38, [29, 3, 1, 0], false),
+    ([16, 200, 8], 402, [11, 201, 8, 0], true),
+    ([16, 200, 8], 402, [13, 200, 8, 0], true),
+    ([16, 200, 8], 402, [13, 201, 8, 0], false),
+    ([16, 200, 8], 402, [27, 0, 8, 0], true),
+    ([16, 200, 8], 402, [27, 201, 8, 0], true),
+    ([16, 200, 8], 402, [27, 202, 8, 0], false),
+    ([16, 200, 8], 402, [27, 0, 9, 0], false),
+    ([16, 200, 8], 402, [28, 1, 1, 0], true),
+    ([16, 200, 8], 402, [28, 200, 8, 0], true),
+    ([16, 200, 8], 402, [28, 0, 8, 0], false),
+    ([16, 200, 8], 402, [28, 201, 8, 0], false),
+    ([16, 200, 8], 402, [29, 1, 1, 0], false),
 ];
 
 /// One byte of a fresh queue's image replaced: sizes, place, byte, and whether
@@ -267,46 +303,46 @@ pub const EDITS: [([u8; 3], usize, u8, bool); 45] = [
     ([1, 1, 1], 12, 27, false),
     ([1, 1, 1], 12, 28, false),
     ([1, 1, 1], 12, 29, false),
-    ([1, 1, 1], 24, 2, true),
-    ([1, 1, 1], 24, 3, false),
-    ([1, 1, 1], 41, 1, true),
-    ([1, 1, 1], 41, 2, false),
-    ([1, 1, 1], 82, 1, true),
-    ([1, 1, 1], 82, 2, false),
-    ([1, 1, 1], 123, 1, true),
-    ([1, 1, 1], 123, 2, false),
-    ([1, 1, 1], 123, 255, false),
-    ([1, 1, 1], 146, 1, false),
-    ([2, 3, 2], 28, 4, true),
-    ([2, 3, 2], 28, 5, false),
-    ([2, 3, 2], 29, 29, false),
-    ([2, 3, 2], 29, 255, false),
-    ([2, 3, 2], 41, 4, true),
-    ([2, 3, 2], 41, 5, false),
-    ([2, 3, 2], 58, 2, true),
-    ([2, 3, 2], 58, 3, false),
-    ([2, 3, 2], 181, 2, true),
-    ([2, 3, 2], 181, 3, false),
-    ([2, 3, 2], 222, 1, true),
-    ([2, 3, 2], 222, 2, true),
-    ([2, 3, 2], 222, 3, false),
-    ([2, 3, 2], 222, 255, false),
-    ([2, 3, 2], 245, 1, false),
-    ([16, 200, 8], 266, 201, true),
-    ([16, 200, 8], 266, 202, false),
-    ([16, 200, 8], 267, 29, false),
-    ([16, 200, 8], 267, 255, false),
-    ([16, 200, 8], 279, 202, false),
-    ([16, 200, 8], 296, 16, true),
-    ([16, 200, 8], 296, 17, false),
-    ([16, 200, 8], 8_496, 16, true),
-    ([16, 200, 8], 8_496, 17, false),
-    ([16, 200, 8], 8_537, 2, true),
-    ([16, 200, 8], 8_537, 16, true),
-    ([16, 200, 8], 8_537, 17, false),
-    ([16, 200, 8], 8_537, 255, false),
-    ([16, 200, 8], 8_555, 9, false),
-    ([16, 200, 8], 8_560, 1, false),
+    ([1, 1, 1], 33, 2, true),
+    ([1, 1, 1], 33, 3, false),
+    ([1, 1, 1], 50, 1, true),
+    ([1, 1, 1], 50, 2, false),
+    ([1, 1, 1], 91, 1, true),
+    ([1, 1, 1], 91, 2, false),
+    ([1, 1, 1], 132, 1, true),
+    ([1, 1, 1], 132, 2, false),
+    ([1, 1, 1], 132, 255, false),
+    ([1, 1, 1], 155, 1, false),
+    ([2, 3, 2], 37, 4, true),
+    ([2, 3, 2], 37, 5, false),
+    ([2, 3, 2], 38, 29, false),
+    ([2, 3, 2], 38, 255, false),
+    ([2, 3, 2], 59, 4, true),
+    ([2, 3, 2], 59, 5, false),
+    ([2, 3, 2], 76, 2, true),
+    ([2, 3, 2], 76, 3, false),
+    ([2, 3, 2], 199, 2, true),
+    ([2, 3, 2], 199, 3, false),
+    ([2, 3, 2], 240, 1, true),
+    ([2, 3, 2], 240, 2, true),
+    ([2, 3, 2], 240, 3, false),
+    ([2, 3, 2], 240, 255, false),
+    ([2, 3, 2], 263, 1, false),
+    ([16, 200, 8], 401, 201, true),
+    ([16, 200, 8], 401, 202, false),
+    ([16, 200, 8], 402, 29, false),
+    ([16, 200, 8], 402, 255, false),
+    ([16, 200, 8], 423, 202, false),
+    ([16, 200, 8], 440, 16, true),
+    ([16, 200, 8], 440, 17, false),
+    ([16, 200, 8], 8_640, 16, true),
+    ([16, 200, 8], 8_640, 17, false),
+    ([16, 200, 8], 8_681, 2, true),
+    ([16, 200, 8], 8_681, 16, true),
+    ([16, 200, 8], 8_681, 17, false),
+    ([16, 200, 8], 8_681, 255, false),
+    ([16, 200, 8], 8_699, 9, false),
+    ([16, 200, 8], 8_704, 1, false),
 ];
 
 /// Bytes as a fresh queue of any sizes would have them, also of sizes that no
@@ -329,20 +365,20 @@ pub fn refused() -> Vec<(&'static str, usize, Vec<u8>)> {
         ("P alone", 1, short(1)),
         ("sizes alone", 3, short(3)),
         ("no piece", 7, short(7)),
-        ("a byte too few", 146, short(146)),
-        ("a node too few", 106, fresh_like([1, 1, 1], 2)),
-        ("a node too many", 188, fresh_like([1, 1, 1], 4)),
+        ("a byte too few", 155, short(155)),
+        ("a node too few", 115, fresh_like([1, 1, 1], 2)),
+        ("a node too many", 197, fresh_like([1, 1, 1], 4)),
         ("no processor", 130, fresh_like([0, 1, 1], 3)),
-        ("no entry", 106, fresh_like([1, 0, 1], 2)),
+        ("no entry", 115, fresh_like([1, 0, 1], 2)),
         ("neither", 89, fresh_like([0, 0, 1], 2)),
-        ("no level", 147, fresh_like([1, 1, 0], 3)),
-        ("9 levels", 147, fresh_like([1, 1, 9], 3)),
-        ("17 processors", 419, fresh_like([17, 1, 1], 3)),
-        ("201 entries", 8_347, fresh_like([1, 201, 1], 203)),
-        ("255 of both", 14_879, fresh_like([255, 255, 1], 257)),
+        ("no level", 156, fresh_like([1, 1, 0], 3)),
+        ("9 levels", 156, fresh_like([1, 1, 9], 3)),
+        ("17 processors", 572, fresh_like([17, 1, 1], 3)),
+        ("201 entries", 8_356, fresh_like([1, 201, 1], 203)),
+        ("255 of both", 17_174, fresh_like([255, 255, 1], 257)),
         (
             "the largest, a node more",
-            8_602,
+            8_746,
             fresh_like([16, 200, 8], 203),
         ),
     ]

@@ -191,9 +191,9 @@ pub struct Run {
 }
 
 /// The printed run by its only processor, the same by the last of sixteen, one
-/// with two processors, in which the node is marked by each in turn, and one in
-/// which Relaxed Delete_Mins mark it.
-pub fn runs() -> [Run; 4] {
+/// with two processors, in which the node is marked by each in turn, one in which
+/// Relaxed Delete_Mins mark it, and one in which a Remove does.
+pub fn runs() -> [Run; 5] {
     [
         Run {
             what: "the printed run",
@@ -232,7 +232,23 @@ pub fn runs() -> [Run; 4] {
             ],
         },
         relaxed(),
+        removed(),
     ]
+}
+
+fn removed() -> Run {
+    Run {
+        what: "taken back by 1, passed over by 0, filled in by 0",
+        processors: 2,
+        calls: taken_back(),
+        spans: &[
+            (0, 0, &[], 0),
+            (1, 14, &[1, 255], 0),
+            (15, 31, &[1, 1], 2),
+            (32, 32, &[], 2),
+            (33, 33, &[1, 255], 0),
+        ],
+    }
 }
 
 fn relaxed() -> Run {
@@ -321,5 +337,25 @@ fn marked_before_its_answer() -> Vec<Call> {
     calls.extend(steps(0, 14));
     calls.push(relaxed(0));
     calls.extend(steps(0, 1));
+    calls
+}
+
+/// Insert by 0 at 1, answered at 10; Remove by 1 at 11, marked at 15; Remove by 0
+/// at 16, which finds the mark at 20; 1 takes the entry back at 32. Insert by 0 at
+/// 33.
+fn taken_back() -> Vec<Call> {
+    let remove = |processor: u64| Call::Remove {
+        processor,
+        due: 7,
+        ticket: 1,
+    };
+    let mut calls = vec![insert(0)];
+    calls.extend(steps(0, 9));
+    calls.push(remove(1));
+    calls.extend(steps(1, 4));
+    calls.push(remove(0));
+    calls.extend(steps(0, 4));
+    calls.extend(steps(1, 12));
+    calls.push(insert(0));
     calls
 }

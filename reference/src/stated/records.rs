@@ -1,8 +1,8 @@
 //! The records of the tables, and where in them a field stands.
 
 use super::rows::{Field, Filling, Table, NONE};
-use crate::perturb::{stages_at, stages_without_place, walk_stages_at};
-use crate::queue::{Node, Operation, Place, Processor, Queue, Stage, Use};
+use crate::perturb::{remove_stages_at, stages_at, stages_without_place, walk_stages_at};
+use crate::queue::{Node, Operation, Place, Processor, Queue, Stage, Use, Wanted, OPERATIONS};
 
 /// One place where a field stands. Levels are numbered from 1.
 #[derive(Clone, Copy, PartialEq, Eq, Debug)]
@@ -194,44 +194,53 @@ fn spots_of(field: Field, nodes: &[usize], processors: &[usize], levels: &[usize
 /// How many stages have a field; 0 for a field that is no stage's.
 fn stage_count(field: Field) -> usize {
     match field {
-        Field::Own => 23,
-        Field::OwnOfNoStage => 6,
-        Field::PlaceNode => 21,
-        Field::MarkedNode => 2,
-        Field::PlaceLevel => 23,
-        Field::ReadNode => 2,
+        Field::Own => 36,
+        Field::OwnOfNoStage => 10,
+        Field::PlaceNode => 34,
+        Field::MarkedNode => 3,
+        Field::PlaceLevel => 37,
+        Field::ReadNode => 3,
+        Field::WantedDue | Field::WantedTicket => 4,
         _ => 0,
     }
 }
 
-/// The stages that have a field, with this place and this node of G3.
-fn stages_of(field: Field, a: Place, read: u8) -> Vec<Stage> {
+/// The stages that have a field, with this place, this node of G3 and this key.
+fn stages_of(field: Field, a: Place, read: u8, wanted: Wanted) -> Vec<Stage> {
     let mut stages = stages_at(a, read);
+    let of_removes = remove_stages_at(a, wanted);
     match field {
         Field::Own => stages.extend(stages_without_place()),
         Field::PlaceNode => {
             stages.extend([Stage::W1Read(a), Stage::W2Compare(a), Stage::RW1Read(a)]);
+            stages.extend(&of_removes[..3]);
         }
-        Field::PlaceLevel => stages.extend(walk_stages_at(a)),
+        Field::PlaceLevel => {
+            stages.extend(walk_stages_at(a));
+            stages.extend(of_removes);
+        }
         Field::OwnOfNoStage => {
             stages = walk_stages_at(a);
+            stages.extend(of_removes);
             stages.push(Stage::Idle);
         }
-        Field::MarkedNode => stages = vec![Stage::W3Mark(a), Stage::RW3Mark(a)],
-        _ => {
-            let [insert, removal] = [Operation::Insert, Operation::DeleteMin];
+        Field::MarkedNode => {
             stages = vec![
-                Stage::G4Unlock(insert, a, read),
-                Stage::G4Unlock(removal, a, read),
+                Stage::W3Mark(a),
+                Stage::RW3Mark(a),
+                Stage::X3Mark(wanted, a),
             ];
         }
+        Field::WantedDue | Field::WantedTicket => stages = of_removes,
+        _ => stages = OPERATIONS.map(|op| Stage::G4Unlock(op, a, read)).to_vec(),
     }
     assert_eq!(stages.len(), stage_count(field), "{field:?}");
     stages
 }
 
 /// Puts a value into a field at one place. A field of a stage brings the stage
-/// with it; the rest of the stage is then node 1 and level 1.
+/// with it; the rest of the stage is then node 1 and level 1, and of a Remove due
+/// minute 0 and ticket 1.
 pub fn put(queue: &mut Queue, field: Field, spot: Spot, value: u64) {
     match spot {
         Spot::Record => put_whole(queue, field, value),
@@ -246,7 +255,7 @@ pub fn put(queue: &mut Queue, field: Field, spot: Spot, value: u64) {
         }
         Spot::Processor(p) => queue.processors[p].begin = number(value),
         Spot::ProcessorLevel(p, level) => queue.processors[p].saved[level - 1] = byte(value),
-        Spot::Stage(p, stage) => put_stage(&mut queue.processors[p], field, stage, byte(value)),
+        Spot::Stage(p, stage) => put_stage(&mut queue.processors[p], field, stage, value),
     }
 }
 
@@ -276,17 +285,20 @@ fn put_node(node: &mut Node, field: Field, value: u64) {
     }
 }
 
-fn put_stage(processor: &mut Processor, field: Field, stage: usize, value: u8) {
+fn put_stage(processor: &mut Processor, field: Field, stage: usize, value: u64) {
     let (mut a, mut own, mut read) = (at(1, 1), 1, 1);
+    let mut wanted = Wanted { due: 0, ticket: 1 };
     match field {
-        Field::Own | Field::OwnOfNoStage => own = value,
-        Field::PlaceNode | Field::MarkedNode => a.node = value,
-        Field::PlaceLevel => a.level = value,
-        Field::ReadNode => read = value,
+        Field::Own | Field::OwnOfNoStage => own = byte(value),
+        Field::PlaceNode | Field::MarkedNode => a.node = byte(value),
+        Field::PlaceLevel => a.level = byte(value),
+        Field::ReadNode => read = byte(value),
+        Field::WantedDue => wanted.due = number(value),
+        Field::WantedTicket => wanted.ticket = number(value),
         _ => panic!("a stage has no {field:?}"),
     }
     processor.own = own;
-    processor.stage = stages_of(field, a, read)[stage];
+    processor.stage = stages_of(field, a, read, wanted)[stage];
 }
 
 fn byte(value: u64) -> u8 {

@@ -9,9 +9,9 @@ use super::waiting::Run;
 pub type Span = (u32, u32, u32);
 
 /// A run with what Backlog gives before its first call and after each.
-type Counted = (Run, Vec<Span>);
+pub type Counted = (Run, Vec<Span>);
 
-fn counted(what: String, sizes: [u32; 3], turns: Vec<Turn>, spans: &[Span]) -> Counted {
+pub(super) fn counted(what: String, sizes: [u32; 3], turns: Vec<Turn>, spans: &[Span]) -> Counted {
     (Run { what, sizes, turns }, spans.to_vec())
 }
 
@@ -73,16 +73,16 @@ fn side_by_side(processors: u32, p: u32, q: u32, r: u32) -> [Counted; 3] {
 }
 
 /// The begin of a Relaxed Delete_Min, whose further numbers are not looked at.
-fn relaxed(p: u32, time: u32) -> Vec<Turn> {
+pub(super) fn relaxed(p: u32, time: u32) -> Vec<Turn> {
     vec![([4, p, 9, 9, 9], [0, time, 0, 0, time])]
 }
 
-fn empty(p: u32, time: u32) -> Vec<Turn> {
+pub(super) fn empty(p: u32, time: u32) -> Vec<Turn> {
     steps(p, [3, 0, 0, 0], time, time)
 }
 
 /// A call that is refused with this number at this time.
-fn refused(call: [u32; 5], number: u32, clock: u32) -> Vec<Turn> {
+pub(super) fn refused(call: [u32; 5], number: u32, clock: u32) -> Vec<Turn> {
     vec![(call, [number, 0, 0, 0, clock])]
 }
 
@@ -151,8 +151,8 @@ fn half_linked(p: u32, q: u32) -> Vec<Turn> {
     .concat()
 }
 
-/// p files an entry, answered at 10.
-fn filed(p: u32, due: u32) -> Vec<Turn> {
+/// p files an entry with item 40, answered at 10.
+pub(super) fn filed(p: u32, due: u32) -> Vec<Turn> {
     [
         insert(p, [due, 40, 1], 1),
         moves(p, 2, 9),
@@ -342,25 +342,32 @@ E      5      1      0      0      0
 ";
 
 /// A processor with its begin, own node, tag, and node and level of its place.
-fn processor(begin: u8, own: u8, [tag, node, level]: [u8; 3]) -> Vec<u8> {
+pub(super) fn processor(begin: u8, own: u8, [tag, node, level]: [u8; 3]) -> Vec<u8> {
     let mut bytes = vec![begin, 0, 0, 0, own, tag, node, level];
-    bytes.resize(17, 0);
+    bytes.resize(26, 0);
     bytes
 }
 
-/// The entry's node: where level 1 leads, node lock and mark, stamp, and use.
-fn entry(forward: u8, locks: [u8; 2], stamp: [u8; 2], usage: [u8; 2]) -> Vec<u8> {
+/// The entry's node, with due minute 7 and ticket 1: where level 1 leads, its item,
+/// node lock and mark, stamp, and use.
+pub(super) fn entry(
+    forward: u8,
+    item: u8,
+    locks: [u8; 2],
+    stamp: [u8; 2],
+    usage: [u8; 2],
+) -> Vec<u8> {
     let mut bytes = vec![forward, 2, 2, 2, 2, 2, 2, 2];
     bytes.extend([0; 8]);
     bytes.extend(locks);
     bytes.extend([stamp[0], stamp[1], 0, 0, 0]);
-    bytes.extend([7, 0, 0, 0, 1, 0, 0, 0, 42, 0, 0, 0, 1]);
+    bytes.extend([7, 0, 0, 0, 1, 0, 0, 0, item, 0, 0, 0, 1]);
     bytes.extend([usage[0], usage[1], 0, 0, 0]);
     bytes
 }
 
 /// The head or the tail: where level 1 leads, and who holds its lock.
-fn end(forward: u8, lock: u8) -> Vec<u8> {
+pub(super) fn end(forward: u8, lock: u8) -> Vec<u8> {
     let mut bytes = vec![forward, 2, 2, 2, 2, 2, 2, 2, lock];
     bytes.resize(35, 0);
     bytes.extend([1, 0, 0, 0, 0, 0]);
@@ -376,12 +383,12 @@ pub fn images() -> Vec<(u32, Vec<u8>)> {
     let relaxed = |own: u8, stage: [u8; 3]| processor(8, own, stage);
     let idle = processor(0, 0, [0, 0, 0]);
     let (linked, marked) = (
-        entry(2, [1, 0], [0, 0], [1, 0]),
-        entry(2, [1, 2], [0, 0], [1, 0]),
+        entry(2, 42, [1, 0], [0, 0], [1, 0]),
+        entry(2, 42, [1, 2], [0, 0], [1, 0]),
     );
     let (retired, stamped) = (
-        entry(0, [0, 2], [0, 0], [2, 26]),
-        entry(0, [0, 2], [1, 27], [2, 26]),
+        entry(0, 42, [0, 2], [0, 0], [2, 26]),
+        entry(0, 42, [0, 2], [1, 27], [2, 26]),
     );
     let image = |time: u8, first: &[u8], second: &[u8], head: Vec<u8>, node: &[u8]| {
         let front = [2, 1, 1, time, 0, 0, 0];

@@ -43,22 +43,27 @@ pub enum Field {
     Begin,
     /// The own node where the stage has one.
     Own,
-    /// The own node where the stage has none: idle, and the walks.
+    /// The own node where the stage has none: idle, the walks, and a Remove up to
+    /// its mark.
     OwnOfNoStage,
     /// A saved node.
     Saved,
-    /// The node of a stage's place, but at W3 and RW3.
+    /// The node of a stage's place, but at W3, RW3 and X3.
     PlaceNode,
-    /// The node of the place at W3 and RW3.
+    /// The node of the place at W3, RW3 and X3.
     MarkedNode,
     /// The level of a stage's place.
     PlaceLevel,
     /// The node that G3 read, which G4 carries.
     ReadNode,
+    /// The due minute that a Remove looks for (document 02, W5).
+    WantedDue,
+    /// The ticket that a Remove looks for, which is no stored time.
+    WantedTicket,
 }
 
 /// Every field.
-pub const FIELDS: [Field; 24] = [
+pub const FIELDS: [Field; 26] = [
     Processors,
     Nodes,
     Levels,
@@ -83,6 +88,8 @@ pub const FIELDS: [Field; 24] = [
     MarkedNode,
     PlaceLevel,
     ReadNode,
+    WantedDue,
+    WantedTicket,
 ];
 
 /// No stamp.
@@ -208,7 +215,7 @@ const JUST_16_200_8: [Row; 4] = [
 ];
 
 /// One processor, one node, one level; the clock is 30. The tail is node 2.
-const SMALLEST: [Row; 20] = [
+const SMALLEST: [Row; 22] = [
     row(Forward, &[0, 1, 2], &[3, 255]),
     row(LevelLock, &[0, 1], &[2, 255]),
     row(NodeLock, &[0, 1], &[2, 255]),
@@ -229,11 +236,13 @@ const SMALLEST: [Row; 20] = [
     row(MarkedNode, &[1], &[0, 2, 3, 255]),
     row(PlaceLevel, &[1], &[0, 2, 255]),
     row(ReadNode, &[0, 1, 2], &[3, 255]),
+    row(WantedDue, &[0, 999_999], &[1_000_000, FAR]),
+    row(WantedTicket, &[1, 30, 31, 999_999], &[0, 1_000_000, FAR]),
 ];
 
 /// Two processors, three nodes, two levels; the clock is 30. The tail is node
 /// 4.
-const SMALL: [Row; 20] = [
+const SMALL: [Row; 22] = [
     row(Forward, &[0, 1, 4], &[5, 255]),
     row(LevelLock, &[0, 1, 2], &[3, 255]),
     row(NodeLock, &[0, 1, 2], &[3, 255]),
@@ -254,11 +263,13 @@ const SMALL: [Row; 20] = [
     row(MarkedNode, &[1, 3], &[0, 4, 5, 255]),
     row(PlaceLevel, &[1, 2], &[0, 3, 255]),
     row(ReadNode, &[0, 3, 4], &[5, 255]),
+    row(WantedDue, &[0, 999_999], &[1_000_000, FAR]),
+    row(WantedTicket, &[1, 30, 31, 999_999], &[0, 1_000_000, FAR]),
 ];
 
 /// Sixteen processors, 200 nodes, eight levels; the clock is 999,998. The tail
 /// is node 201.
-const LARGEST: [Row; 20] = [
+const LARGEST: [Row; 22] = [
     row(Forward, &[0, 201], &[202, 255]),
     row(LevelLock, &[0, 16], &[17, 255]),
     row(NodeLock, &[0, 16], &[17, 255]),
@@ -279,4 +290,6 @@ const LARGEST: [Row; 20] = [
     row(MarkedNode, &[1, 200], &[0, 201, 202, 255]),
     row(PlaceLevel, &[1, 8], &[0, 9, 255]),
     row(ReadNode, &[0, 201], &[202, 255]),
+    row(WantedDue, &[0, 999_999], &[1_000_000, FAR]),
+    row(WantedTicket, &[1, 999_998, 999_999], &[0, 1_000_000, FAR]),
 ];

@@ -1,12 +1,13 @@
 //! Sheets with what they print or why they are refused.
 
 use super::relaxed;
+use super::removes;
 
 /// A Q line for the smallest queue.
 pub const Q: &str = "Q      1      1      1      0\n";
 
 /// Lines that are not in form.
-pub const OUT_OF_FORM: [&str; 32] = [
+pub const OUT_OF_FORM: [&str; 41] = [
     "D     00      0      0      0\n", // leading zero
     "D             0      0      0\n", // a field of spaces
     "D0            0      0      0\n", // spaces after digits
@@ -15,7 +16,9 @@ pub const OUT_OF_FORM: [&str; 32] = [
     "D    1 1      0      0      0\n",
     "D\t     0      0      0      0\n",
     "d      0      0      0      0\n", // another letter
-    "X      0      0      0      0\n",
+    "Y      0      0      0      0\n",
+    "U      0      7     42      1\n", // letters of a history alone
+    "N      0      7      1      0\n",
     "       0      0      0      0\n",
     "D      0      0      0      0 ", // no line feed
     "D      0      0      0      0\r",
@@ -33,6 +36,13 @@ pub const OUT_OF_FORM: [&str; 32] = [
     "L             0      0      0\n",
     "l      0      0      0      0\n",
     "L      0      0      0      0 ",
+    "X      0      7      1      1\n", // a Remove has no fourth field
+    "X      0      7      19999999\n",
+    "X      0      7     01      0\n",
+    "X      0      7             0\n",
+    "X      0    7 1      1      0\n",
+    "x      0      7      1      0\n",
+    "X      0      7      1      0 ",
     "S      0      1      1      0\n",
     "S      0      1      0      1\n",
     "S      0      0      0      0\n", // step counts
@@ -103,7 +113,7 @@ pub fn numbered_history(lines: usize) -> Vec<u8> {
 
 /// A sheet whose processor 1 waits for the head's lock until the clock is
 /// 999,999: 7 calls, 1000 lines of 999 steps, 992 steps. Then come a step, two
-/// begins, and an Insert with item 0.
+/// begins, an Insert with item 0, and a Remove of no ticket.
 pub fn spent_clock() -> Vec<u8> {
     let mut sheet = "\
 Q      2      2      1      0
@@ -119,6 +129,7 @@ S      1      2      0      0
     sheet += "D      9      0      0      0\n";
     sheet += "L      9      0      0      0\n";
     sheet += "I      0      7      0      1\n";
+    sheet += "X      0      7      0      0\n";
     sheet.into_bytes()
 }
 
@@ -129,6 +140,7 @@ I      5      1      0      1      1
 R 999999      1     31      0      0
 R 999999      9     31      0      0
 R 999999      9     31      0      0
+R 999999      0     31      0      0
 R 999999      0     31      0      0
 ";
 
@@ -219,7 +231,29 @@ fn of(
 pub fn areas() -> Vec<Areas> {
     let mut all = runs_and_refusals();
     all.extend(relaxed_areas());
+    all.extend(remove_areas());
     all
+}
+
+fn remove_areas() -> [Areas; 2] {
+    [
+        of(
+            "an entry that is taken back",
+            removes::SHEET.into(),
+            removes::HISTORY.into(),
+            481,
+            &[481, 482, 65_536, 65_537],
+            &[0, 37, 444, 480],
+        ),
+        of(
+            "refused X lines",
+            removes::REFUSED.into(),
+            removes::REFUSED_HISTORY.into(),
+            555,
+            &[555, 556, 65_537],
+            &[0, 518, 554],
+        ),
+    ]
 }
 
 fn relaxed_areas() -> [Areas; 2] {
@@ -345,9 +379,9 @@ fn runs_and_refusals() -> Vec<Areas> {
             "a spent clock",
             spent_clock(),
             SPENT_CLOCK_HISTORY.into(),
-            222,
-            &[222, 223, 65_536, 65_537],
-            &[0, 185, 221],
+            259,
+            &[259, 260, 65_536, 65_537],
+            &[0, 222, 258],
         ),
     ]
 }

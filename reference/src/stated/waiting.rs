@@ -3,6 +3,7 @@
 
 use super::lists::{self, delete, moves, waits, Turn};
 use super::relaxed;
+use super::removes;
 
 /// A run on a fresh queue.
 pub struct Run {
@@ -44,6 +45,7 @@ pub fn runs() -> Vec<Run> {
         turns: [on_two_levels(), on_two_levels_later()].concat(),
     });
     all.extend(relaxed::runs().into_iter().map(|(run, _)| run));
+    all.extend(removes::runs().into_iter().map(|(run, _)| run));
     all
 }
 

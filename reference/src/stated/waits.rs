@@ -3,7 +3,7 @@
 
 use super::records::record;
 use super::rows::{Filling, Table};
-use crate::queue::{Operation, Place, Queue, Stage};
+use crate::queue::{Job, Operation, Place, Queue, Stage, JOBS};
 
 /// A step with what it gives and leaves.
 pub struct Case {
@@ -26,7 +26,7 @@ pub struct Case {
 pub enum At {
     /// G2 of an Insert.
     InsertG2(u8, u8),
-    /// G2 of a Delete_Min.
+    /// G2 of a removal.
     RemovalG2(u8, u8),
     /// L1.
     L1,
@@ -180,20 +180,24 @@ const TABLES: [Locks; 5] = [
 /// Each step while every lock is held, while its lock alone is held, while every
 /// lock but its own is held, and while none is. In the first two it waits, in
 /// the others it takes the lock: all that counts is the lock that it asks for.
+/// The steps of a removal are those of a Delete_Min, and then those of a Remove
+/// (document 02, W5).
 pub fn cases() -> Vec<Case> {
     let with_rows = |table: &'static Locks| table.rows.iter().map(move |row| (table, row));
-    TABLES
-        .iter()
-        .flat_map(with_rows)
-        .flat_map(|(table, row)| {
+    let each = |job: Job| {
+        let of_job = move |row: &Row| job == Job::HandOut || !matches!(row.2, InsertG2(..));
+        let all = TABLES.iter().flat_map(with_rows);
+        let some = all.filter(move |(_, row)| of_job(row));
+        some.flat_map(move |(table, row)| {
             [(true, true), (true, false), (false, true), (false, false)]
-                .map(|(held, others)| case(table, row, held, others))
+                .map(|(held, others)| case(table, row, job, held, others))
         })
-        .collect()
+    };
+    JOBS.into_iter().flat_map(each).collect()
 }
 
 /// A step whose lock is held or free, and so are all the others.
-fn case(table: &Locks, row: &Row, held: bool, others: bool) -> Case {
+fn case(table: &Locks, row: &Row, job: Job, held: bool, others: bool) -> Case {
     let &(processor, own, at, waits) = row;
     let mut queue = empty(table);
     if others {
@@ -201,18 +205,18 @@ fn case(table: &Locks, row: &Row, held: bool, others: bool) -> Case {
     }
     *lock(&mut queue, own, at) = if held { waits[1] as u8 + 1 } else { 0 };
     let caller = &mut queue.processors[processor as usize];
-    (caller.own, caller.stage) = (own, stage(at));
+    (caller.own, caller.stage) = (own, stage(at, job));
     let mut after = queue.clone();
     after.clock += 1;
     if !held {
         *lock(&mut after, own, at) = processor as u8 + 1;
-        after.processors[processor as usize].stage = next(table, at);
+        after.processors[processor as usize].stage = next(table, at, job);
     }
     let words = |held: bool| if held { "held" } else { "free" };
     let sizes = table.sizes;
     Case {
         what: format!(
-            "{sizes:?}: {processor} with node {own} at {at:?}, its lock {}, all others {}",
+            "{sizes:?}: {processor} with node {own} at {at:?}, {job:?}, its lock {}, all others {}",
             words(held),
             words(others)
         ),
@@ -264,22 +268,24 @@ fn lock(queue: &mut Queue, own: u8, at: At) -> &mut u8 {
     &mut queue.nodes[usize::from(node)].level_locks[usize::from(level) - 1]
 }
 
-fn stage(at: At) -> Stage {
+fn stage(at: At, job: Job) -> Stage {
+    let removal = Operation::Removal(job);
     match at {
         InsertG2(node, level) => Stage::G2Lock(Operation::Insert, Place { node, level }),
-        RemovalG2(node, level) => Stage::G2Lock(Operation::DeleteMin, Place { node, level }),
-        L1 => Stage::L1LockNode,
-        L2(node, level) => Stage::L2LockOwn(Place { node, level }),
+        RemovalG2(node, level) => Stage::G2Lock(removal, Place { node, level }),
+        L1 => Stage::L1LockNode(job),
+        L2(node, level) => Stage::L2LockOwn(job, Place { node, level }),
     }
 }
 
 /// The stage after the lock is taken.
-fn next(table: &Locks, at: At) -> Stage {
+fn next(table: &Locks, at: At, job: Job) -> Stage {
     let (level, node) = table.seek;
+    let removal = Operation::Removal(job);
     match at {
         InsertG2(node, level) => Stage::G3Reread(Operation::Insert, Place { node, level }),
-        RemovalG2(node, level) => Stage::G3Reread(Operation::DeleteMin, Place { node, level }),
-        L1 => Stage::G1Read(Operation::DeleteMin, Place { node, level }),
-        L2(node, level) => Stage::L3Unlink(Place { node, level }),
+        RemovalG2(node, level) => Stage::G3Reread(removal, Place { node, level }),
+        L1 => Stage::G1Read(removal, Place { node, level }),
+        L2(node, level) => Stage::L3Unlink(job, Place { node, level }),
     }
 }

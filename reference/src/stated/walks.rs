@@ -4,7 +4,7 @@
 
 use super::records::record;
 use super::rows::{Filling, Table};
-use crate::queue::{Operation, Place, Queue, Stage, Use};
+use crate::queue::{Job, Operation, Place, Queue, Stage, Use};
 
 /// A step with what it gives and leaves.
 pub struct Case {
@@ -129,7 +129,8 @@ fn case(at: At, does: Does, p: usize, begin: u32, own: u8) -> Case {
         }
         Marks(node, [due, item, ticket]) => {
             let head = Place { node: 0, level: 2 };
-            (caller.own, caller.stage) = (node, Stage::Search(Operation::DeleteMin, head));
+            let removal = Operation::Removal(Job::HandOut);
+            (caller.own, caller.stage) = (node, Stage::Search(removal, head));
             after.nodes[usize::from(node)].mark = p as u8 + 1;
             [4, due, item, ticket]
         }

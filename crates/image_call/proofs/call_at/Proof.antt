@@ -43,8 +43,8 @@ returns-3 c =
 enum-known-c-4 : tie.Need-enum-known-c-4
 enum-known-c-4 c = search needs
 
-step-at-requires : tie.Need-step-at-requires
-step-at-requires c κs = search needs
+begin-remove-at-requires : tie.Need-begin-remove-at-requires
+begin-remove-at-requires c κs = search needs
 
 same-length-4 : tie.Need-same-length-4
 same-length-4 c = search needs
@@ -52,6 +52,20 @@ same-length-4 c = search needs
 returns-4 : tie.Need-returns-4
 returns-4 c =
     rw (c .before .before .before .before .before .c4 .given .1)
+    (c .before .before .begin-remove-at .ensures)
+
+enum-known-c-5 : tie.Need-enum-known-c-5
+enum-known-c-5 c = search needs
+
+step-at-requires : tie.Need-step-at-requires
+step-at-requires c κs = search needs
+
+same-length-5 : tie.Need-same-length-5
+same-length-5 c = search needs
+
+returns-5 : tie.Need-returns-5
+returns-5 c =
+    rw (c .before .before .before .before .before .c5 .given .1)
     (c .before .before .step-at .ensures)
 
 pub call-at-spec : {M : Type 1} → statement M
@@ -71,6 +85,10 @@ call-at-spec =
     same-length-3
     returns-3
     enum-known-c-4
-    step-at-requires
+    begin-remove-at-requires
     same-length-4
-    returns-4)
+    returns-4
+    enum-known-c-5
+    step-at-requires
+    same-length-5
+    returns-5)

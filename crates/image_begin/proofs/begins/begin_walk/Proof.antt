@@ -40,7 +40,7 @@ returns c =
     let n = c .before .before .before .before .before .before .before .before in
     let s = n .before .before .before in (
       simp (n .number-from .ensures),
-      walk-stored (s .args .image .now) _ _ _ _ (s .args .first)
+      walk-stored (s .args .image .now) _ _ _ _ (s .args .first) (s .args .level)
           (c .before .before .before .before .before .before .tick .ensures)
           (n .number-from .ensures) (c .before .before .begin .ensures),
     )

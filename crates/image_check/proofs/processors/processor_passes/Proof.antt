@@ -2,7 +2,7 @@ use mathlib.Core.Path.{_∙_}
 use Prim.Native.Nat.{_+_, _*_}
 use native.Mathlib.Omega.{arith}
 use Rattle.image_check.proofs.Tests.{processor-begun, processor-saved, processor-past}
-use Rattle.image_check.proofs.Tests.{processor-tests}
+use Rattle.image_check.proofs.Tests.{processor-errand}
 use borrow.Author.Needs.{needs}
 use borrow.Author.Tests.{not-true, not-false}
 use Rattle.image_check.proofs.processors.processor_passes.Statement.{statement}
@@ -59,13 +59,49 @@ shared-slice-read-tag c = search needs
 cast-tag : tie.Need-cast-tag
 cast-tag c =
     let p = c .before .before .before .before .before .before .before .before .before .args .p in
-    omega (arith, c .shared-slice-known4 .given (7 + 17 * p + 5))
+    omega (arith, c .shared-slice-known4 .given (7 + 26 * p + 5))
 
 returns-3 : tie.Need-returns-3
 returns-3 c =
     let s = c .before .before .before .before .before .before .before .before .before .before in
     processor-past (s .args .b .now) (s .args .p) (s .pre .1) (s .pre .2) (s .pre .4) (s .pre .5)
     (c .if3 .taken)
+
+add-number-from-2 : tie.Need-add-number-from-2
+add-number-from-2 c = search needs
+
+number-from-requires-3 : tie.Need-number-from-requires-3
+number-from-requires-3 c κs = search needs
+
+add-number-from-3 : tie.Need-add-number-from-3
+add-number-from-3 c = search needs
+
+number-from-requires-4 : tie.Need-number-from-requires-4
+number-from-requires-4 c κs = search needs
+
+add-errand-passes : tie.Need-add-errand-passes
+add-errand-passes c = search needs
+
+shared-slice-read-errand-passes : tie.Need-shared-slice-read-errand-passes
+shared-slice-read-errand-passes c = search needs
+
+errand-passes-requires : tie.Need-errand-passes-requires
+errand-passes-requires c κs = search needs
+
+returns-4 : tie.Need-returns-4
+returns-4 c =
+    let e = c .before in
+    let n = e .before .before in
+    let d3 = n .before .before in
+    let d2 = d3 .before .before in
+    let d1 = d2 .before .before in
+    let s = d1 .before .before .before .before .before .before in
+    let b = s .args .b .now in
+    processor-errand b (s .args .p) (s .pre .1) (s .pre .2) (s .pre .4) (s .pre .5)
+    (d1 .before .before .number-from .ensures) (d1 .before .number-from2 .ensures) (d1 .if1 .left)
+    (d2 .before .levels-low .ensures) (not-false _ (d2 .if2 .left)) (omega (arith, d3 .if3 .left))
+    (n .before .number-from3 .ensures) (n .number-from4 .ensures) (e .errand-passes .ensures)
+    (not-true _ (c .if4 .taken))
 
 add-stage-passes : tie.Need-add-stage-passes
 add-stage-passes c = search needs
@@ -94,16 +130,22 @@ shared-slice-read-stage-passes-4 c = search needs
 stage-passes-requires : tie.Need-stage-passes-requires
 stage-passes-requires c κs = search needs
 
-returns-4 : tie.Need-returns-4
-returns-4 c =
-    let d3 = c .before .before .before .before .before in
+returns-5 : tie.Need-returns-5
+returns-5 c =
+    let d4 = c .before .before .before .before .before in
+    let e = d4 .before in
+    let n = e .before .before in
+    let d3 = n .before .before in
     let d2 = d3 .before .before in
     let d1 = d2 .before .before in
     let s = d1 .before .before .before .before .before .before in
+    let b = s .args .b .now in
     c .stage-passes .ensures
-    ∙ processor-tests (s .args .b .now) (s .args .p) (s .pre .1) (s .pre .2) (s .pre .4) (s .pre .5)
+    ∙ processor-errand b (s .args .p) (s .pre .1) (s .pre .2) (s .pre .4) (s .pre .5)
     (d1 .before .before .number-from .ensures) (d1 .before .number-from2 .ensures) (d1 .if1 .left)
     (d2 .before .levels-low .ensures) (not-false _ (d2 .if2 .left)) (omega (arith, d3 .if3 .left))
+    (n .before .number-from3 .ensures) (n .number-from4 .ensures) (e .errand-passes .ensures)
+    (not-false _ (d4 .if4 .left))
 
 pub processor-passes-spec : {M : Type 1} → statement M
 processor-passes-spec =
@@ -125,6 +167,14 @@ processor-passes-spec =
     shared-slice-read-tag
     cast-tag
     returns-3
+    add-number-from-2
+    number-from-requires-3
+    add-number-from-3
+    number-from-requires-4
+    add-errand-passes
+    shared-slice-read-errand-passes
+    errand-passes-requires
+    returns-4
     add-stage-passes
     shared-slice-read-stage-passes
     add-stage-passes-2
@@ -134,4 +184,4 @@ processor-passes-spec =
     add-stage-passes-4
     shared-slice-read-stage-passes-4
     stage-passes-requires
-    returns-4)
+    returns-5)

@@ -78,19 +78,54 @@ returns-3 c =
       eq-eqb _ _ (i .if3 .taken),
     ) (c .before .before .begin-relaxed-at .ensures)
 
-step-at-requires : tie.Need-step-at-requires
-step-at-requires c κs = search needs
+add-begin-remove-at : tie.Need-add-begin-remove-at
+add-begin-remove-at c = search needs
+
+mul-begin-remove-at : tie.Need-mul-begin-remove-at
+mul-begin-remove-at c = search needs
+
+shared-slice-read-begin-remove-at : tie.Need-shared-slice-read-begin-remove-at
+shared-slice-read-begin-remove-at c = search needs
+
+add-begin-remove-at-2 : tie.Need-add-begin-remove-at-2
+add-begin-remove-at-2 c = search needs
+
+mul-begin-remove-at-2 : tie.Need-mul-begin-remove-at-2
+mul-begin-remove-at-2 c = search needs
+
+shared-slice-read-begin-remove-at-2 : tie.Need-shared-slice-read-begin-remove-at-2
+shared-slice-read-begin-remove-at-2 c = search needs
+
+begin-remove-at-requires : tie.Need-begin-remove-at-requires
+begin-remove-at-requires c κs = search needs
 
 same-length-4 : tie.Need-same-length-4
 same-length-4 c = search needs
 
 returns-4 : tie.Need-returns-4
 returns-4 c =
+    let i = c .before .before .before .before .before .before in
+    rw (
+      ne-eqb _ _ (i .before .before .before .if1 .left),
+      ne-eqb _ _ (i .before .before .if2 .left),
+      ne-eqb _ _ (i .before .if3 .left),
+      eq-eqb _ _ (i .if4 .taken),
+    ) (c .before .before .begin-remove-at .ensures)
+
+step-at-requires : tie.Need-step-at-requires
+step-at-requires c κs = search needs
+
+same-length-5 : tie.Need-same-length-5
+same-length-5 c = search needs
+
+returns-5 : tie.Need-returns-5
+returns-5 c =
     let i = c .before .before .before .before in
     rw (
-      ne-eqb _ _ (i .before .before .if1 .left),
-      ne-eqb _ _ (i .before .if2 .left),
-      ne-eqb _ _ (i .if3 .left),
+      ne-eqb _ _ (i .before .before .before .if1 .left),
+      ne-eqb _ _ (i .before .before .if2 .left),
+      ne-eqb _ _ (i .before .if3 .left),
+      ne-eqb _ _ (i .if4 .left),
     ) (c .before .before .step-at .ensures)
 
 pub turn-spec : {M : Type 1} → statement M
@@ -120,6 +155,15 @@ turn-spec =
     begin-relaxed-at-requires
     same-length-3
     returns-3
-    step-at-requires
+    add-begin-remove-at
+    mul-begin-remove-at
+    shared-slice-read-begin-remove-at
+    add-begin-remove-at-2
+    mul-begin-remove-at-2
+    shared-slice-read-begin-remove-at-2
+    begin-remove-at-requires
     same-length-4
-    returns-4)
+    returns-4
+    step-at-requires
+    same-length-5
+    returns-5)

@@ -18,6 +18,15 @@ add-own c = search needs
 slice-read-own : tie.Need-slice-read-own
 slice-read-own c = search needs
 
+add-deed-of : tie.Need-add-deed-of
+add-deed-of c = search needs
+
+slice-read-deed-of : tie.Need-slice-read-deed-of
+slice-read-deed-of c = search needs
+
+deed-of-requires : tie.Need-deed-of-requires
+deed-of-requires c κs = search needs
+
 slice-read-l : tie.Need-slice-read-l
 slice-read-l c = search needs
 
@@ -68,30 +77,72 @@ slice-write-image c = search needs
 
 put-number-requires : tie.Need-put-number-requires
 put-number-requires c κs =
-    let k = c .before .before .before .tick .kept .0 in
-    let r = c .before .before .before .before .before .before .before .before .before .before .before .before .before .before .before .before .pre in (
+    let t = c .before .before .before in
+    let n3 = t .before .before .before .before in
+    let d = n3 .before .before .before .before .before .before .before in
+    let r = d .before .before .before .before .pre in
+    let k = t .tick .kept .0 in (
       simp length-set (omega (arith, k, r .long, r .own-high)),
-      simp length-set
-          (omega (arith, k, r .long, r .start, r .processors-high, r .nodes-high)),
+      simp length-set (omega (arith, k, r .long, r .start, r .processors-high, r .nodes-high)),
     )
 
 clear-requires : tie.Need-clear-requires
 clear-requires c κs =
-    let r = c .before .before .before .before .before .before .before .before .before .before .before .before .before .before .before .before .before .before .before .before .pre in
-    let m = (simp length-set at (c .before .before .before .put-number .kept .0))
-    ∙ c .before .before .before .before .before .before .before .tick .kept .0 ∙ r .long in (
+    let n = c .before .before .before in
+    let t = n .before .before .before .before in
+    let n3 = t .before .before .before .before in
+    let d = n3 .before .before .before .before .before .before .before in
+    let r = d .before .before .before .before .pre in
+    let m = (simp length-set at (n .put-number .kept .0)) ∙ t .tick .kept .0 ∙ r .long in (
       omega (arith, m, r .low, r .start),
       omega (arith, m, r .start, r .processors-high, r .nodes-high),
       r .levels-high,
     )
 
+add-image-2 : tie.Need-add-image-2
+add-image-2 c = search needs
+
+slice-write-image-2 : tie.Need-slice-write-image-2
+slice-write-image-2 c =
+    let n = c .before .before .before .before .before .before in
+    let t = n .before .before .before .before in
+    let n3 = t .before .before .before .before in
+    let d = n3 .before .before .before .before .before .before .before in
+    let r = d .before .before .before .before .pre in
+    let m = c .before .before .clear .kept .0 ∙ (simp length-set at (n .put-number .kept .0))
+    ∙ t .tick .kept .0 ∙ r .long in
+    omega (arith, m, r .low, r .start)
+
 same-length : tie.Need-same-length
-same-length c = c .before .before .clear .kept .0 ∙ (simp length-set at (c .before .before .before .before .before .before .put-number .kept .0)) ∙ c .before .before .before .before .before .before .before .before .before .before .tick .kept .0
+same-length c =
+    let n = c .before .before .before .before .before .before in
+    simp length-set
+    (c .before .before .clear .kept .0 ∙ (simp length-set at (n .put-number .kept .0))
+    ∙ n .before .before .before .before .tick .kept .0)
 
 returns : tie.Need-returns
 returns c =
-    let s = c .before .before .before .before .before .before .before .before .before .before .before .before .before .before .before .before .before .before .before .before .before .before .before in
-    retires (s .args .image .now) (s .args .base) (s .args .p) (s .pre) _ _ (simp (c .before .before .clear .ensures, c .before .before .before .before .before .before .put-number .ensures, c .before .before .before .before .before .before .before .before .before .before .tick .ensures, c .before .before .before .before .before .before .before .before .before .before .before .before .number-from4 .ensures)) (simp (c .before .before .before .before .before .before .before .before .before .before .before .before .before .before .before .before .before .before .number-from .ensures, c .before .before .before .before .before .before .before .before .before .before .before .before .before .before .before .before .number-from2 .ensures, c .before .before .before .before .before .before .before .before .before .before .before .before .before .before .number-from3 .ensures))
+    let n = c .before .before .before .before .before .before in
+    let t = n .before .before .before .before in
+    let n4 = t .before .before in
+    let n3 = n4 .before .before in
+    let n2 = n3 .before .before in
+    let n1 = n2 .before .before in
+    let d = n1 .before .before .before in
+    let s = d .before .before .before .before in
+    retires (s .args .image .now) (s .args .base) (s .args .p) (s .pre) _ _
+    (simp (
+      c .before .before .clear .ensures,
+      n .put-number .ensures,
+      t .tick .ensures,
+      n4 .number-from4 .ensures,
+    ))
+    (simp (
+      d .deed-of .ensures,
+      n1 .number-from .ensures,
+      n2 .number-from2 .ensures,
+      n3 .number-from3 .ensures,
+    ))
 
 pub retire-spec : {M : Type 1} → statement M
 retire-spec =
@@ -101,6 +152,9 @@ retire-spec =
     add-at
     add-own
     slice-read-own
+    add-deed-of
+    slice-read-deed-of
+    deed-of-requires
     slice-read-l
     cast-l
     cast-here
@@ -119,5 +173,7 @@ retire-spec =
     slice-write-image
     put-number-requires
     clear-requires
+    add-image-2
+    slice-write-image-2
     same-length
     returns)

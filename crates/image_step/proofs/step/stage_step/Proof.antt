@@ -1,7 +1,7 @@
 use mathlib.Core.Path.{refl}
 use native.Mathlib.Omega.{arith}
 use Rattle.rules.specs.declared.calls.Call.the-variants as call
-use Rattle.image_parts.proofs.Sounds.{placed, owned, walked, kept-sound, never, beyond}
+use Rattle.image_parts.proofs.Sounds.{placed, owned, walked, seeking, kept-sound, never, beyond}
 use borrow.Author.Needs.{needs}
 use Rattle.image_step.proofs.step.stage_step.Statement.{statement}
 use Rattle.image_step.proofs.step.stage_step.Tie as tie
@@ -440,14 +440,83 @@ returns-28 c =
     kept-sound (s .args .image .now) (s .pre .0) (call.Step (s .args .p)) _ _
     (c .before .before .set-mark2 .ensures)
 
+search-requires-3 : tie.Need-search-requires-3
+search-requires-3 c κs =
+    let s = c .before .before .before .before in
+    let b = s .args .image .now in
+    seeking b _ (s .args .p) 29 (s .pre .0) (s .pre .1) (s .pre .2) (s .pre .3)
+    (c .before .match .keys29) refl refl
+
+same-length-29 : tie.Need-same-length-29
+same-length-29 c = search needs
+
 returns-29 : tie.Need-returns-29
 returns-29 c =
+    let s = c .before .before .before .before .before .before .before in
+    kept-sound (s .args .image .now) (s .pre .0) (call.Step (s .args .p)) _ _
+    (c .before .before .search3 .ensures)
+
+read-next-requires-3 : tie.Need-read-next-requires-3
+read-next-requires-3 c κs =
+    let s = c .before .before .before .before in
+    let b = s .args .image .now in
+    seeking b _ (s .args .p) 30 (s .pre .0) (s .pre .1) (s .pre .2) (s .pre .3)
+    (c .before .match .keys30) refl refl
+
+same-length-30 : tie.Need-same-length-30
+same-length-30 c = search needs
+
+returns-30 : tie.Need-returns-30
+returns-30 c =
+    let s = c .before .before .before .before .before .before .before in
+    kept-sound (s .args .image .now) (s .pre .0) (call.Step (s .args .p)) _ _
+    (c .before .before .read-next3 .ensures)
+
+test-stamp-requires-2 : tie.Need-test-stamp-requires-2
+test-stamp-requires-2 c κs =
+    let s = c .before .before .before .before in
+    let b = s .args .image .now in
+    seeking b _ (s .args .p) 31 (s .pre .0) (s .pre .1) (s .pre .2) (s .pre .3)
+    (c .before .match .keys31) refl refl
+
+same-length-31 : tie.Need-same-length-31
+same-length-31 c = search needs
+
+returns-31 : tie.Need-returns-31
+returns-31 c =
+    let s = c .before .before .before .before .before .before .before in
+    kept-sound (s .args .image .now) (s .pre .0) (call.Step (s .args .p)) _ _
+    (c .before .before .test-stamp2 .ensures)
+
+set-mark-requires-3 : tie.Need-set-mark-requires-3
+set-mark-requires-3 c κs =
+    let s = c .before .before .before .before in
+    let b = s .args .image .now in
+    seeking b _ (s .args .p) 32 (s .pre .0) (s .pre .1) (s .pre .2) (s .pre .3)
+    (c .before .match .keys32) refl refl
+
+same-length-32 : tie.Need-same-length-32
+same-length-32 c = search needs
+
+returns-32 : tie.Need-returns-32
+returns-32 c =
+    let s = c .before .before .before .before .before .before .before in
+    kept-sound (s .args .image .now) (s .pre .0) (call.Step (s .args .p)) _ _
+    (c .before .before .set-mark3 .ensures)
+
+returns-33 : tie.Need-returns-33
+returns-33 c =
     let s = c .before .before .before in
     let b = s .args .image .now in
     let r = c .match .rest in
+    let far = r .0 .0 .0 .0 .0 .0 .0 .0 .0 .0 .0 .0 .0 .0 .0 .0 in
     absurd
     (never b (s .args .p) (s .pre .0) (s .pre .2)
     (beyond _ (λ z. omega (arith, s .pre .4, z))
+    (far .0 .0 .0 .0 .0 .0 .0 .0 .0 .0 .0 .0 .0 .0 .0 .1)
+    (r .0 .0 .0 .0 .0 .0 .0 .0 .0 .0 .0 .0 .0 .0 .0 .0 .0 .0 .0 .0 .0 .0 .0 .0 .0 .0 .0 .0 .0 .0 .1)
+    (r .0 .0 .0 .0 .0 .0 .0 .0 .0 .0 .0 .0 .0 .0 .0 .0 .0 .0 .0 .0 .0 .0 .0 .0 .0 .0 .0 .0 .0 .1)
+    (r .0 .0 .0 .0 .0 .0 .0 .0 .0 .0 .0 .0 .0 .0 .0 .0 .0 .0 .0 .0 .0 .0 .0 .0 .0 .0 .0 .0 .1)
     (r .0 .0 .0 .0 .0 .0 .0 .0 .0 .0 .0 .0 .0 .0 .0 .0 .0 .0 .0 .0 .0 .0 .0 .0 .0 .0 .0 .1)
     (r .0 .0 .0 .0 .0 .0 .0 .0 .0 .0 .0 .0 .0 .0 .0 .0 .0 .0 .0 .0 .0 .0 .0 .0 .0 .0 .1)
     (r .0 .0 .0 .0 .0 .0 .0 .0 .0 .0 .0 .0 .0 .0 .0 .0 .0 .0 .0 .0 .0 .0 .0 .0 .0 .1)
@@ -559,4 +628,16 @@ stage-step-spec =
     set-mark-requires-2
     same-length-28
     returns-28
-    returns-29)
+    search-requires-3
+    same-length-29
+    returns-29
+    read-next-requires-3
+    same-length-30
+    returns-30
+    test-stamp-requires-2
+    same-length-31
+    returns-31
+    set-mark-requires-3
+    same-length-32
+    returns-32
+    returns-33)

@@ -1,8 +1,9 @@
 use mathlib.Core.Path.{sym, ap, _∙_, subst}
 use Prim.Native.Nat.{ℕ, _<_}
 use native.Mathlib.Omega.{arith}
+use Rattle.record.specs.declared.stages.Wanted.{Wanted}
 use Rattle.rules.specs.declared.calls.Call.{Call}
-use Rattle.rules.specs.Calls.{processorOf, decisionOf}
+use Rattle.rules.specs.Calls.{processorOf, removeDecision, decisionOf}
 use Rattle.rules.proofs.Allowed.{Allowed, allowed}
 use Rattle.queue_begin.proofs.Bounds.{height-high}
 use Rattle.queue.proofs.Steps.{insert-decided}
@@ -47,12 +48,21 @@ relaxed-begins-requires c κs = search needs
 enum-known-c-2 : tie.Need-enum-known-c-2
 enum-known-c-2 c = search needs
 
+wanting-requires : tie.Need-wanting-requires
+wanting-requires c κs = search needs
+
+remove-begins-requires : tie.Need-remove-begins-requires
+remove-begins-requires c κs = search needs
+
+enum-known-c-3 : tie.Need-enum-known-c-3
+enum-known-c-3 c = search needs
+
 step-decision-requires : tie.Need-step-decision-requires
 step-decision-requires c κs =
     let top = c .before .before .before .before in
     let q = top .args .q in
     let a = allowed q (top .args .c) (top .pre .1) in
-    let here = ap processorOf (c .before .c2 .given .1) in
+    let here = ap processorOf (c .before .c3 .given .1) in
     (top .pre .0, subst (λ (x : ℕ). x < q .processorCount) here (a .here))
 
 returns : tie.Need-returns
@@ -73,8 +83,15 @@ returns-3 c =
 
 returns-4 : tie.Need-returns-4
 returns-4 c =
+    let q = c .before .before .before .before .before .before .args .q in
+    c .remove-begins .ensures
+    ∙ ap (λ (w : Wanted). removeDecision q w) (c .before .wanting .ensures)
+    ∙ sym (ap (decisionOf q) (c .before .before .before .c2 .given .1))
+
+returns-5 : tie.Need-returns-5
+returns-5 c =
     let q = c .before .before .before .before .before .args .q in
-    c .step-decision .ensures ∙ sym (ap (decisionOf q) (c .before .before .c2 .given .1))
+    c .step-decision .ensures ∙ sym (ap (decisionOf q) (c .before .before .c3 .given .1))
 
 pub decision-of-spec : {M : Type 1} → statement M
 decision-of-spec =
@@ -89,8 +106,12 @@ decision-of-spec =
     enum-told-2
     relaxed-begins-requires
     enum-known-c-2
+    wanting-requires
+    remove-begins-requires
+    enum-known-c-3
     step-decision-requires
     returns
     returns-2
     returns-3
-    returns-4)
+    returns-4
+    returns-5)

@@ -1,19 +1,19 @@
-use mathlib.Core.Path.{_≡_, refl}
-use Rattle.record.specs.declared.stages.Job.{Job}
-use Rattle.record.specs.declared.stages.Job.the-variants as jobs
-use Rattle.rules.specs.declared.answers.Answer.the-variants as ans
-use Rattle.rules.specs.declared.answers.Deed.the-variants as deed
-use Rattle.rules.specs.declared.answers.Entry.{Entry}
-use Rattle.rules.specs.Decide.{handing}
+use Rattle.laws.proofs.Rules.{tests}
+use borrow.Author.Needs.{needs}
 use Rattle.queue_decide.proofs.removal.handing.Statement.{statement}
 use Rattle.queue_decide.proofs.removal.handing.Tie as tie
 
--- a match of one case asks nothing, and so tells nothing: there is one job
-handed : (job : Job) (e : Entry) → ans.Did deed.HandedOut e ≡ handing job e
-handed jobs.Deliver e = refl
+enum-told : tie.Need-enum-told
+enum-told c = search needs
+
+enum-told-2 : tie.Need-enum-told-2
+enum-told-2 c = search needs
 
 returns : tie.Need-returns
-returns c = handed (c .args .job) (c .args .e)
+returns c = search (tests, c .enum-told .given .1)
+
+returns-2 : tie.Need-returns-2
+returns-2 c = search (tests, c .enum-told2 .given .1)
 
 pub handing-spec : {M : Type 1} → statement M
-handing-spec = tie.close (tie.spec returns)
+handing-spec = tie.close (tie.spec enum-told enum-told-2 returns returns-2)

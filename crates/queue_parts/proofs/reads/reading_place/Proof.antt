@@ -30,6 +30,12 @@ relaxed-place-requires c κs = search needs
 enum-known-g-4 : tie.Need-enum-known-g-4
 enum-known-g-4 c = search needs
 
+remove-place-requires : tie.Need-remove-place-requires
+remove-place-requires c κs = search needs
+
+enum-known-g-5 : tie.Need-enum-known-g-5
+enum-known-g-5 c = search needs
+
 carried-place-requires-2 : tie.Need-carried-place-requires-2
 carried-place-requires-2 c κs = search needs
 
@@ -48,8 +54,11 @@ returns-4 : tie.Need-returns-4
 returns-4 c = c .relaxed-place .ensures ∙ ap readingPlace (sym (c .before .before .g3 .given .1))
 
 returns-5 : tie.Need-returns-5
-returns-5 c =
-    let g = c .before .before .g4 .given in
+returns-5 c = c .remove-place .ensures ∙ ap readingPlace (sym (c .before .before .g4 .given .1))
+
+returns-6 : tie.Need-returns-6
+returns-6 c =
+    let g = c .before .before .g5 .given in
     c .carried-place2 .ensures ∙ removal-reads (g .0 .0) (g .0 .1 .0) ∙ ap readingPlace (sym (g .1))
 
 pub reading-place-spec : {M : Type 1} → statement M
@@ -64,9 +73,12 @@ reading-place-spec =
     enum-known-g-3
     relaxed-place-requires
     enum-known-g-4
+    remove-place-requires
+    enum-known-g-5
     carried-place-requires-2
     returns
     returns-2
     returns-3
     returns-4
-    returns-5)
+    returns-5
+    returns-6)

@@ -14,6 +14,9 @@ key-for-requires c κs = search needs
 before-requires : tie.Need-before-requires
 before-requires c κs = search needs
 
+at-key-requires : tie.Need-at-key-requires
+at-key-requires c κs = search needs
+
 is-tail-requires : tie.Need-is-tail-requires
 is-tail-requires c κs = search needs
 
@@ -46,18 +49,20 @@ entry-of-requires-2 c κs = search needs
 
 returns : tie.Need-returns
 returns c =
-    let k = c .before .before .before .before .before .before .before .before .before .before .before in
+    let m = c .before .before .before .before .before in
+    let k = m .before .before .before .before .before .before .before in
     simp (
       c .entry-of2 .ensures,
       c .before .entry-of .ensures,
       c .before .before .saved-at .ensures,
       c .before .before .before .saved-below .ensures,
       c .before .before .before .before .saved-above .ensures,
-      c .before .before .before .before .before .stamped-before .ensures,
-      c .before .before .before .before .before .before .before .lock-at2 .ensures,
-      c .before .before .before .before .before .before .before .before .forward-at .ensures,
-      c .before .before .before .before .before .before .before .before .before .lock-at .ensures,
-      c .before .before .before .before .before .before .before .before .before .before .is-tail .ensures,
+      m .stamped-before .ensures,
+      m .before .before .lock-at2 .ensures,
+      m .before .before .before .forward-at .ensures,
+      m .before .before .before .before .lock-at .ensures,
+      m .before .before .before .before .before .is-tail .ensures,
+      m .before .before .before .before .before .before .at-key .ensures,
       k .before2 .ensures,
       k .before .key-for .ensures,
       k .before .before .key2 .ensures,
@@ -72,6 +77,7 @@ step-view-from-spec =
     key-requires-2
     key-for-requires
     before-requires
+    at-key-requires
     is-tail-requires
     lock-at-requires
     forward-at-requires

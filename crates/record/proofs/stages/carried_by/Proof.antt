@@ -30,6 +30,12 @@ relaxed-carried-requires c κs = search needs
 enum-known-g-4 : tie.Need-enum-known-g-4
 enum-known-g-4 c = search needs
 
+remove-carried-requires : tie.Need-remove-carried-requires
+remove-carried-requires c κs = search needs
+
+enum-known-g-5 : tie.Need-enum-known-g-5
+enum-known-g-5 c = search needs
+
 removal-carried-requires : tie.Need-removal-carried-requires
 removal-carried-requires c κs = search needs
 
@@ -46,7 +52,10 @@ returns-4 : tie.Need-returns-4
 returns-4 c = simp (c .relaxed-carried .ensures, c .before .before .g3 .given .1)
 
 returns-5 : tie.Need-returns-5
-returns-5 c = simp (c .removal-carried .ensures, c .before .before .g4 .given .1)
+returns-5 c = simp (c .remove-carried .ensures, c .before .before .g4 .given .1)
+
+returns-6 : tie.Need-returns-6
+returns-6 c = simp (c .removal-carried .ensures, c .before .before .g5 .given .1)
 
 pub carried-by-spec : {M : Type 1} → statement M
 carried-by-spec =
@@ -61,9 +70,12 @@ carried-by-spec =
     enum-known-g-3
     relaxed-carried-requires
     enum-known-g-4
+    remove-carried-requires
+    enum-known-g-5
     removal-carried-requires
     returns
     returns-2
     returns-3
     returns-4
-    returns-5)
+    returns-5
+    returns-6)

@@ -18,8 +18,8 @@ carrying-requires-2 c κs = search needs
 enum-known-g-3 : tie.Need-enum-known-g-3
 enum-known-g-3 c = search needs
 
-marking-at-requires : tie.Need-marking-at-requires
-marking-at-requires c κs = search needs
+seeking-requires : tie.Need-seeking-requires
+seeking-requires c κs = search needs
 
 returns : tie.Need-returns
 returns c = search (tests, c .carrying .ensures, c .before .before .g .given .1)
@@ -28,7 +28,7 @@ returns-2 : tie.Need-returns-2
 returns-2 c = search (tests, c .carrying2 .ensures, c .before .before .g2 .given .1)
 
 returns-3 : tie.Need-returns-3
-returns-3 c = search (tests, c .marking-at .ensures, c .before .before .g3 .given .1)
+returns-3 c = search (tests, c .seeking .ensures, c .before .before .g3 .given .1)
 
 pub delete-carried-spec : {M : Type 1} → statement M
 delete-carried-spec =
@@ -39,7 +39,7 @@ delete-carried-spec =
     enum-known-g-2
     carrying-requires-2
     enum-known-g-3
-    marking-at-requires
+    seeking-requires
     returns
     returns-2
     returns-3)

@@ -12,16 +12,16 @@ carrying-requires c κs = search needs
 enum-known-g-2 : tie.Need-enum-known-g-2
 enum-known-g-2 c = search needs
 
-marking-at-requires : tie.Need-marking-at-requires
-marking-at-requires c κs = search needs
+seeking-requires : tie.Need-seeking-requires
+seeking-requires c κs = search needs
 
 returns : tie.Need-returns
 returns c = search (tests, c .carrying .ensures, c .before .before .g .given .1)
 
 returns-2 : tie.Need-returns-2
-returns-2 c = search (tests, c .marking-at .ensures, c .before .before .g2 .given .1)
+returns-2 c = search (tests, c .seeking .ensures, c .before .before .g2 .given .1)
 
 pub relaxed-carried-spec : {M : Type 1} → statement M
 relaxed-carried-spec =
     tie.close
-    (tie.spec enum-known-g carrying-requires enum-known-g-2 marking-at-requires returns returns-2)
+    (tie.spec enum-known-g carrying-requires enum-known-g-2 seeking-requires returns returns-2)

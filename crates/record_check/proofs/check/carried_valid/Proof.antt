@@ -11,6 +11,9 @@ place-valid-requires c κs = search needs
 marking-valid-requires : tie.Need-marking-valid-requires
 marking-valid-requires c κs = search needs
 
+wanted-valid-requires : tie.Need-wanted-valid-requires
+wanted-valid-requires c κs = search needs
+
 both-requires : tie.Need-both-requires
 both-requires c κs = search needs
 
@@ -23,8 +26,25 @@ both-requires-2 c κs = search needs
 both-requires-3 : tie.Need-both-requires-3
 both-requires-3 c κs = search needs
 
+both-requires-4 : tie.Need-both-requires-4
+both-requires-4 c κs = search needs
+
 returns : tie.Need-returns
-returns c = simp (c .both3 .ensures, c .before .both2 .ensures, c .before .before .before .before .both .ensures, c .before .before .before .before .before .marking-valid .ensures, c .before .before .before .before .before .before .place-valid .ensures, c .before .before .before .before .before .before .before .own-valid .ensures)
+returns c =
+    let at1 = c .before .before in
+    let at2 = at1 .before .before .before in
+    let at3 = at2 .before in
+    let at4 = at3 .before .before in
+    simp (
+      c .both4 .ensures,
+      c .before .both3 .ensures,
+      at1 .both2 .ensures,
+      at2 .both .ensures,
+      at3 .wanted-valid .ensures,
+      at4 .marking-valid .ensures,
+      at4 .before .place-valid .ensures,
+      at4 .before .before .own-valid .ensures,
+    )
 
 pub carried-valid-spec : {M : Type 1} → statement M
 carried-valid-spec =
@@ -33,8 +53,10 @@ carried-valid-spec =
     own-valid-requires
     place-valid-requires
     marking-valid-requires
+    wanted-valid-requires
     both-requires
     add-both
     both-requires-2
     both-requires-3
+    both-requires-4
     returns)

@@ -6,6 +6,7 @@ use Rattle.rules.proofs.answers.plain.Reads as reads
 use Rattle.rules.proofs.answers.plain.Lts as lts
 use Rattle.rules.proofs.answers.deed_code.Reads as deed-code-reads
 use Rattle.rules.proofs.answers.with_entry.Reads as with-entry-reads
+use Rattle.rules.proofs.answers.with_key.Reads as with-key-reads
 use Rattle.rules.proofs.answers.with_value.Reads as with-value-reads
 
 enum-known-a : tie.Need-enum-known-a
@@ -47,6 +48,12 @@ with-value-requires-5 c κs = search needs
 enum-known-a-4 : tie.Need-enum-known-a-4
 enum-known-a-4 c = search needs
 
+with-key-requires : tie.Need-with-key-requires
+with-key-requires c κs = search needs
+
+enum-known-a-5 : tie.Need-enum-known-a-5
+enum-known-a-5 c = search needs
+
 deed-code-requires : tie.Need-deed-code-requires
 deed-code-requires c κs = search needs
 
@@ -69,7 +76,16 @@ returns-5 : tie.Need-returns-5
 returns-5 c = search (tests, c .with-value5 .ensures, c .before .enum-told2 .given .1)
 
 returns-6 : tie.Need-returns-6
-returns-6 c = search (tests, c .with-entry .ensures, c .before .deed-code .ensures, c .before .before .before .a4 .given .1)
+returns-6 c = search (tests, c .with-key .ensures, c .before .before .a4 .given .1)
+
+returns-7 : tie.Need-returns-7
+returns-7 c =
+    search (
+      tests,
+      c .with-entry .ensures,
+      c .before .deed-code .ensures,
+      c .before .before .before .a5 .given .1,
+    )
 
 pub plain-spec : {M : Type 1} → statement M
 plain-spec =
@@ -88,6 +104,8 @@ plain-spec =
     enum-told-2
     with-value-requires-5
     enum-known-a-4
+    with-key-requires
+    enum-known-a-5
     deed-code-requires
     with-entry-requires
     returns
@@ -95,4 +113,5 @@ plain-spec =
     returns-3
     returns-4
     returns-5
-    returns-6)
+    returns-6
+    returns-7)

@@ -69,9 +69,21 @@ keeps-rule-requires-5 c κs = search needs
 
 returns-5 : tie.Need-returns-5
 returns-5 c =
-    let x = c .before .before .before .before .before .before .args in
-    let e : x .index ≡ 4 = omega arith in
-    c .keeps-rule5 .ensures ∙ at-place (x .a) (x .b) (x .c) (x .d) (sym e)
+    let x = c .before .before .before .before .before .before .before .args in
+    c .keeps-rule5 .ensures
+    ∙ at-place (x .a) (x .b) (x .c) (x .d) (sym (c .before .before .if5 .taken))
+
+array-copy-out-rule-6 : tie.Need-array-copy-out-rule-6
+array-copy-out-rule-6 c = search needs
+
+keeps-rule-requires-6 : tie.Need-keeps-rule-requires-6
+keeps-rule-requires-6 c κs = search needs
+
+returns-6 : tie.Need-returns-6
+returns-6 c =
+    let x = c .before .before .before .before .before .before .before .args in
+    let e : x .index ≡ 5 = omega arith in
+    c .keeps-rule6 .ensures ∙ at-place (x .a) (x .b) (x .c) (x .d) (sym e)
 
 pub numbers-keep-spec : {M : Type 1} → statement M
 numbers-keep-spec =
@@ -91,4 +103,7 @@ numbers-keep-spec =
     returns-4
     array-copy-out-rule-5
     keeps-rule-requires-5
-    returns-5)
+    returns-5
+    array-copy-out-rule-6
+    keeps-rule-requires-6
+    returns-6)

@@ -37,8 +37,8 @@ returns-3 c =
     )
     (c .before .before .begin-relaxed-at .ensures)
 
-step-at-requires : tie.Need-step-at-requires
-step-at-requires c κs = search needs
+begin-remove-at-requires : tie.Need-begin-remove-at-requires
+begin-remove-at-requires c κs = search needs
 
 same-length-4 : tie.Need-same-length-4
 same-length-4 c = search needs
@@ -47,9 +47,27 @@ returns-4 : tie.Need-returns-4
 returns-4 c =
     let top = c .before .before .before .before in
     rw (
-      ne-eqb _ _ (top .before .before .before .before .if1 .left),
-      ne-eqb _ _ (top .before .before .if2 .left),
-      ne-eqb _ _ (top .if3 .left),
+      ne-eqb _ _ (top .before .before .before .before .before .before .if1 .left),
+      ne-eqb _ _ (top .before .before .before .before .if2 .left),
+      ne-eqb _ _ (top .before .before .if3 .left),
+      eq-eqb _ _ (top .if4 .taken),
+    )
+    (c .before .before .begin-remove-at .ensures)
+
+step-at-requires : tie.Need-step-at-requires
+step-at-requires c κs = search needs
+
+same-length-5 : tie.Need-same-length-5
+same-length-5 c = search needs
+
+returns-5 : tie.Need-returns-5
+returns-5 c =
+    let top = c .before .before .before .before in
+    rw (
+      ne-eqb _ _ (top .before .before .before .before .before .before .if1 .left),
+      ne-eqb _ _ (top .before .before .before .before .if2 .left),
+      ne-eqb _ _ (top .before .before .if3 .left),
+      ne-eqb _ _ (top .if4 .left),
     )
     (c .before .before .step-at .ensures)
 
@@ -66,6 +84,9 @@ call-line-spec =
     begin-relaxed-at-requires
     same-length-3
     returns-3
-    step-at-requires
+    begin-remove-at-requires
     same-length-4
-    returns-4)
+    returns-4
+    step-at-requires
+    same-length-5
+    returns-5)

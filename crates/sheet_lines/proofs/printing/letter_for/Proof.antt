@@ -27,7 +27,7 @@ returns-2 c =
 returns-3 : tie.Need-returns-3
 returns-3 c =
     let x = c .before .before .args in
-    past-end ℕ (letters (callLetter (callOf (x .l)))) (x .code) 7 82 refl (c .if2 .left)
+    past-end ℕ (letters (callLetter (callOf (x .l)))) (x .code) 9 82 refl (c .if2 .left)
 
 pub letter-for-spec : {M : Type 1} → statement M
 letter-for-spec =

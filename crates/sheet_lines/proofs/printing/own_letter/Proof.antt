@@ -12,9 +12,17 @@ returns-3 : tie.Need-returns-3
 returns-3 c = simp (c .match .keys3)
 
 returns-4 : tie.Need-returns-4
-returns-4 c =
+returns-4 c = simp (c .match .keys4)
+
+returns-5 : tie.Need-returns-5
+returns-5 c =
     let none = c .match .rest in
-    simp (ne-eqb _ _ (none .0 .0 .1), ne-eqb _ _ (none .0 .1), ne-eqb _ _ (none .1))
+    simp (
+      ne-eqb _ _ (none .0 .0 .0 .1),
+      ne-eqb _ _ (none .0 .0 .1),
+      ne-eqb _ _ (none .0 .1),
+      ne-eqb _ _ (none .1),
+    )
 
 pub own-letter-spec : {M : Type 1} → statement M
-own-letter-spec = tie.close (tie.spec returns returns-2 returns-3 returns-4)
+own-letter-spec = tie.close (tie.spec returns returns-2 returns-3 returns-4 returns-5)
