@@ -210,8 +210,8 @@ impl Queue {
         }
     }
 
-    /// X1: a node before the key is moved to and the read repeated, the key
-    /// itself is tested next, any other key is not the one that is wanted.
+    /// X1: a step along level 1. Past an earlier node the Remove reads on, at
+    /// the key itself it goes on to the test, at any other it has its answer.
     fn remove_read(&mut self, p: usize, wanted: Wanted, a: Place) -> Answer {
         let b = self.after(at(a.node, 1));
         match self.key(b).cmp(&wanted.key()) {
