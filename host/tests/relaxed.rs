@@ -5,47 +5,17 @@
 
 mod common;
 
-use common::{area_with, refused, reply, seed, stated_step, Call, Counts, Lent};
+use common::{counted_runs, refused, seed, stated_step, Call, Counts, Lent};
 use darthog_host::{Call as Asked, Done, Queue, Refusal, Step};
 use darthog_reference::image::encode;
 use darthog_reference::lists::call_of;
 use darthog_reference::random::Random;
-use darthog_reference::stated::lists::split;
-use darthog_reference::stated::relaxed::{before_its_answer, images, runs, Span};
-use darthog_reference::stated::waiting::Run;
+use darthog_reference::stated::relaxed::{before_its_answer, images, runs};
 use darthog_reference::stated::walks::cases;
 
-/// What is stated for a time.
-fn stated(spans: &[Span], time: u32) -> u32 {
-    let within = |span: &&Span| span.0 <= time && time <= span.1;
-    spans.iter().find(within).expect("the time is stated").2
-}
-
-/// One call at a time, and as a list; after each call Backlog gives what is
-/// stated.
 #[test]
 fn the_stated_runs_go_as_stated() {
-    let mut random = Random::new(seed());
-    let mut counts = Counts::default();
-    for (Run { what, sizes, turns }, spans) in runs() {
-        let [p, n, l] = sizes;
-        let fresh = Queue::new(p, n, l).expect("the sizes are in range");
-        let mut lent = Lent::new(fresh.as_bytes(), &mut random);
-        for (numbers, [code, first, second, third, clock]) in &turns {
-            let call = Call::of(&call_of(*numbers));
-            let got = lent.call(&call);
-            let told = reply([*code, *first, *second, *third]);
-            assert_eq!(got, told, "{what}, at {clock}");
-            let count = reply([0, stated(&spans, *clock), 0, 0]);
-            assert_eq!(lent.call(&Call::Backlog), count, "{what}, at {clock}");
-            counts.note_reply(call.entry(), &got);
-        }
-        let (calls, answers) = split(&turns);
-        let mut listed = Lent::new(fresh.as_bytes(), &mut random);
-        let got = listed.list(&calls, answers.len());
-        assert_eq!(got, (0, area_with(&answers, answers.len())), "{what}");
-        assert!(listed.now() == lent.now(), "{what}: as a list");
-    }
+    let counts = counted_runs(runs());
     counts.must_have(&[
         ("relaxed", &[0, 32, 33]),
         ("delete_min", &[0]),

@@ -9,18 +9,12 @@ use darthog_reference::lists::{call_of, numbers_of, run, run_inner};
 use darthog_reference::queue::{fresh, Queue};
 use darthog_reference::sheet;
 use darthog_reference::stated::lists::split;
-use darthog_reference::stated::relaxed::{before_its_answer, images, runs, Span};
+use darthog_reference::stated::relaxed::{before_its_answer, images, runs, stated};
 use darthog_reference::stated::relaxed::{HISTORY, REFUSED, REFUSED_HISTORY, SHEET};
 use darthog_reference::stated::walks::cases;
 
 fn start([p, n, l]: [u32; 3]) -> Queue {
     fresh(p.into(), n.into(), l.into()).expect("the sizes are in range")
-}
-
-/// What is stated for a time; the spans follow one another.
-fn stated(spans: &[Span], time: u32) -> u32 {
-    let within = |span: &&Span| span.0 <= time && time <= span.1;
-    spans.iter().find(within).expect("the time is stated").2
 }
 
 #[test]

@@ -13,7 +13,7 @@ use darthog_reference::random::Random;
 use darthog_reference::sheet;
 use darthog_reference::stated::items::no_node_free;
 use darthog_reference::stated::lists::split;
-use darthog_reference::stated::relaxed::Span;
+use darthog_reference::stated::relaxed::stated;
 use darthog_reference::stated::removes::{
     images, runs, stored_bytes, taken_back, BEGUN, BEGUN_KEY, HISTORY, LOOKING, REFUSED,
     REFUSED_CALLS, REFUSED_HISTORY, REMOVING, SHEET, TAKEN_KEYS,
@@ -22,12 +22,6 @@ use darthog_reference::stated::seeks::cases;
 
 fn start([p, n, l]: [u32; 3]) -> Queue {
     fresh(p.into(), n.into(), l.into()).expect("the sizes are in range")
-}
-
-/// What is stated for a time; the spans follow one another.
-fn stated(spans: &[Span], time: u32) -> u32 {
-    let within = |span: &&Span| span.0 <= time && time <= span.1;
-    spans.iter().find(within).expect("the time is stated").2
 }
 
 #[test]

@@ -12,6 +12,9 @@ use darthog_reference::image;
 use darthog_reference::lists;
 use darthog_reference::queue::{fresh, Queue};
 use darthog_reference::random::Random;
+use darthog_reference::stated::lists::split;
+use darthog_reference::stated::relaxed::{stated, Counted};
+use darthog_reference::stated::waiting::Run;
 use std::collections::BTreeMap;
 
 /// The seed of a test: DARTHOG_SEED if it is set. It is printed.
@@ -320,6 +323,33 @@ pub fn stated_step(
     assert_eq!(listed, (0, area_with(&answer, 5)), "{what}: as a list");
     assert!(lent.now() == after, "{what}: other bytes by a list");
     got
+}
+
+/// Stated runs, one call at a time and as a list; after each call Backlog gives
+/// what is stated.
+pub fn counted_runs(runs: Vec<Counted>) -> Counts {
+    let mut random = Random::new(seed());
+    let mut counts = Counts::default();
+    for (Run { what, sizes, turns }, spans) in runs {
+        let [p, n, l] = sizes;
+        let made = darthog_host::Queue::new(p, n, l).expect("the sizes are in range");
+        let mut lent = Lent::new(made.as_bytes(), &mut random);
+        for (numbers, [code, first, second, third, clock]) in &turns {
+            let call = Call::of(&lists::call_of(*numbers));
+            let got = lent.call(&call);
+            let told = reply([*code, *first, *second, *third]);
+            assert_eq!(got, told, "{what}, at {clock}");
+            let count = reply([0, stated(&spans, *clock), 0, 0]);
+            assert_eq!(lent.call(&Call::Backlog), count, "{what}, at {clock}");
+            counts.note_reply(call.entry(), &got);
+        }
+        let (calls, answers) = split(&turns);
+        let mut listed = Lent::new(made.as_bytes(), &mut random);
+        let got = listed.list(&calls, answers.len());
+        assert_eq!(got, (0, area_with(&answers, answers.len())), "{what}");
+        assert!(listed.now() == lent.now(), "{what}: as a list");
+    }
+    counts
 }
 
 /// Makes the calls of a list on bytes of their own and compares code, answers

@@ -8,6 +8,12 @@ use super::waiting::Run;
 /// From a time to a time: what Backlog gives.
 pub type Span = (u32, u32, u32);
 
+/// What is stated for a time; the spans follow one another.
+pub fn stated(spans: &[Span], time: u32) -> u32 {
+    let within = |span: &&Span| span.0 <= time && time <= span.1;
+    spans.iter().find(within).expect("the time is stated").2
+}
+
 /// A run with what Backlog gives before its first call and after each.
 pub type Counted = (Run, Vec<Span>);
 
