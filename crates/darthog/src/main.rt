@@ -1,5 +1,7 @@
 // Runs the sheet on standard input, its first 64 KiB, and prints its history, or a refusal's number
 // and line. What is printed is print_run's to say; this function only reads and writes.
+#![tactic(auto)]
+
 mod decimals;
 mod printing;
 

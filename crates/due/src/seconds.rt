@@ -8,7 +8,7 @@ ghost use Rattle.due.specs.Due.{reported_minutes};
 const SECONDS: u64 = 59999969;
 
 // A due minute, or refusal 35.
-#[derive(Drop)]
+#[derive(Clone, Copy)]
 pub enum Minutes {
     Refused(u8),
     Due(u32),

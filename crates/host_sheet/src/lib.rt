@@ -1,5 +1,7 @@
 // The run of a sheet for hosts in C and Rust. It is exported, takes any bytes, and has no
 // `requires`. include/darthog_sheet.h declares it for C.
+#![tactic(auto)]
+
 ghost use Rattle.std.specs.Prelude.{◌≡◌, length};
 ghost use Rattle.sheet_format.specs.Sheets.{outcome, reported_run, area_after};
 ghost use Rattle.host_sheet.specs.Replies.{sheet_reply};
@@ -9,7 +11,7 @@ use sheet_run::run_sheet;
 
 // A refusal's number and its line, or 0 and the length of the history in bytes.
 #[repr(C)]
-#[derive(Drop)]
+#[derive(Clone, Copy)]
 pub struct SheetReply {
     pub number: u32,
     pub value: usize,

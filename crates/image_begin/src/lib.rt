@@ -1,4 +1,6 @@
 // The begins in place, on the image of a record that passes check 21.
+#![tactic(auto)]
+
 pub mod begins;
 pub mod choice;
 pub mod stores;

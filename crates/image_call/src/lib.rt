@@ -1,5 +1,7 @@
 // Any call in place, on the image of a record that passes check 21; the image that it leaves is one
 // again.
+#![tactic(auto)]
+
 ghost use Rattle.image.specs.Image.{Sound};
 ghost use Rattle.image_parts.specs.Given.{Called};
 

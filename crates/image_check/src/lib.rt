@@ -1,3 +1,5 @@
+#![tactic(auto)]
+
 pub mod counting;
 pub mod levels;
 pub mod nodes;

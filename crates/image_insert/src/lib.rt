@@ -1,2 +1,4 @@
 // The stages of an Insert, in place.
+#![tactic(auto)]
+
 pub mod inserts;

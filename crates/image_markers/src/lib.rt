@@ -1,4 +1,6 @@
 // Markers on the bytes of a record that passes check 21 (02, W6).
+#![tactic(auto)]
+
 pub mod counting;
 pub mod pairs;
 

@@ -1,2 +1,4 @@
 // A Remove before its mark (02, W5), in place.
+#![tactic(auto)]
+
 pub mod finds;

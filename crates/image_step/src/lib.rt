@@ -1,4 +1,6 @@
 // A step in place.
+#![tactic(auto)]
+
 pub mod step;
 
 pub use step::{step_at, step_from};

@@ -2,6 +2,8 @@
 // refused, or decided (deciding) and carried out on the record (applying); check 21 keeps every
 // index in range. Single nodes and numbers go to the functions of `rules_refusals`, `queue_parts`,
 // `queue_decide` and `queue_begin`.
+#![tactic(auto)]
+
 pub mod applying;
 pub mod calls;
 pub mod deciding;

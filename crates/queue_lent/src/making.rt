@@ -6,7 +6,7 @@ ghost use Rattle.queue_lent.specs.Lent.{remade};
 use record::Queue;
 
 // The record after making, and 0 or the refusal's number.
-#[derive(Drop)]
+#[derive(Clone, Copy)]
 pub struct Remade {
     pub queue: Queue,
     pub refusal: u8,

@@ -2,6 +2,8 @@
 // processors, and the reads and writes of one node and one processor. No public function has a
 // `requires`: a number past the end of an array is read as a blank, and a write there changes
 // nothing.
+#![tactic(auto)]
+
 pub mod keys;
 pub mod levels;
 pub mod limits;

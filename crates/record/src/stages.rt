@@ -7,14 +7,14 @@ ghost use Rattle.record.specs.Stages.{remove_row, for_key, none_wanted, carried_
 ghost use Rattle.record.specs.Stages.{place, is_idle};
 
 // A node and a level, from 1.
-#[derive(Drop)]
+#[derive(Clone, Copy)]
 pub struct Place {
     pub node: u8,
     pub level: u8,
 }
 
 // Lock-seek: G1, G2, G3, and G4 with the node that G3 read.
-#[derive(Drop)]
+#[derive(Clone, Copy)]
 pub enum Seek {
     Approach(Place),
     Take(Place),
@@ -23,7 +23,7 @@ pub enum Seek {
 }
 
 // An Insert: its Search, its Lock-seeks, I1 to I5.
-#[derive(Drop)]
+#[derive(Clone, Copy)]
 pub enum Insert {
     Search(Place),
     Seek(Seek),
@@ -36,7 +36,7 @@ pub enum Insert {
 
 // What every operation does that has marked a node, from its Search on: L1, the Lock-seeks, L2 to
 // L8.
-#[derive(Drop)]
+#[derive(Clone, Copy)]
 pub enum Removal {
     Search(Place),
     HoldNode,
@@ -51,14 +51,14 @@ pub enum Removal {
 }
 
 // What a marked node is removed for: it is handed out, or taken back (02, W5).
-#[derive(Drop)]
+#[derive(Clone, Copy)]
 pub enum Job {
     Deliver,
     TakeBack,
 }
 
 // A Delete_Min before its mark: W1, W2, W3.
-#[derive(Drop)]
+#[derive(Clone, Copy)]
 pub enum Delete {
     ReadNext(Place),
     TestStamp(Place),
@@ -66,14 +66,14 @@ pub enum Delete {
 }
 
 // A Relaxed Delete_Min before its mark (02, W3): W1 and W3, with no test of the stamp between.
-#[derive(Drop)]
+#[derive(Clone, Copy)]
 pub enum Relaxed {
     ReadNext(Place),
     SetMark(Place),
 }
 
 // The key of the entry that a Remove is to take back.
-#[derive(Drop)]
+#[derive(Clone, Copy)]
 pub struct Wanted {
     pub due: u32,
     pub ticket: u32,
@@ -81,7 +81,7 @@ pub struct Wanted {
 
 // A Remove before its mark (02, W5): its Search, the read of the node after the place, the test of
 // its stamp, its mark.
-#[derive(Drop)]
+#[derive(Clone, Copy)]
 pub enum Remove {
     Search(Place),
     ReadNext(Place),
@@ -89,7 +89,7 @@ pub enum Remove {
     SetMark(Place),
 }
 
-#[derive(Drop)]
+#[derive(Clone, Copy)]
 pub enum Stage {
     Idle,
     Insert(Insert),
@@ -102,7 +102,7 @@ pub enum Stage {
 // The numbers that a stage carries: whether the operation has an own node, the place (the head at
 // level 1 where the stage has none), the node that G3 read (elsewhere the place's node), whether
 // the place is to be marked next (W3), and the key of a Remove (elsewhere due 0 and ticket 1).
-#[derive(Drop)]
+#[derive(Clone, Copy)]
 pub struct Carried {
     pub own: bool,
     pub place: Place,

@@ -15,7 +15,7 @@ use record::queues::{Processor, Queue};
 use record::stages::{Carried, Place, Wanted, carried_by};
 
 // P, N, L and the clock of a record.
-#[derive(Drop)]
+#[derive(Clone, Copy)]
 pub struct Sizes {
     pub processorCount: u8,
     pub nodeCount: u8,

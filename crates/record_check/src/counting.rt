@@ -7,7 +7,7 @@ use record::nodes::{Stamp, Use};
 use record::queues::Queue;
 
 // What Backlog answers: how many entries are answered and not marked, or refusal 21.
-#[derive(Drop)]
+#[derive(Clone, Copy)]
 pub enum Count {
     Refused(u8),
     Pending(u8),

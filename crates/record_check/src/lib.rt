@@ -1,5 +1,7 @@
 // What needs no step of an operation: making a queue, check 21 and Backlog. No public function has
 // a `requires`.
+#![tactic(auto)]
+
 pub mod check;
 pub mod counting;
 pub mod making;

@@ -9,7 +9,7 @@ use record::queues::{Processor, Queue};
 
 // Refusal 0: the queue is made. Otherwise the number of the refusal, and the queue is the smallest,
 // of one processor, node and level.
-#[derive(Drop)]
+#[derive(Clone, Copy)]
 pub struct Made {
     pub refusal: u8,
     pub queue: Queue,

@@ -11,7 +11,7 @@ use record::queues::Queue;
 use record_check::valid;
 
 // What markers answers: how many nodes are in use, or a refusal.
-#[derive(Drop)]
+#[derive(Clone, Copy)]
 pub enum Listed {
     Refused(u8),
     Nodes(u8),

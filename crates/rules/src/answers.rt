@@ -5,7 +5,7 @@ ghost use Rattle.rules.specs.Answers.{plainFrom, plain_of, deedCode, is_refused,
 use record::{Queue, Wanted};
 
 // What an entry holds.
-#[derive(Drop)]
+#[derive(Clone, Copy)]
 pub struct Entry {
     pub due: u32,
     pub item: u32,
@@ -13,7 +13,7 @@ pub struct Entry {
 }
 
 // What was done with an entry, for the answers that tell of one.
-#[derive(Drop)]
+#[derive(Clone, Copy)]
 pub enum Deed {
     Marked,
     Inserted,
@@ -22,7 +22,7 @@ pub enum Deed {
 }
 
 // specs/Answers.antt gives document 01's number and values of each case.
-#[derive(Drop)]
+#[derive(Clone, Copy)]
 pub enum Answer {
     Refused(u8),
     Began(u32),
@@ -36,7 +36,7 @@ pub enum Answer {
 }
 
 // The record after a call, and the call's answer.
-#[derive(Drop)]
+#[derive(Clone, Copy)]
 pub struct Outcome {
     pub queue: Queue,
     pub answer: Answer,
@@ -44,7 +44,7 @@ pub struct Outcome {
 
 // An answer in plain numbers, as hosts have it: its code, and its values or 0.
 #[repr(C)]
-#[derive(Drop)]
+#[derive(Clone, Copy)]
 pub struct PlainAnswer {
     pub code: u32,
     pub first: u32,

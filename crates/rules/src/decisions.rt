@@ -4,7 +4,7 @@ use crate::answers::{Answer, Entry};
 use record::{Place, Seek, Stage};
 
 // What a step reads of the record: numbers and flags alone.
-#[derive(Drop)]
+#[derive(Clone, Copy)]
 pub struct StepView {
     // the operation's own node: its number, its height, and who holds its node lock
     pub own: u8,
@@ -36,14 +36,14 @@ pub struct StepView {
 }
 
 // What an attempt to take a lock gives: the lock is taken, or this processor holds it (02, W1).
-#[derive(Drop)]
+#[derive(Clone, Copy)]
 pub enum Attempt {
     Taken,
     HeldBy(u8),
 }
 
 // A step of a Search: on along the level, one level down, or out of it.
-#[derive(Drop)]
+#[derive(Clone, Copy)]
 pub enum Searched {
     Ahead(Place),
     Down(Place),
@@ -51,7 +51,7 @@ pub enum Searched {
 }
 
 // A step of a Lock-seek: on; waiting, with the lock's holder; or done with the place's lock held.
-#[derive(Drop)]
+#[derive(Clone, Copy)]
 pub enum Sought {
     Goes(Effect, Seek),
     Waits(Seek, u8),
@@ -59,7 +59,7 @@ pub enum Sought {
 }
 
 // What a call does to one node.
-#[derive(Drop)]
+#[derive(Clone, Copy)]
 pub enum Effect {
     Keep,
     HoldLevel(Place),
@@ -76,7 +76,7 @@ pub enum Effect {
 
 // What becomes of the begin time and the saved nodes of the calling processor: both stay; the place
 // is saved for its level; the answer clears both; a begin sets the begin time.
-#[derive(Drop)]
+#[derive(Clone, Copy)]
 pub enum ProcessorChange {
     Keep,
     Save(Place),
@@ -84,7 +84,7 @@ pub enum ProcessorChange {
     Begin,
 }
 
-#[derive(Drop)]
+#[derive(Clone, Copy)]
 pub struct Decision {
     pub effect: Effect,
     pub stage: Stage,

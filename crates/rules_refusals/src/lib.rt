@@ -1,5 +1,7 @@
 // What a call is refused with, in numbers: the calls on a record by value and those in place on its
 // bytes ask here. 37 is asked apart, since a node is looked for only where nothing else refuses.
+#![tactic(auto)]
+
 ghost use Rattle.std.specs.Prelude.{◌≡◌, ◌||◌, ltb};
 ghost use Rattle.record.specs.Limits.{max_number};
 ghost use Rattle.rules.specs.Calls.{processor_of, turn_refusal, insert_refusal, numbers_refusal};

@@ -7,7 +7,7 @@ use crate::columns::columns_into;
 use crate::letters::{EVENT, LINE_FEED};
 
 // A line of the history.
-#[derive(Drop)]
+#[derive(Clone, Copy)]
 pub struct HistoryLine {
     pub letter: u8,
     pub time: u32,
@@ -18,7 +18,7 @@ pub struct HistoryLine {
 }
 
 // A refusal with its number and line, or the length of the history in bytes.
-#[derive(Drop)]
+#[derive(Clone, Copy)]
 pub enum SheetOutcome {
     Refused(u8, usize),
     Length(usize),

@@ -13,7 +13,7 @@ use crate::letters::{
 use record::levels::both;
 
 // A letter with the fields that it uses and their bounds. A field that it does not use holds 0.
-#[derive(Drop)]
+#[derive(Clone, Copy)]
 pub struct LetterRule {
     pub letter: u8,
     pub used: [bool; 4],
@@ -21,7 +21,7 @@ pub struct LetterRule {
     pub high: [u32; 4],
 }
 
-#[derive(Drop)]
+#[derive(Clone, Copy)]
 pub struct SheetLine {
     pub letter: u8,
     pub first: u32,
@@ -30,7 +30,7 @@ pub struct SheetLine {
     pub fourth: u32,
 }
 
-#[derive(Drop)]
+#[derive(Clone, Copy)]
 pub enum Reading {
     Bad,
     Form(SheetLine),

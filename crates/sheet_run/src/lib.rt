@@ -1,4 +1,6 @@
 // The run of a sheet.
+#![tactic(auto)]
+
 mod runs;
 
 ghost use Rattle.std.specs.Prelude.{◌≡◌, length};
