@@ -18,7 +18,7 @@ use Rattle.record_markers.specs.declared.listing.Listed.{Listed}
 use Rattle.record_markers.specs.declared.listing.Listed.TheVariants as listed
 use Rattle.record_markers.specs.Markers.{pairs_to, used_count, area_by, reported_markers}
 use Rattle.record_check.specs.Making.{outside, made}
-use Rattle.record_check.proofs.Made.{made_sizes, made_fresh}
+use Rattle.record_check.proofs.MadeLaws.{made_sizes, made_fresh}
 use Rattle.record.specs.declared.queues.Queue.{Queue}
 use Rattle.record.specs.Limits.{max_processors, max_nodes}
 use Rattle.record.specs.Queues.{fresh_queue}

@@ -10,7 +10,7 @@ use borrow.Author.Tests.{eqb-true, ne_eqb, lt-ltb}
 use Rattle.laws.specs.HowMany.{how_many}
 use Rattle.laws.proofs.HowMany.{many_more}
 use Rattle.record_check.specs.Backlog.{holds_pending, pending_at}
-use Rattle.record_check.proofs.Sizes.{valid_sizes}
+use Rattle.record_check.proofs.SizeLaws.{valid_sizes}
 use Rattle.record.specs.declared.nodes.Stamp.TheVariants as stamp
 use Rattle.record.specs.declared.nodes.Use.TheVariants as use'
 use Rattle.record.specs.Nodes.{is_in_use, is_marked, is_stamped}

@@ -20,7 +20,7 @@ use Rattle.record_check.specs.Check.{sizes_of, node_valid, processor_valid}
 use Rattle.record.specs.Limits.{max_processors, node_slots}
 use Rattle.record.specs.Nodes.{fresh_node}
 use Rattle.record.specs.Queues.{fresh_processor, node_at, processor_at}
-use Rattle.record_check.proofs.Sizes.{nodes_valid, processors_valid}
+use Rattle.record_check.proofs.SizeLaws.{nodes_valid, processors_valid}
 
 abbrev pub no_node : Node
 no_node = record { forward = []; levelLocks = []; nodeLock = 0; mark = 0; stamp = stamp.Unset; due = 0; ticket = 0; item = 0; height = 0; state = use'.Never }

@@ -7,7 +7,7 @@ use Rattle.rules.specs.Runs.{Turn}
 use Rattle.rules.specs.Book.{Book, empty_book, agrees, judged}
 use Rattle.rules.proofs.Demand3.{demand_three}
 use Rattle.record_check.specs.Making.{made}
-use Rattle.record_check.proofs.Made.{made_sizes, made_fresh, made_not}
+use Rattle.record_check.proofs.MadeLaws.{made_sizes, made_fresh, made_not}
 use Rattle.sheet_format.specs.Calls.{all_calls}
 use Rattle.sheet_format.specs.Lines.{line_of, part_at}
 use Rattle.sheet_format.specs.Sheets.{made_by}
