@@ -1,0 +1,18 @@
+use mathlib.Core.Path.{◌≡◌, refl, ◌∙◌, ap}
+use mathlib.Core.Bool.{◌||◌}
+use Prim.Native.Nat.{ℕ, ◌+◌, ◌-◌, ◌≤◌}
+use native.Mathlib.Omega.{arith}
+use lib.Dec.{leb}
+use borrow.Author.Rules.{rules}
+use Rattle.laws.specs.Every.{every_below}
+use Rattle.laws.proofs.Counting.{every_next}
+use Rattle.image.specs.Puts.{piece}
+use Rattle.image_check.proofs.Masks.{masked}
+use Rattle.image_check.proofs.levels.levels_low.Given as goal
+
+abbrev pub invariant-loop-k : goal.invariant-loop-k
+invariant-loop-k l =
+    (l.ok ≡ every_below (λ (i : ℕ). leb l.l i || leb (piece l.b l.o (l.j + i)) l.top) l.k) × (l.k ≤ 8)
+
+abbrev pub decreases-loop-k : goal.decreases-loop-k
+decreases-loop-k l = 8 - l.k
