@@ -1,0 +1,15 @@
+use Prim.Native.Nat.{◌-◌}
+use native.Mathlib.Omega.{arith}
+use borrow.Author.Rules.{rules}
+use lib.ListN.{length-set}
+use Rattle.image_make.proofs.Made.{header_stored}
+use borrow.Author.Rules.{rules}
+use Rattle.image_make.proofs.make.put_header.Goals as goal
+
+-- TODO goal same-length
+-- same_length c = (simp length-set at c.before.before.repeat.auto.0)
+
+pub returns : goal.returns
+returns c =
+    let a = c.args in
+    header_stored a.b.now _ a.p a.n a.l c.repeat.ensures

@@ -1,0 +1,26 @@
+use mathlib.Core.Path.{◌≡◌, refl, ◌∙◌, ap}
+use Prim.Native.Nat.{ℕ, ◌-◌, ◌≤◌}
+use native.Mathlib.Omega.{arith}
+use borrow.Author.Rules.{rules}
+use lib.ListN.{length}
+use Rattle.image.specs.Lists.{stored_at}
+use Rattle.image_make.specs.Fresh.{fresh_processors}
+use Rattle.image_make.proofs.Made.{none_called, one_called}
+use Rattle.image_make.proofs.make.put_processors.Goals as goal
+
+-- TODO goal same-length
+-- same_length c = c.before.loop.invariant.2
+
+pub loop-p-init : goal.loop-p-init
+loop-p-init c =
+    let a = c.args in
+    (none_called a.b.now, omega arith, refl)
+
+pub loop-p-preserved : goal.loop-p-preserved
+loop-p-preserved c =
+    let a = c.args in
+    let v = c.loop-p in (
+      one_called a.b.now v.b _ v.p c.repeat.ensures v.invariant.0,
+      omega arith,
+      c.repeat.auto.0 ∙ v.invariant.2,
+    )

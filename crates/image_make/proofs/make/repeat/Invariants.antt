@@ -1,0 +1,15 @@
+use mathlib.Core.Path.{◌≡◌, refl, ◌∙◌, ap}
+use Prim.Native.Nat.{ℕ, ◌-◌, ◌≤◌}
+use native.Mathlib.Omega.{arith}
+use borrow.Author.Rules.{rules}
+use lib.ListN.{length, length-set}
+use Rattle.image.specs.Lists.{stored_at}
+use Rattle.image_make.specs.Fresh.{repeated}
+use Rattle.image_make.proofs.Made.{none_repeated, one_repeated}
+use Rattle.image_make.proofs.make.repeat.Given as goal
+
+abbrev pub invariant-loop-k : goal.invariant-loop-k
+invariant-loop-k l = (l.b ≡ stored_at l.initial.b l.o (repeated l.v l.k)) × (l.k ≤ l.n) × (length l.b ≡ length l.initial.b)
+
+abbrev pub decreases-loop-k : goal.decreases-loop-k
+decreases-loop-k l = l.n - l.k
