@@ -23,5 +23,5 @@ loop-x-preserved c =
       one_noded a.b.now v.b _ a.base v.x a.tail
           c.put_node.ensures v.invariant.0,
       omega arith,
-      c.put_node.auto.0 ∙ v.invariant.2,
+      c.put_node.auto.b ∙ v.invariant.2,
     )

@@ -22,5 +22,5 @@ loop-p-preserved c =
     let v = c.loop-p in (
       one_called a.b.now v.b _ v.p c.repeat.ensures v.invariant.0,
       omega arith,
-      c.repeat.auto.0 ∙ v.invariant.2,
+      c.repeat.auto.b ∙ v.invariant.2,
     )

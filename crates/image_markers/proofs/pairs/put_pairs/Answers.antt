@@ -39,13 +39,13 @@ put_pair-requires c =
     let q = queue_in b in
     let v = c.loop-i in
     let e : in_use_at q (v.i + 1) ≡ true =
-    used_is b c.requires.0 (v.i + 1) (omega (arith, v.invariant.3))
+    used_is b c.requires.sound (v.i + 1) (omega (arith, v.invariant.3))
     ∙ eq-eqb _ _ c.if-image-o-eq-IN_USE.true in
     let h : v.i + 1 ≤ q.nodeCount = rw (nodes_is b) (omega arith) in
     omega (
       arith,
       room_used q v.i e q.nodeCount v.at (length c.args.area.now) h v.invariant.5
-          c.requires.1,
+          c.requires.image_in_bounds,
       v.invariant.7,
     )
 
@@ -56,10 +56,10 @@ loop-i-preserved-then-image-o-eq-IN_USE c =
     let v = c.loop-i in
     let low : v.i + 1 ≤ get_or b 1 0 + 1 = omega (arith, v.invariant.3) in
     let e : in_use_at q (v.i + 1) ≡ true =
-    used_is b c.requires.0 (v.i + 1) low ∙ eq-eqb _ _ c.if-image-o-eq-IN_USE.true in
+    used_is b c.requires.sound (v.i + 1) low ∙ eq-eqb _ _ c.if-image-o-eq-IN_USE.true in
     let h : v.i + 1 ≤ q.nodeCount = rw (nodes_is b) (omega arith) in
     let room = room_used q v.i e q.nodeCount v.at (length c.args.area.now) h
-    v.invariant.5 c.requires.1 in
+    v.invariant.5 c.requires.image_in_bounds in
     let p = c.put_pair.ensures in (
       v.invariant.0,
       v.invariant.1,
@@ -68,7 +68,7 @@ loop-i-preserved-then-image-o-eq-IN_USE c =
       omega (arith, v.invariant.4),
       place_used q v.i e v.at v.invariant.5,
       p ∙ area_used q v.i e c.args.area.now _ v.at _ v.invariant.5 room v.invariant.6
-          (mark_is b c.requires.0 (v.i + 1) low),
+          (mark_is b c.requires.sound (v.i + 1) low),
       ap length p ∙ simp length-set v.invariant.7,
     )
 
@@ -78,7 +78,7 @@ loop-i-preserved c =
     let q = queue_in b in
     let v = c.loop-i in
     let e : in_use_at q (v.i + 1) ≡ false =
-    used_is b c.requires.0 (v.i + 1) (omega (arith, v.invariant.3)) ∙ ne_eqb _ _ c.if-image-o-eq-IN_USE.false in (
+    used_is b c.requires.sound (v.i + 1) (omega (arith, v.invariant.3)) ∙ ne_eqb _ _ c.if-image-o-eq-IN_USE.false in (
       v.invariant.0,
       v.invariant.1,
       v.invariant.2,

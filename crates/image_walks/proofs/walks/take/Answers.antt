@@ -17,10 +17,10 @@ returns-in-Taken c =
     let low : 7 ≤ c.args.base + 41 * mine b c.args.p 6 + (8 + (mine b c.args.p 7 - 1)) =
     omega (arith, c.requires.start) in
     takes c.args.removal b c.args.base c.args.p c.requires _ _
-    (tried b _ _ _ _ _ low c.tick.ensures c.try_lock.ensures.0 c.enum_told-1.is)
+    (tried b _ _ _ _ _ low c.tick.ensures c.try_lock.ensures.0 c.in-Taken.is)
     (simp (
       c.try_lock.ensures.1,
-      c.enum_told-1.is,
+      c.in-Taken.is,
       c.tick.ensures,
       c.seek_tag-first.ensures.0,
     )) refl
@@ -31,5 +31,5 @@ returns-in-HeldBy c =
     let low : 7 ≤ c.args.base + 41 * mine b c.args.p 6 + (8 + (mine b c.args.p 7 - 1)) =
     omega (arith, c.requires.start) in
     take_waits c.args.removal b c.args.base c.args.p c.requires _ _ _
-    (tried b _ _ _ _ _ low c.tick.ensures c.try_lock.ensures.0 c.h-1.is)
-    (simp (c.try_lock.ensures.1, c.h-1.is, c.tick.ensures)) refl
+    (tried b _ _ _ _ _ low c.tick.ensures c.try_lock.ensures.0 c.in-HeldBy.is)
+    (simp (c.try_lock.ensures.1, c.in-HeldBy.is, c.tick.ensures)) refl
