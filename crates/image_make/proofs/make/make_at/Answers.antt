@@ -11,10 +11,10 @@ returns c =
     let e =
     all_stored P N L c.args.image.now _ _ _ r.0 r.4 c.put_header.ensures
     c.put_processors.ensures
-    c.put_nodes.ensures in (
-      e,
-      (
+    c.put_nodes.ensures in record {
+      image_after = e;
+      sound = (
         rw e (made_sound P N L r.1 r.2 r.3 r.4 r.5 r.6),
         rw e (made_read P N L r.1 r.2 r.3 r.4 r.5 r.6),
-      ),
-    )
+      );
+    }
