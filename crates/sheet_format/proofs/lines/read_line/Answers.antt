@@ -3,10 +3,9 @@ use lib.ListN.{get_or}
 use Rattle.sheet_format.specs.declared.lines.Reading.TheVariants as reading
 use Rattle.sheet_format.specs.Letters.{letter_rules}
 use Rattle.sheet_format.specs.Lines.{no_rule}
-use Rattle.sheet_format.proofs.Readings.{said, read_short, read_letter, read_fields, read_feed}
+use Rattle.sheet_format.proofs.Readings.{said, read_letter, read_fields, read_feed}
 use Rattle.sheet_format.proofs.Readings.{read_form}
 use Rattle.sheet_format.proofs.Readings.{line_numbers_lem, bounds_numbers}
-use borrow.Author.Rules.{rules}
 use Rattle.sheet_format.proofs.lines.read_line.Goals as goal
 
 pub returns-then-index-ge-LETTERS : goal.returns-then-index-ge-LETTERS
