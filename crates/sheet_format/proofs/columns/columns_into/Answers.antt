@@ -7,11 +7,6 @@ use Rattle.sheet_format.specs.Columns.{padded}
 use Rattle.sheet_format.proofs.Padding.{sets_column, sets_columns}
 use Rattle.sheet_format.proofs.columns.columns_into.Goals as goal
 
--- TODO goal same-length
--- same_length c =
---     let x = c.before.before.before.before.args in
---     c.before.loop.invariant.1 ∙ length-set x.area.now (x.at + 6) c.before.before.last-digit.result
-
 pub loop-k-preserved : goal.loop-k-preserved
 loop-k-preserved c =
     let l = c.loop-k in
