@@ -1,17 +1,11 @@
-use mathlib.Core.Path.{◌≡◌, refl, sym, ◌∙◌, ap}
-use Prim.Native.Nat.{ℕ, ◌≤◌, ◌-◌, ◌+◌}
+use mathlib.Core.Path.{◌≡◌, sym, ◌∙◌, ap}
+use Prim.Native.Nat.{ℕ, ◌-◌, ◌+◌}
 use native.Mathlib.Omega.{arith}
-use lib.ListN.{length, length-set}
+use lib.ListN.{length-set}
 use lib.Seq.{sets}
-use borrow.Author.Rules.{rules}
 use Rattle.sheet_format.specs.Columns.{padded}
 use Rattle.sheet_format.proofs.Padding.{sets_column, sets_columns}
 use Rattle.sheet_format.proofs.columns.columns_into.Goals as goal
-
--- TODO goal same-length
--- same_length c =
---     let x = c.before.before.before.before.args in
---     c.before.loop.invariant.1 ∙ length-set x.area.now (x.at + 6) c.before.before.last-digit.result
 
 pub loop-k-preserved : goal.loop-k-preserved
 loop-k-preserved c =

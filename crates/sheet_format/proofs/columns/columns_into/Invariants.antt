@@ -1,11 +1,8 @@
-use mathlib.Core.Path.{◌≡◌, refl, sym, ◌∙◌, ap}
-use Prim.Native.Nat.{ℕ, ◌≤◌, ◌-◌, ◌+◌}
-use native.Mathlib.Omega.{arith}
-use lib.ListN.{length, length-set}
+use mathlib.Core.Path.{◌≡◌}
+use Prim.Native.Nat.{◌≤◌}
+use lib.ListN.{length}
 use lib.Seq.{sets}
-use borrow.Author.Rules.{rules}
 use Rattle.sheet_format.specs.Columns.{padded}
-use Rattle.sheet_format.proofs.Padding.{sets_column, sets_columns}
 use Rattle.sheet_format.proofs.columns.columns_into.Given as goal
 
 abbrev pub invariant-loop-k : goal.invariant-loop-k

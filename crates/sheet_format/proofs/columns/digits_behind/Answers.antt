@@ -1,15 +1,13 @@
-use mathlib.Core.Path.{◌≡◌, sym, ◌∙◌, ap, subst}
+use mathlib.Core.Path.{◌≡◌, sym, ◌∙◌, ap}
 use mathlib.Core.Bool.{true, false}
-use Prim.Native.Nat.{ℕ, ◌-◌, ◌≤◌}
+use Prim.Native.Nat.{◌≤◌}
 use native.Mathlib.Omega.{arith}
 use lib.ListN.{drop, get_or}
 use lib.Seq.{get_or-drop}
-use borrow.Author.Rules.{rules}
-use borrow.Author.Tests.{not-true, not-false}
 use Rattle.sheet_format.specs.Columns.{is_digit}
-use Rattle.sheet_format.specs.Digits.{extended_by, NumberSoFar}
+use Rattle.sheet_format.specs.Digits.{extended_by}
 use Rattle.sheet_format.proofs.Digits.{value_small}
-use Rattle.sheet_format.proofs.Found.{number_stops, number_goes_on, number_ends}
+use Rattle.sheet_format.proofs.Found.{number_stops, number_goes_on}
 use Rattle.sheet_format.proofs.columns.digits_behind.Goals as goal
 
 pub returns-then-not-is_digit : goal.returns-then-not-is_digit

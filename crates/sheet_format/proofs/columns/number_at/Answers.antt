@@ -1,10 +1,9 @@
 use mathlib.Core.Path.{◌∙◌, ap}
 use lib.ListN.{drop}
 use lib.Seq.{get_or-drop}
-use borrow.Author.Tests.{eq-eqb, ne_eqb}
+use borrow.Author.Tests.{ne_eqb}
 use Rattle.sheet_format.specs.Columns.{is_space}
 use Rattle.sheet_format.proofs.Found.{longer}
-use borrow.Author.Rules.{rules}
 use Rattle.sheet_format.proofs.columns.number_at.Goals as goal
 
 pub returns : goal.returns

@@ -1,14 +1,8 @@
-use mathlib.Core.Path.{◌≡◌, refl, ◌∙◌, ap}
+use mathlib.Core.Path.{◌≡◌}
 use mathlib.Core.Bool.{true}
 use Prim.Native.Nat.{◌-◌, ◌≤◌}
-use native.Mathlib.Numerals.{add-one}
-use native.Mathlib.Omega.{arith}
-use lib.ListN.{drop, get_or}
-use lib.Seq.{get_or-drop}
-use borrow.Author.Rules.{rules}
-use borrow.Author.Tests.{eq-eqb, ne_eqb}
-use Rattle.laws.proofs.Counting.{and_both}
-use Rattle.sheet_format.specs.Columns.{is_space, blank_to}
+use lib.ListN.{drop}
+use Rattle.sheet_format.specs.Columns.{blank_to}
 use Rattle.sheet_format.proofs.columns.spaces_at.Given as goal
 
 abbrev pub invariant-loop-k : goal.invariant-loop-k

@@ -1,14 +1,7 @@
-use mathlib.Core.Path.{◌≡◌, refl, sym, ◌∙◌, ap, subst}
-use mathlib.Core.Bool.{true, false}
-use Prim.Native.Nat.{ℕ, ◌+◌, ◌-◌, ◌*◌, ◌≤◌, ◌<◌}
-use native.Mathlib.Omega.{arith}
-use lib.ListN.{length, take, drop}
-use borrow.Author.Rules.{rules}
+use mathlib.Core.Path.{◌≡◌}
+use Prim.Native.Nat.{◌-◌, ◌≤◌}
 use Rattle.sheet_format.specs.Kept.{kept_to}
-use Rattle.sheet_format.specs.Lines.{first_failing, line_in_form, line_of, line_count, part_at}
-use Rattle.sheet_format.proofs.Keeping.{kept_before, kept_whole, kept_next, length_kept}
-use Rattle.sheet_format.proofs.Readings.{fails_at, passes_more, bad_not, form_is, form_line}
-use Rattle.sheet_format.proofs.Parts.{tail_part, line_start, part_next}
+use Rattle.sheet_format.specs.Lines.{first_failing, line_in_form, part_at}
 use Rattle.sheet_format.proofs.forms.first_out_of_form.Given as goal
 
 abbrev pub invariant-loop-k : goal.invariant-loop-k

@@ -1,6 +1,5 @@
-use borrow.Author.Tests.{lt-ltb, le-ltb}
+use borrow.Author.Tests.{lt-ltb}
 use Rattle.sheet_format.specs.Kept.{room_for}
-use borrow.Author.Rules.{rules}
 use Rattle.sheet_format.proofs.kept.kept_line.Goals as goal
 
 pub returns : goal.returns

@@ -1,12 +1,7 @@
-use mathlib.Core.Path.{◌≡◌, sym, ◌∙◌, ap}
-use Prim.Native.Nat.{ℕ, ◌+◌, ◌-◌, ◌≤◌}
-use native.Mathlib.Nat.{zero-add}
 use native.Mathlib.Omega.{arith}
-use lib.ListN.{drop}
-use borrow.Author.Rules.{rules}
 use Rattle.sheet_format.specs.Letters.{letter_rules}
 use Rattle.sheet_format.specs.Lines.{rule_index}
-use Rattle.sheet_format.proofs.Table.{letter_count, index_found, index_next}
+use Rattle.sheet_format.proofs.Table.{index_next}
 use Rattle.sheet_format.proofs.lines.rule_index.Goals as goal
 
 pub loop-k-preserved : goal.loop-k-preserved
