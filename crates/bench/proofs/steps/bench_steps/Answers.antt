@@ -9,8 +9,8 @@ use Rattle.bench.proofs.steps.bench_steps.Goals as goal
 pub returns-then-not-passes : goal.returns-then-not-passes
 returns-then-not-passes c =
     let a = c.args in
-    not_ready a.image.now a.who.now
-    (sym c.passes.ensures ∙ c.if-not-passes.true)
+    let r = not_ready a.image.now a.who.now (sym c.passes.ensures ∙ c.if-not-passes.true) in
+    record { value = r.0; image_after = r.1 }
 
 pub run_steps-requires : goal.run_steps-requires
 run_steps-requires c =
@@ -22,7 +22,7 @@ run_steps-requires c =
 pub returns : goal.returns
 returns c =
     let a = c.args in
-    was_ready a.image.now a.who.now _
-    (sym c.passes.ensures
-    ∙ c.if-not-passes.false)
-    c.run_steps.ensures
+    let r =
+        was_ready a.image.now a.who.now _ (sym c.passes.ensures ∙ c.if-not-passes.false)
+        c.run_steps.ensures in
+    record { value = r.0; image_after = r.1 }
