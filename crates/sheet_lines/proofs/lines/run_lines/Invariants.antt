@@ -1,30 +1,10 @@
-use mathlib.Core.Path.{◌≡◌, refl, sym, ap, ◌∙◌}
-use mathlib.Core.Bool.{Bool, true}
+use mathlib.Core.Path.{◌≡◌}
 use mathlib.Core.List.{List}
-use Prim.Native.Nat.{ℕ, ◌+◌, ◌-◌, ◌*◌, ◌≤◌, ◌<◌}
-use native.Mathlib.Omega.{arith}
+use Prim.Native.Nat.{ℕ, ◌-◌, ◌≤◌}
 use lib.ListN.{length}
-use mir.Syntax.{w64}
-use mir.Val.{Fits}
-use borrow.Author.Rules.{rules}
-use borrow.Author.Tests.{not-true, not-false, leb-true}
 use Rattle.record.specs.declared.queues.Queue.{Queue}
 use Rattle.image.specs.Image.{queue_in}
-use Rattle.image_parts.proofs.Readings.{clock_is}
-use Rattle.rules.specs.Answers.{reported}
-use Rattle.sheet_format.specs.declared.lines.SheetLine.{SheetLine}
-use Rattle.sheet_format.specs.Calls.{call_of}
-use Rattle.sheet_format.specs.Events.{event_for, room_at}
-use Rattle.sheet_format.specs.Kept.{kept_line}
-use Rattle.sheet_format.specs.Lines.{line_count}
-use Rattle.sheet_format.proofs.Parts.{tail_part, line_start, part_next}
-use Rattle.sheet_lines.proofs.Areas.{all_told, all_written, long_told, part_written}
-use Rattle.sheet_lines.proofs.Called.{long_enough}
-use Rattle.sheet_lines.proofs.Histories.{left_low}
-use Rattle.sheet_lines.proofs.Images.{all_image, part_image}
-use Rattle.sheet_lines.proofs.States.{Between, Within, same_area, at_first, begins, ends}
-use Rattle.sheet_lines.proofs.States.{gone, call_silent, call_prints_lem, call_long}
-use Rattle.sheet_lines.proofs.Waited.{call_waits}
+use Rattle.sheet_lines.proofs.States.{Between, Within}
 use Rattle.sheet_lines.proofs.lines.run_lines.Given as goal
 
 abbrev pub invariant-loop-left : goal.invariant-loop-left
