@@ -22,8 +22,8 @@ SPEC_ITEM = re.compile(
     r"(?: \(.*\))? : ", re.M)
 SOURCE_USE = re.compile(r"^ghost use (\S+?)\.\{(.*?)\};", re.M | re.S)
 SPEC_USE = re.compile(r"^use (\S+?)\.\{(.*?)\}", re.M | re.S)
-CONTRACT = re.compile(r"⌜(.*?)⌝", re.S)
-WORD = re.compile(r"[^\s(){}⌜⌝,;.λ]+")
+CLAUSE = re.compile(r"^ *(?:requires|ensures|ghost)\b[\w *:]*\{", re.M)
+WORD = re.compile(r"[^\s(){}\[\],;.:&#!λ]+")
 
 
 @dataclass
@@ -42,6 +42,23 @@ class Item:
         """What follows a function's contract: from the line that is its opening brace alone."""
         indent = self.text[:len(self.text) - len(self.text.lstrip(" "))]
         return self.text.partition(f"\n{indent}{{\n")[2]
+
+    @property
+    def head(self):
+        """What stands before a function's body: its signature and its contract."""
+        return self.text[:len(self.text) - len(self.body)] if self.body else self.text
+
+    @property
+    def clauses(self):
+        """The words of a function's contract."""
+        words, head = set(), self.head
+        for m in CLAUSE.finditer(head):
+            at, depth = m.end(), 1
+            while at < len(head) and depth:
+                depth += {"{": 1, "}": -1}.get(head[at], 0)
+                at += 1
+            words.update(WORD.findall(head[m.end():at]))
+        return words
 
     @property
     def path(self):
@@ -85,7 +102,7 @@ def imported(pattern, text):
     """The names that a file takes from specs/: the one used here, and (crate, module, name there)."""
     names = {}
     for path, listed in pattern.findall(text):
-        own = re.fullmatch(r"Rattle·(\w+?)(?:·specs\.specs|\.specs)\.(?!declared)([\w.]+)", path)
+        own = re.fullmatch(r"Rattle\.(\w+?)\.specs\.(?!declared)([\w.]+)", path)
         for entry in listed.split(",") if own else ():
             there, _, here = entry.strip().partition(" as ")
             names[here or there] = (own[1], own[2], there)
@@ -103,8 +120,7 @@ def read_items(top, crates):
                 files[crate, file] = source_items(crate, file, text)
                 names = imported(SOURCE_USE, text)
                 for item in files[crate, file]:
-                    words = {w for c in CONTRACT.findall(item.text) for w in WORD.findall(c)}
-                    item.cites = {names[w] for w in words if w in names}
+                    item.cites = {names[w] for w in item.clauses if w in names}
             elif file.startswith("specs/"):
                 module = file.removeprefix("specs/").removesuffix(".antt")
                 files[crate, file] = spec_items(crate, file, text)
@@ -181,6 +197,8 @@ def show(top, crates, edits):
             if asked and count < ENOUGH:
                 short.append((crate, item.title, count))
     print(f"{rows} functions and definitions with edits of their own")
+    lost = [e.label for e in edits if not changed_items(files, e)]
+    print(f"{len(edits)} edits, {len(lost)} of them in no function or definition")
     for crate, title, count in short:
         print(f"fewer than {ENOUGH}: {crate:<16}{title:<48}{count}")
     public = [i for items in files.values() for i in items
