@@ -1,11 +1,10 @@
 -- What each stage of a walk stores is what the definition says. W1 and W3 are a Delete_Min's (w is
 -- false) and a Relaxed one's (w is true). Assumes nothing.
 use mathlib.Core.Path.{◌≡◌, refl, ◌∙◌, ap}
-use mathlib.Core.Bool.{Bool, true, false, cond}
+use mathlib.Core.Bool.{Bool}
 use mathlib.Core.List.{List, [], ◌∷◌, ◌++◌}
-use Prim.Native.Nat.{ℕ, ◌+◌, ◌*◌, ◌-◌, ◌≤◌, ◌<◌}
+use Prim.Native.Nat.{ℕ, ◌+◌, ◌*◌, ◌≤◌, ◌<◌}
 use native.Mathlib.Omega.{arith}
-use lib.Dec.{ltb, eqb}
 use lib.ListN.{get_or}
 use borrow.Author.Tests.{eq-eqb, ne_eqb, lt-ltb, le-ltb}
 use Rattle.record.specs.declared.stages.Removal.TheVariants as rem
@@ -22,7 +21,7 @@ use Rattle.rules.specs.declared.answers.Deed.TheVariants as deed
 use Rattle.rules.specs.declared.decisions.Effect.TheVariants as eff
 use Rattle.rules.specs.Calls.{step_view_of}
 use Rattle.rules.specs.Decide.{moved, answers, removing}
-use Rattle.image.specs.Puts.{puts, four, piece, clears, rests}
+use Rattle.image.specs.Puts.{puts, four, clears, rests}
 use Rattle.image.specs.Image.{queue_in}
 use Rattle.image_parts.specs.Given.{Stepped}
 use Rattle.image_parts.specs.Ready.{Walked}

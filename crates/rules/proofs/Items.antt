@@ -7,7 +7,7 @@ use Prim.Native.Nat.{ℕ, zero, suc, ◌+◌, ◌≤◌, ◌<◌}
 use native.Mathlib.Decide.{dec_le, ℕ_discrete}
 use native.Mathlib.Omega.{arith}
 use lib.Dec.{ltb, leb, eqb}
-use lib.ListN.{length, get_or, set, get_or-map}
+use lib.ListN.{length, get_or, get_or-map}
 use borrow.Author.Tests.{le-leb, lt-leb, lt-ltb, le-ltb, eq-eqb, ne_eqb}
 use Rattle.laws.proofs.Booleans.{cond_elim}
 use Rattle.laws.proofs.HowMany.{many_same}
@@ -15,7 +15,6 @@ use Rattle.laws.specs.Every.{every_below}
 use Rattle.laws.specs.HowMany.{how_many}
 use Rattle.record_check.specs.Backlog.{holds_pending, pending_at, backlog_of}
 use Rattle.record_check.specs.Check.{valid, sizes_of, node_valid}
-use Rattle.record_check.specs.Making.{outside}
 use Rattle.record.specs.declared.nodes.Node.{Node}
 use Rattle.record.specs.declared.queues.Processor.{Processor}
 use Rattle.record.specs.declared.queues.Queue.{Queue}

@@ -36,7 +36,6 @@ use Rattle.rules.specs.Calls.{begin_remove, step}
 use Rattle.rules.proofs.Allowed.{Allowed, of_call, idle_begins, busy_steps, Numbers, numbers}
 use Rattle.rules.specs.Choice.{chosen}
 use Rattle.rules.specs.Effects.{accepted, processor_after}
-use Rattle.rules.specs.Runs.{after}
 use Rattle.rules.proofs.Put.{ever}
 use Rattle.rules.proofs.View.{View, Info, info, walk_info, Wants, claim, tail}
 use Rattle.rules.proofs.Inv.{Inv}

@@ -2,10 +2,7 @@
 -- and what a call does that is not refused.
 use Rattle.std.specs.Prelude.{ℕ, ◌+◌, ◌-◌, Bool, false, cond, ◌||◌, ltb, leb, eqb}
 use Rattle.record.specs.declared.stages.Place.{Place}
-use Rattle.record.specs.declared.stages.Insert.{Insert}
 use Rattle.record.specs.declared.stages.Insert.TheVariants as ins
-use Rattle.record.specs.declared.stages.Removal.{Removal}
-use Rattle.record.specs.declared.stages.Delete.{Delete}
 use Rattle.record.specs.declared.stages.Delete.TheVariants as del
 use Rattle.record.specs.declared.stages.Relaxed.TheVariants as rlx
 use Rattle.record.specs.declared.stages.Wanted.{Wanted}

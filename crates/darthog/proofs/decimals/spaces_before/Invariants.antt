@@ -1,11 +1,7 @@
-use mathlib.Core.Path.{◌≡◌, refl, sym, ap, ◌∙◌}
+use mathlib.Core.Path.{◌≡◌}
 use Prim.Native.Nat.{◌-◌, ◌≤◌}
-use native.Mathlib.Omega.{arith}
 use lib.ListN.{length, drop}
 use Rattle.sheet_format.specs.Columns.{trimmed}
-use Rattle.darthog.proofs.Texts.{none_left, space_more, digit_first}
-use borrow.Author.Rules.{rules}
-
 -- what was passed are spaces
 use Rattle.darthog.proofs.decimals.spaces_before.Given as goal
 

@@ -8,10 +8,10 @@ returns-clause-area_after c =
     let e = c.decimal_into-end in
     let a = c.args in
     let parts : Parts a.area.now m.new.area e.new.area a.number a.line m.result e.result =
-        record {
-          middle = m.ensures.value;
-          number = m.ensures.area_after;
-          end = e.ensures.value;
-          line = e.ensures.area_after;
-        } in
+    record {
+      middle = m.ensures.value;
+      number = m.ensures.area_after;
+      end = e.ensures.value;
+      line = e.ensures.area_after;
+    } in
     text_stored _ _ _ _ _ _ _ parts c.requires

@@ -14,12 +14,12 @@ overflow_cast-line c =
     let a = c.args in
     let f = c.run_sheet in
     let r : Run a.sheet.now a.area.now f.new.history f.result =
-        record {
-          short = c.requires.0;
-          size = c.requires.1;
-          outcome = f.ensures.value;
-          written = f.ensures.history_after;
-        } in
+    record {
+      short = c.requires.0;
+      size = c.requires.1;
+      outcome = f.ensures.value;
+      written = f.ensures.history_after;
+    } in
     let h = line_low _ _ _ _ r _ _ c.in-Refused.is in
     omega (arith, h)
 
@@ -28,12 +28,12 @@ returns-in-Refused c =
     let a = c.args in
     let f = c.run_sheet in
     let r : Run a.sheet.now a.area.now f.new.history f.result =
-        record {
-          short = c.requires.0;
-          size = c.requires.1;
-          outcome = f.ensures.value;
-          written = f.ensures.history_after;
-        } in
+    record {
+      short = c.requires.0;
+      size = c.requires.1;
+      outcome = f.ensures.value;
+      written = f.ensures.history_after;
+    } in
     let s = a.sheet.now in
     let k = area_kept _ _ _ _ r _ _ c.in-Refused.is in
     let t = refusal_printed _ _ _ _ r _ _ c.in-Refused.is in
@@ -50,12 +50,12 @@ returns-in-Length c =
     let a = c.args in
     let f = c.run_sheet in
     let r : Run a.sheet.now a.area.now f.new.history f.result =
-        record {
-          short = c.requires.0;
-          size = c.requires.1;
-          outcome = f.ensures.value;
-          written = f.ensures.history_after;
-        } in
+    record {
+      short = c.requires.0;
+      size = c.requires.1;
+      outcome = f.ensures.value;
+      written = f.ensures.history_after;
+    } in
     let e = c.in-Length.is in
     record {
       value = history_length _ _ _ _ r _ e;

@@ -1,9 +1,6 @@
-use mathlib.Core.Path.{refl, sym, ◌∙◌}
-use Rattle.rules.specs.declared.calls.Call.TheVariants as call
-use Rattle.image_parts.proofs.Refusals.{here, ticks, none_left}
-use Rattle.image_parts.proofs.Sounds.{refused_early}
+use mathlib.Core.Path.{sym, ◌∙◌}
+use Rattle.image_parts.proofs.Refusals.{none_left}
 use Rattle.image_begin.proofs.Begun.{delete_begins_lem}
-use borrow.Author.Rules.{rules}
 use Rattle.image_begin.proofs.begins.begin_delete_min_at.Goals as goal
 
 pub returns : goal.returns

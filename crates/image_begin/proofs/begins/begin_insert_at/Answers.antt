@@ -1,10 +1,7 @@
-use mathlib.Core.Path.{refl, sym, ◌∙◌}
+use mathlib.Core.Path.{sym, ◌∙◌}
 use native.Mathlib.Omega.{arith}
-use Rattle.rules.specs.declared.calls.Call.TheVariants as call
-use Rattle.image_parts.proofs.Refusals.{here, ticks, none_left}
-use Rattle.image_parts.proofs.Sounds.{refused_early}
-use Rattle.image_begin.proofs.Begun.{based, insert_without, insert_begins_lem, insert_stored, chosen_low, height_high}
-use borrow.Author.Rules.{rules}
+use Rattle.image_parts.proofs.Refusals.{none_left}
+use Rattle.image_begin.proofs.Begun.{based, insert_begins_lem, insert_stored, chosen_low}
 use Rattle.image_begin.proofs.begins.begin_insert_at.Goals as goal
 
 pub fill-requires : goal.fill-requires

@@ -1,11 +1,7 @@
-use mathlib.Core.Path.{refl, sym, ◌∙◌}
-use native.Mathlib.Omega.{arith}
+use mathlib.Core.Path.{sym, ◌∙◌}
 use lib.ListN.{get_or}
-use Rattle.rules.specs.declared.calls.Call.TheVariants as call
-use Rattle.image_parts.proofs.Refusals.{here, ticks, none_left}
-use Rattle.image_parts.proofs.Sounds.{refused_early}
-use Rattle.image_begin.proofs.Begun.{based, remove_begins_lem, remove_stored}
-use borrow.Author.Rules.{rules}
+use Rattle.image_parts.proofs.Refusals.{none_left}
+use Rattle.image_begin.proofs.Begun.{remove_begins_lem, remove_stored}
 use Rattle.image_begin.proofs.begins.begin_remove_at.Goals as goal
 
 pub returns : goal.returns

@@ -1,10 +1,7 @@
-use borrow.Author.Rules.{rules}
-use mathlib.Core.Path.{◌≡◌, refl, ◌∙◌, ap}
+use mathlib.Core.Path.{◌≡◌, ◌∙◌, ap}
 use native.Mathlib.Omega.{arith}
-use Prim.Native.Nat.{◌-◌, ◌≤◌}
 use lib.ListN.{get_or}
 use Rattle.laws.specs.Every.{every_below}
-use Rattle.laws.proofs.Counting.{every_next}
 use Rattle.record.specs.Queues.{processor_at}
 use Rattle.rules.specs.Choice.{began_after}
 use Rattle.image.specs.Image.{queue_in}

@@ -1,10 +1,7 @@
-use borrow.Author.Rules.{rules}
-use mathlib.Core.Path.{◌≡◌, refl, ◌∙◌, ap}
-use native.Mathlib.Omega.{arith}
+use mathlib.Core.Path.{◌≡◌}
 use Prim.Native.Nat.{◌-◌, ◌≤◌}
 use lib.ListN.{get_or}
 use Rattle.laws.specs.Every.{every_below}
-use Rattle.laws.proofs.Counting.{every_next}
 use Rattle.record.specs.Queues.{processor_at}
 use Rattle.rules.specs.Choice.{began_after}
 use Rattle.image.specs.Image.{queue_in}

@@ -1,5 +1,4 @@
 use Rattle.image_begin.proofs.Choices.{after_idle, after_busy}
-use borrow.Author.Rules.{rules}
 use Rattle.image_begin.proofs.choice.began_after.Goals as goal
 
 pub returns-then-b-at-eq-IDLE : goal.returns-then-b-at-eq-IDLE

@@ -1,12 +1,8 @@
-use borrow.Author.Rules.{rules}
-use mathlib.Core.Path.{refl}
-use native.Mathlib.Omega.{arith}
 use Prim.Native.Nat.{◌-◌, ◌≤◌}
 use lib.ListN.{get_or}
 use Rattle.rules.specs.Choice.{state_of}
 use Rattle.image.specs.Image.{queue_in}
-use Rattle.image_begin.proofs.Choices.{Seen, takes_never, seen_earlier, seen_later}
-use Rattle.image_begin.proofs.Choices.{takes_none, takes_retired, leaves_retired}
+use Rattle.image_begin.proofs.Choices.{Seen}
 use Rattle.image_begin.proofs.choice.choose.Given as goal
 
 abbrev pub invariant-loop-i : goal.invariant-loop-i

@@ -1,5 +1,4 @@
 use Rattle.image_begin.proofs.Stored.{fill_stored}
-use borrow.Author.Rules.{rules}
 use Rattle.image_begin.proofs.stores.fill.Goals as goal
 
 pub returns : goal.returns

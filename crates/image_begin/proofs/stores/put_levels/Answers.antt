@@ -1,11 +1,8 @@
-use borrow.Author.Rules.{rules}
-use mathlib.Core.Path.{◌≡◌, refl, ◌∙◌, ap}
+use mathlib.Core.Path.{◌∙◌, ap}
 use native.Mathlib.Omega.{arith}
-use Prim.Native.Nat.{ℕ, ◌+◌, ◌-◌, ◌≤◌}
+use Prim.Native.Nat.{ℕ, ◌+◌}
 use mathlib.Core.List.{List}
-use lib.ListN.{length, set, length-set}
-use Rattle.image.specs.Puts.{puts}
-use Rattle.image_begin.specs.Stores.{levels}
+use lib.ListN.{set, length-set}
 use Rattle.image_begin.proofs.Stored.{levels_next}
 use Rattle.image_begin.proofs.stores.put_levels.Goals as goal
 

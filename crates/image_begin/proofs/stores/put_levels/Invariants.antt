@@ -1,12 +1,8 @@
-use borrow.Author.Rules.{rules}
-use mathlib.Core.Path.{◌≡◌, refl, ◌∙◌, ap}
-use native.Mathlib.Omega.{arith}
-use Prim.Native.Nat.{ℕ, ◌+◌, ◌-◌, ◌≤◌}
-use mathlib.Core.List.{List}
-use lib.ListN.{length, set, length-set}
+use mathlib.Core.Path.{◌≡◌}
+use Prim.Native.Nat.{◌-◌, ◌≤◌}
+use lib.ListN.{length}
 use Rattle.image.specs.Puts.{puts}
 use Rattle.image_begin.specs.Stores.{levels}
-use Rattle.image_begin.proofs.Stored.{levels_next}
 use Rattle.image_begin.proofs.stores.put_levels.Given as goal
 
 abbrev pub invariant-loop-k : goal.invariant-loop-k

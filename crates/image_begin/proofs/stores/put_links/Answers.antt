@@ -1,5 +1,4 @@
 use Rattle.image_begin.proofs.Stored.{links_stored}
-use borrow.Author.Rules.{rules}
 use Rattle.image_begin.proofs.stores.put_links.Goals as goal
 
 pub returns : goal.returns

@@ -1,12 +1,9 @@
-use mathlib.Core.Path.{◌≡◌, refl, ◌∙◌, ap}
+use mathlib.Core.Path.{◌≡◌}
 use Prim.Native.Nat.{◌-◌, ◌≤◌}
-use native.Mathlib.Omega.{arith}
-use borrow.Author.Rules.{rules}
 use lib.ListN.{get_or}
 use Rattle.laws.specs.HowMany.{how_many}
 use Rattle.record_check.specs.Backlog.{pending_at}
 use Rattle.image.specs.Image.{queue_in}
-use Rattle.image_check.proofs.Counts.{few, short, pending_next}
 use Rattle.image_check.proofs.counting.pending.Given as goal
 
 abbrev pub invariant-loop-i : goal.invariant-loop-i

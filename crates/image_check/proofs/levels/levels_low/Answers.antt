@@ -1,11 +1,9 @@
-use mathlib.Core.Path.{◌≡◌, refl, ◌∙◌, ap}
+use mathlib.Core.Path.{◌≡◌, ◌∙◌, ap}
 use mathlib.Core.Bool.{◌||◌}
-use Prim.Native.Nat.{ℕ, ◌+◌, ◌-◌, ◌≤◌}
+use Prim.Native.Nat.{ℕ, ◌+◌}
 use native.Mathlib.Omega.{arith}
 use lib.Dec.{leb}
-use borrow.Author.Rules.{rules}
 use Rattle.laws.specs.Every.{every_below}
-use Rattle.laws.proofs.Counting.{every_next}
 use Rattle.image.specs.Puts.{piece}
 use Rattle.image_check.proofs.Masks.{masked}
 use Rattle.image_check.proofs.levels.levels_low.Goals as goal

@@ -1,11 +1,10 @@
 use mathlib.Core.Path.{sym, ◌∙◌}
 use Prim.Native.Nat.{◌+◌, ◌*◌}
 use native.Mathlib.Omega.{arith}
-use borrow.Author.Tests.{not-true, not-false, le-leb, lt-leb}
+use borrow.Author.Tests.{le-leb, lt-leb}
 use lib.ListN.{get_or}
 use Rattle.image.specs.Image.{start_of}
 use Rattle.image_check.proofs.Tests.{node_tests}
-use borrow.Author.Rules.{rules}
 use Rattle.image_check.proofs.nodes.node_passes.Goals as goal
 
 pub returns-then-not-links_pass : goal.returns-then-not-links_pass

@@ -1,12 +1,8 @@
-use borrow.Author.Rules.{rules}
-use mathlib.Core.Path.{◌≡◌, refl, sym, ◌∙◌, ap}
-use mathlib.Core.Bool.{true}
-use Prim.Native.Nat.{ℕ, ◌+◌, ◌-◌, ◌≤◌, ◌<◌}
+use mathlib.Core.Path.{sym, ◌∙◌}
+use Prim.Native.Nat.{◌+◌, ◌<◌}
 use native.Mathlib.Omega.{arith}
 use lib.ListN.{get_or}
-use Rattle.laws.specs.Every.{every_below}
-use Rattle.laws.proofs.Counting.{every_next, every_not}
-use borrow.Author.Tests.{not-true, not-false}
+use Rattle.laws.proofs.Counting.{every_not}
 use Rattle.image_check.specs.Tests.{node_ok}
 use Rattle.image_check.proofs.nodes.nodes_pass.Goals as goal
 

@@ -1,12 +1,8 @@
-use borrow.Author.Rules.{rules}
-use mathlib.Core.Path.{◌≡◌, refl, sym, ◌∙◌, ap}
+use mathlib.Core.Path.{◌≡◌}
 use mathlib.Core.Bool.{true}
-use Prim.Native.Nat.{ℕ, ◌+◌, ◌-◌, ◌≤◌, ◌<◌}
-use native.Mathlib.Omega.{arith}
+use Prim.Native.Nat.{◌+◌, ◌-◌, ◌≤◌}
 use lib.ListN.{get_or}
 use Rattle.laws.specs.Every.{every_below}
-use Rattle.laws.proofs.Counting.{every_next, every_not}
-use borrow.Author.Tests.{not-true, not-false}
 use Rattle.image_check.specs.Tests.{node_ok}
 use Rattle.image_check.proofs.nodes.nodes_pass.Given as goal
 

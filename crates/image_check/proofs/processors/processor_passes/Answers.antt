@@ -1,10 +1,7 @@
 use mathlib.Core.Path.{◌∙◌}
-use Prim.Native.Nat.{◌+◌, ◌*◌}
 use native.Mathlib.Omega.{arith}
 use Rattle.image_check.proofs.Tests.{processor_begun, processor_saved, processor_past}
 use Rattle.image_check.proofs.Tests.{processor_errand}
-use borrow.Author.Rules.{rules}
-use borrow.Author.Tests.{not-true, not-false}
 use Rattle.image_check.proofs.processors.processor_passes.Goals as goal
 
 -- TODO goal overflow-cast-tag

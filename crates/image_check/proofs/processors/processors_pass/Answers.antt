@@ -1,12 +1,7 @@
-use borrow.Author.Rules.{rules}
-use borrow.Author.Tests.{not-true, not-false}
-use mathlib.Core.Path.{◌≡◌, refl, sym, ◌∙◌, ap}
-use mathlib.Core.Bool.{true}
-use Prim.Native.Nat.{ℕ, ◌-◌, ◌≤◌}
+use mathlib.Core.Path.{sym, ◌∙◌}
 use native.Mathlib.Omega.{arith}
 use lib.ListN.{get_or}
-use Rattle.laws.specs.Every.{every_below}
-use Rattle.laws.proofs.Counting.{and_both, every_more, every_not}
+use Rattle.laws.proofs.Counting.{every_not}
 use Rattle.image_check.specs.Tests.{processor_ok}
 use Rattle.image_check.proofs.processors.processors_pass.Goals as goal
 

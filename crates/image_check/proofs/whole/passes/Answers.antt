@@ -1,12 +1,10 @@
 use mathlib.Core.Path.{sym, ◌∙◌}
 use native.Mathlib.Omega.{arith}
 use lib.ListN.{get_or}
-use borrow.Author.Tests.{not-true, not-false}
 use Rattle.image.specs.Numbers.{number32}
 use Rattle.record_check.proofs.SizeLaws.{sizes_bounds}
 use Rattle.image_check.specs.Tests.{sizes}
 use Rattle.image_check.proofs.Tests.{misfit, outsized, all_tests}
-use borrow.Author.Rules.{rules}
 use Rattle.image_check.proofs.whole.passes.Goals as goal
 
 pub returns-then-length-lt-SHORTEST : goal.returns-then-length-lt-SHORTEST

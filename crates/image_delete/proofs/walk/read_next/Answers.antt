@@ -1,8 +1,5 @@
 use mathlib.Core.Path.{refl}
-use native.Mathlib.Omega.{arith}
-use lib.ListN.{length-set}
 use Rattle.image_delete.proofs.Steps.{walks_empty, walks_on}
-use borrow.Author.Rules.{rules}
 use Rattle.image_delete.proofs.walk.read_next.Goals as goal
 
 pub returns-then-x-n : goal.returns-then-x-n

@@ -1,8 +1,5 @@
 use mathlib.Core.Path.{refl}
-use native.Mathlib.Omega.{arith}
-use lib.ListN.{length-set}
 use Rattle.image_delete.proofs.Steps.{mark_set, marks}
-use borrow.Author.Rules.{rules}
 use Rattle.image_delete.proofs.walk.set_mark.Goals as goal
 
 pub returns-then-m-ne-UNMARKED : goal.returns-then-m-ne-UNMARKED

@@ -1,8 +1,5 @@
 use mathlib.Core.Path.{refl}
-use native.Mathlib.Omega.{arith}
-use lib.ListN.{length-set}
 use Rattle.image_insert.proofs.Steps.{copies}
-use borrow.Author.Rules.{rules}
 use Rattle.image_insert.proofs.inserts.copy.Goals as goal
 
 pub returns : goal.returns

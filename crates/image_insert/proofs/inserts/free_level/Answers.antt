@@ -1,8 +1,5 @@
 use mathlib.Core.Path.{refl}
-use native.Mathlib.Omega.{arith}
-use lib.ListN.{length-set}
 use Rattle.image_insert.proofs.Steps.{frees_up, frees_last}
-use borrow.Author.Rules.{rules}
 use Rattle.image_insert.proofs.inserts.free_level.Goals as goal
 
 pub returns-then-i-height : goal.returns-then-i-height

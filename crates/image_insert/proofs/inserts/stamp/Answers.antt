@@ -1,8 +1,4 @@
-use mathlib.Core.Path.{◌∙◌}
-use native.Mathlib.Omega.{arith}
-use lib.ListN.{length-set}
 use Rattle.image_insert.proofs.Steps.{stamps}
-use borrow.Author.Rules.{rules}
 use Rattle.image_insert.proofs.inserts.stamp.Goals as goal
 
 -- TODO goal same-length

@@ -1,12 +1,8 @@
-use mathlib.Core.Path.{◌≡◌, refl, ◌∙◌}
+use mathlib.Core.Path.{◌≡◌}
 use Prim.Native.Nat.{◌*◌, ◌-◌, ◌≤◌}
-use native.Mathlib.Omega.{arith}
-use borrow.Author.Rules.{rules}
 use lib.ListN.{length}
 use Rattle.image.specs.Image.{queue_in, start_of, Sound}
-use Rattle.image_list.specs.Plain.{record_to, written_to, turns}
-use Rattle.image_list.proofs.Plains.{record_none, written_none, queue_next, written_next}
-use Rattle.image_list.proofs.Plains.{start_next, put_length, turns_calls, turns_answers, image_at}
+use Rattle.image_list.specs.Plain.{record_to, written_to}
 use Rattle.image_list.proofs.runs.run_calls.Given as goal
 
 abbrev pub invariant-loop-i : goal.invariant-loop-i

@@ -1,5 +1,4 @@
 use Rattle.image_make.proofs.Made.{all_stored, made_read, made_sound}
-use borrow.Author.Rules.{rules}
 use Rattle.image_make.proofs.make.make_at.Goals as goal
 
 pub returns : goal.returns

@@ -1,9 +1,4 @@
-use Prim.Native.Nat.{◌-◌}
-use native.Mathlib.Omega.{arith}
-use borrow.Author.Rules.{rules}
-use lib.ListN.{length-set}
 use Rattle.image_make.proofs.Made.{header_stored}
-use borrow.Author.Rules.{rules}
 use Rattle.image_make.proofs.make.put_header.Goals as goal
 
 -- TODO goal same-length

@@ -1,7 +1,4 @@
-use Prim.Native.Nat.{◌-◌}
-use borrow.Author.Rules.{rules}
 use Rattle.image_make.proofs.Made.{node_stored}
-use borrow.Author.Rules.{rules}
 use Rattle.image_make.proofs.make.put_node.Goals as goal
 
 pub returns : goal.returns

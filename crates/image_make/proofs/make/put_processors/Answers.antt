@@ -1,10 +1,5 @@
-use mathlib.Core.Path.{◌≡◌, refl, ◌∙◌, ap}
-use Prim.Native.Nat.{ℕ, ◌-◌, ◌≤◌}
+use mathlib.Core.Path.{refl, ◌∙◌}
 use native.Mathlib.Omega.{arith}
-use borrow.Author.Rules.{rules}
-use lib.ListN.{length}
-use Rattle.image.specs.Lists.{stored_at}
-use Rattle.image_make.specs.Fresh.{fresh_processors}
 use Rattle.image_make.proofs.Made.{none_called, one_called}
 use Rattle.image_make.proofs.make.put_processors.Goals as goal
 

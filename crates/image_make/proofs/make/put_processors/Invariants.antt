@@ -1,11 +1,8 @@
-use mathlib.Core.Path.{◌≡◌, refl, ◌∙◌, ap}
-use Prim.Native.Nat.{ℕ, ◌-◌, ◌≤◌}
-use native.Mathlib.Omega.{arith}
-use borrow.Author.Rules.{rules}
+use mathlib.Core.Path.{◌≡◌}
+use Prim.Native.Nat.{◌-◌, ◌≤◌}
 use lib.ListN.{length}
 use Rattle.image.specs.Lists.{stored_at}
 use Rattle.image_make.specs.Fresh.{fresh_processors}
-use Rattle.image_make.proofs.Made.{none_called, one_called}
 use Rattle.image_make.proofs.make.put_processors.Given as goal
 
 abbrev pub invariant-loop-p : goal.invariant-loop-p

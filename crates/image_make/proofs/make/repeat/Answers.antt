@@ -1,10 +1,6 @@
-use mathlib.Core.Path.{◌≡◌, refl, ◌∙◌, ap}
-use Prim.Native.Nat.{ℕ, ◌-◌, ◌≤◌}
+use mathlib.Core.Path.{refl}
 use native.Mathlib.Omega.{arith}
-use borrow.Author.Rules.{rules}
-use lib.ListN.{length, length-set}
-use Rattle.image.specs.Lists.{stored_at}
-use Rattle.image_make.specs.Fresh.{repeated}
+use lib.ListN.{length-set}
 use Rattle.image_make.proofs.Made.{none_repeated, one_repeated}
 use Rattle.image_make.proofs.make.repeat.Goals as goal
 

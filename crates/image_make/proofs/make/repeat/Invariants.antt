@@ -1,11 +1,8 @@
-use mathlib.Core.Path.{◌≡◌, refl, ◌∙◌, ap}
-use Prim.Native.Nat.{ℕ, ◌-◌, ◌≤◌}
-use native.Mathlib.Omega.{arith}
-use borrow.Author.Rules.{rules}
-use lib.ListN.{length, length-set}
+use mathlib.Core.Path.{◌≡◌}
+use Prim.Native.Nat.{◌-◌, ◌≤◌}
+use lib.ListN.{length}
 use Rattle.image.specs.Lists.{stored_at}
 use Rattle.image_make.specs.Fresh.{repeated}
-use Rattle.image_make.proofs.Made.{none_repeated, one_repeated}
 use Rattle.image_make.proofs.make.repeat.Given as goal
 
 abbrev pub invariant-loop-k : goal.invariant-loop-k

@@ -1,18 +1,11 @@
 -- The loop has counted the nodes 1 to i.
-use mathlib.Core.Path.{◌≡◌, refl, sym, ◌∙◌, ap}
-use mathlib.Core.Bool.{true, false}
-use Prim.Native.Nat.{◌+◌, ◌-◌, ◌≤◌}
-use native.Mathlib.Omega.{arith}
-use borrow.Author.Rules.{rules}
-use borrow.Author.Tests.{eq-eqb, ne_eqb}
+use mathlib.Core.Path.{◌≡◌}
+use Prim.Native.Nat.{◌-◌, ◌≤◌}
 use lib.ListN.{length, get_or}
 use Rattle.laws.specs.HowMany.{how_many}
 use Rattle.record.specs.Limits.{max_nodes, max_processors}
 use Rattle.record_markers.specs.Markers.{in_use_at}
-use Rattle.record_markers.proofs.Filling.{count_used, count_unused}
 use Rattle.image.specs.Image.{length_of, queue_in}
-use Rattle.image_check.proofs.Counts.{few, short}
-use Rattle.image_markers.proofs.Nodes.{used_is, nodes_is}
 use Rattle.image_markers.proofs.counting.used_count.Given as goal
 
 abbrev pub invariant-loop-i : goal.invariant-loop-i

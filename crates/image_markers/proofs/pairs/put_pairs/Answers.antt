@@ -1,20 +1,16 @@
 -- The loop has put the bytes of the nodes 1 to i at the front.
-use mathlib.Core.Path.{◌≡◌, refl, sym, ◌∙◌, ap}
+use mathlib.Core.Path.{◌≡◌, ◌∙◌, ap}
 use mathlib.Core.Bool.{true, false}
 use mathlib.Core.List.{List}
-use Prim.Native.Nat.{ℕ, ◌+◌, ◌-◌, ◌*◌, ◌≤◌}
+use Prim.Native.Nat.{ℕ, ◌+◌, ◌*◌, ◌≤◌}
 use native.Mathlib.Omega.{arith}
-use borrow.Author.Rules.{rules}
 use borrow.Author.Tests.{eq-eqb, ne_eqb}
 use lib.ListN.{length, get_or, length-set}
 use Rattle.laws.specs.Front.{at_front}
-use Rattle.laws.specs.HowMany.{how_many}
-use Rattle.record.specs.Limits.{max_nodes, max_processors}
-use Rattle.record_markers.specs.Markers.{in_use_at, pairs_to}
+use Rattle.record_markers.specs.Markers.{in_use_at}
 use Rattle.record_markers.proofs.Filling.{room_used, place_used, area_used}
 use Rattle.record_markers.proofs.Filling.{count_unused, pairs_unused}
-use Rattle.image.specs.Image.{length_of, queue_in}
-use Rattle.image_check.proofs.Counts.{few, short}
+use Rattle.image.specs.Image.{queue_in}
 use Rattle.image_markers.proofs.Nodes.{used_is, mark_is, nodes_is}
 use Rattle.image_markers.proofs.pairs.put_pairs.Goals as goal
 

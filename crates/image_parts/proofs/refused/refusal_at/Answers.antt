@@ -1,6 +1,5 @@
 use mathlib.Core.Path.{◌∙◌}
 use Rattle.image_parts.proofs.Refusals.{refusal_in_lem}
-use borrow.Author.Rules.{rules}
 use Rattle.image_parts.proofs.refused.refusal_at.Goals as goal
 
 pub returns : goal.returns

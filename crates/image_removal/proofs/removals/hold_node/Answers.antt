@@ -1,11 +1,9 @@
 use mathlib.Core.Path.{refl}
 use Prim.Native.Nat.{◌+◌, ◌*◌, ◌≤◌}
 use native.Mathlib.Omega.{arith}
-use lib.ListN.{length-set}
 use Rattle.image_parts.proofs.Attempts.{tried}
 use Rattle.image_parts.proofs.Readings.{mine}
 use Rattle.image_removal.proofs.Steps.{holds_node_lock, node_waits}
-use borrow.Author.Rules.{rules}
 use Rattle.image_removal.proofs.removals.hold_node.Goals as goal
 
 -- TODO goal same-length

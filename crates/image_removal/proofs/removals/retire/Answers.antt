@@ -1,8 +1,4 @@
-use mathlib.Core.Path.{◌∙◌}
-use native.Mathlib.Omega.{arith}
-use lib.ListN.{length-set}
 use Rattle.image_removal.proofs.Steps.{retires}
-use borrow.Author.Rules.{rules}
 use Rattle.image_removal.proofs.removals.retire.Goals as goal
 
 -- TODO goal same-length

@@ -1,5 +1,4 @@
 use Rattle.image_remove.proofs.Steps.{lost_stored}
-use borrow.Author.Rules.{rules}
 use Rattle.image_remove.proofs.finds.not_there.Goals as goal
 
 pub returns : goal.returns

@@ -1,8 +1,5 @@
 use mathlib.Core.Path.{refl, sym, ◌∙◌}
-use native.Mathlib.Omega.{arith}
-use lib.ListN.{length-set}
 use Rattle.image_remove.proofs.Steps.{reads_on, reads_key, reads_none}
-use borrow.Author.Rules.{rules}
 use Rattle.image_remove.proofs.finds.read_next.Goals as goal
 
 pub returns-then-before_key : goal.returns-then-before_key

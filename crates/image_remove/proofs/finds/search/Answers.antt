@@ -1,8 +1,5 @@
 use mathlib.Core.Path.{refl, sym, ◌∙◌}
-use native.Mathlib.Omega.{arith}
-use lib.ListN.{length-set}
 use Rattle.image_remove.proofs.Steps.{search_ahead, search_down, search_done}
-use borrow.Author.Rules.{rules}
 use Rattle.image_remove.proofs.finds.search.Goals as goal
 
 pub returns-then-ahead : goal.returns-then-ahead

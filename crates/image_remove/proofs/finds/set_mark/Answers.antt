@@ -1,8 +1,4 @@
-use mathlib.Core.Path.{◌∙◌}
-use native.Mathlib.Omega.{arith}
-use lib.ListN.{length-set}
 use Rattle.image_remove.proofs.Steps.{mark_set, marks}
-use borrow.Author.Rules.{rules}
 use Rattle.image_remove.proofs.finds.set_mark.Goals as goal
 
 -- TODO goal same-length-2

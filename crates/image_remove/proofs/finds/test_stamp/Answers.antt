@@ -1,6 +1,5 @@
 use mathlib.Core.Path.{refl}
 use Rattle.image_remove.proofs.Steps.{stamp_none, stamp_late, stamp_early}
-use borrow.Author.Rules.{rules}
 use Rattle.image_remove.proofs.finds.test_stamp.Goals as goal
 
 pub returns-then-t-ne1 : goal.returns-then-t-ne1

@@ -2,7 +2,6 @@ use mathlib.Core.Path.{refl}
 use native.Mathlib.Omega.{arith}
 use Rattle.rules.specs.declared.calls.Call.TheVariants as call
 use Rattle.image_parts.proofs.Sounds.{placed, owned, walked, seeking, kept_sound, never, beyond}
-use borrow.Author.Rules.{rules}
 use Rattle.image_step.proofs.step.stage_step.Goals as goal
 
 pub search-requires : goal.search-requires

@@ -1,8 +1,5 @@
-use mathlib.Core.Path.{refl, sym, ◌∙◌}
-use Rattle.rules.specs.declared.calls.Call.TheVariants as call
-use Rattle.image_parts.proofs.Sounds.{refused_early}
+use mathlib.Core.Path.{sym, ◌∙◌}
 use Rattle.image_parts.proofs.Refusals.{step_allowed, none_left}
-use borrow.Author.Rules.{rules}
 use Rattle.image_step.proofs.step.step_from.Goals as goal
 
 pub stage_step-requires : goal.stage_step-requires

@@ -1,6 +1,5 @@
 use mathlib.Core.Path.{refl, sym, ◌∙◌}
 use Rattle.image_walks.proofs.Steps.{approach_ahead, approach_there}
-use borrow.Author.Rules.{rules}
 use Rattle.image_walks.proofs.walks.approach.Goals as goal
 
 pub returns-then-before : goal.returns-then-before

@@ -1,8 +1,5 @@
 use mathlib.Core.Path.{refl, sym, ◌∙◌}
-use native.Mathlib.Omega.{arith}
-use lib.ListN.{length-set}
 use Rattle.image_walks.proofs.Steps.{confirm_ahead, confirm_done}
-use borrow.Author.Rules.{rules}
 use Rattle.image_walks.proofs.walks.confirm.Goals as goal
 
 pub returns-then-before : goal.returns-then-before

@@ -1,8 +1,5 @@
 use mathlib.Core.Path.{refl}
-use native.Mathlib.Omega.{arith}
-use lib.ListN.{length-set}
 use Rattle.image_walks.proofs.Steps.{releases}
-use borrow.Author.Rules.{rules}
 use Rattle.image_walks.proofs.walks.release.Goals as goal
 
 pub returns : goal.returns

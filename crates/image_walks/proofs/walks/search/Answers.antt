@@ -1,9 +1,6 @@
 use mathlib.Core.Path.{refl, sym, ◌∙◌}
-use native.Mathlib.Omega.{arith}
-use lib.ListN.{length-set}
 use Rattle.image_walks.proofs.Steps.{search_ahead, search_down, insert_searched_lem}
 use Rattle.image_walks.proofs.Steps.{removal_searched_lem}
-use borrow.Author.Rules.{rules}
 use Rattle.image_walks.proofs.walks.search.Goals as goal
 
 pub returns-then-before : goal.returns-then-before

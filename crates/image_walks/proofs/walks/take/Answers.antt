@@ -1,11 +1,9 @@
 use mathlib.Core.Path.{refl}
 use Prim.Native.Nat.{◌+◌, ◌*◌, ◌-◌, ◌≤◌}
 use native.Mathlib.Omega.{arith}
-use lib.ListN.{length-set}
 use Rattle.image_parts.proofs.Attempts.{tried}
 use Rattle.image_parts.proofs.Readings.{mine}
 use Rattle.image_walks.proofs.Steps.{takes, take_waits}
-use borrow.Author.Rules.{rules}
 use Rattle.image_walks.proofs.walks.take.Goals as goal
 
 -- TODO goal same-length

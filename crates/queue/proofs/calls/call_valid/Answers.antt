@@ -6,10 +6,9 @@ use Rattle.rules.specs.declared.decisions.Decision.{Decision}
 use Rattle.rules.specs.Calls.{processor_of, refusal_of}
 use Rattle.rules.specs.Effects.{node_of}
 use Rattle.rules.proofs.Allowed.{allowed}
-use Rattle.rules.proofs.Inner.{call_kept, call_told}
-use Rattle.queue_begin.proofs.Bounds.{nodes_high, processors_high, processor_low, changed_low}
-use Rattle.queue.proofs.Refused.{refused_early, refused_late, call_made}
-use borrow.Author.Rules.{rules}
+use Rattle.rules.proofs.Inner.{call_kept}
+use Rattle.queue_begin.proofs.Bounds.{nodes_high, processor_low, changed_low}
+use Rattle.queue.proofs.Refused.{refused_late, call_made}
 use Rattle.queue.proofs.calls.call_valid.Goals as goal
 
 pub applied-after-requires : goal.applied-after-requires

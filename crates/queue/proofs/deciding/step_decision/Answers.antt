@@ -3,7 +3,7 @@ use lib.ListN.{length}
 use Rattle.record.specs.Limits.{max_processors, node_slots}
 use Rattle.laws.proofs.Arrays.{unmapped}
 use Rattle.record_check.proofs.Reading.{node_read, processor_read}
-use Rattle.queue_begin.proofs.Bounds.{nodes_long, processors_long, processor_low}
+use Rattle.queue_begin.proofs.Bounds.{processor_low}
 use Rattle.queue.proofs.Steps.{decided, here_low, ahead_low, own_read_low}
 use borrow.Author.Rules.{rules}
 use Rattle.queue.proofs.deciding.step_decision.Goals as goal

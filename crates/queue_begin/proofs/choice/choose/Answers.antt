@@ -1,17 +1,12 @@
-use mathlib.Core.Path.{◌≡◌, refl, sym, ap, ◌∙◌}
-use mathlib.Core.Bool.{Bool, cond}
-use Prim.Native.Nat.{ℕ, ◌+◌, ◌-◌, ◌≤◌, ◌<◌}
+use mathlib.Core.Path.{◌≡◌}
+use Prim.Native.Nat.{◌+◌, ◌<◌}
 use native.Mathlib.Omega.{arith}
 use lib.ListN.{length}
 use borrow.Author.Rules.{rules}
 use Rattle.laws.proofs.Arrays.{unmapped}
-use Rattle.record.specs.declared.nodes.Node.{Node}
-use Rattle.record.specs.Limits.{node_slots, max_processors, max_nodes}
-use Rattle.record_check.proofs.Reading.{node_read}
-use Rattle.rules.specs.Choice.{retirement, never_used, longest_retired, state_of}
+use Rattle.record.specs.Limits.{node_slots, max_processors}
+use Rattle.rules.specs.Choice.{state_of}
 use Rattle.rules.proofs.ValidDecisions.{longest_retired_high}
-use Rattle.queue_begin.proofs.Bounds.{nodes_long, processors_long, nodes_high, processors_high}
-use Rattle.rules.proofs.Chosen.{after_to, chosen_never, chosen_none, chosen_retired}
 use Rattle.queue_begin.proofs.Choosing.{never_more, longest_more, after_more}
 use Rattle.queue_begin.proofs.choice.choose.Goals as goal
 

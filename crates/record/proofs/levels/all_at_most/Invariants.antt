@@ -1,10 +1,7 @@
 -- The loop has tested the levels below i: one more is `every_more`.
-use mathlib.Core.Path.{◌≡◌, ◌∙◌, ap}
-use Prim.Native.Nat.{ℕ, ◌≤◌, ◌-◌}
-use native.Mathlib.Omega.{arith}
-use borrow.Author.Rules.{rules}
+use mathlib.Core.Path.{◌≡◌}
+use Prim.Native.Nat.{◌≤◌, ◌-◌}
 use Rattle.laws.specs.Every.{all_at_most}
-use Rattle.laws.proofs.Counting.{every_more}
 use Rattle.record.proofs.levels.all_at_most.Given as goal
 
 abbrev pub invariant-loop-i : goal.invariant-loop-i

@@ -1,14 +1,11 @@
 -- The sizes' bounds keep every index and cast in range; one more node is `nodes_next`, one more processor `processors_next`.
-use mathlib.Core.Path.{◌≡◌, refl, sym, ap, ◌∙◌}
-use Prim.Native.Nat.{ℕ, ◌+◌, ◌≤◌, ◌<◌, ◌-◌}
+use mathlib.Core.Path.{◌≡◌}
+use Prim.Native.Nat.{◌<◌}
 use native.Mathlib.Omega.{arith}
 use lib.ListN.{length}
 use borrow.Author.Rules.{rules}
-use borrow.Author.Tests.{not-true, not-false}
 use Rattle.laws.proofs.Arrays.{unmapped}
 use Rattle.record.specs.Limits.{max_processors, node_slots}
-use Rattle.record_check.specs.Check.{sizes_of}
-use Rattle.record_check.proofs.SizeLaws.{SizeBounds, sizes_bounds, nodes_valid, processors_valid, valid_refused, valid_rest}
 use Rattle.record_check.proofs.Reading.{nodes_next, processors_next}
 use Rattle.record_check.proofs.check.valid.Goals as goal
 

@@ -1,8 +1,8 @@
 -- The loop has put the bytes of the nodes 1 to i at the front.
-use mathlib.Core.Path.{◌≡◌, refl, sym, ap, ◌∙◌}
+use mathlib.Core.Path.{◌≡◌, sym, ap, ◌∙◌}
 use mathlib.Core.Bool.{true, false}
 use mathlib.Core.List.{List}
-use Prim.Native.Nat.{ℕ, ◌+◌, ◌*◌, ◌≤◌, ◌<◌, ◌-◌}
+use Prim.Native.Nat.{ℕ, ◌+◌, ◌*◌, ◌≤◌, ◌<◌}
 use native.Mathlib.Omega.{arith}
 use lib.ListN.{length, length-set}
 use borrow.Author.Rules.{rules}
@@ -11,7 +11,7 @@ use Rattle.laws.specs.Front.{at_front}
 use Rattle.laws.specs.HowMany.{how_many}
 use Rattle.record.specs.declared.nodes.Node.{Node}
 use Rattle.record.specs.Limits.{node_slots}
-use Rattle.record_markers.specs.Markers.{in_use_at, pairs_to}
+use Rattle.record_markers.specs.Markers.{in_use_at}
 use Rattle.record_markers.proofs.Filling.{read_is, used_is, room_used, place_used, area_used}
 use Rattle.record_markers.proofs.Filling.{count_unused, pairs_unused}
 use Rattle.record_markers.proofs.listing.put_pairs.Goals as goal

@@ -1,15 +1,8 @@
 -- The loop has counted the nodes 1 to i.
-use mathlib.Core.Path.{◌≡◌, sym, ap, ◌∙◌}
-use mathlib.Core.Bool.{true, false}
-use Prim.Native.Nat.{◌+◌, ◌≤◌, ◌<◌, ◌-◌}
-use native.Mathlib.Omega.{arith}
-use lib.ListN.{length}
-use borrow.Author.Rules.{rules}
-use Rattle.laws.proofs.Arrays.{unmapped}
+use mathlib.Core.Path.{◌≡◌}
+use Prim.Native.Nat.{◌≤◌, ◌-◌}
 use Rattle.laws.specs.HowMany.{how_many}
-use Rattle.record.specs.Limits.{node_slots}
 use Rattle.record_markers.specs.Markers.{in_use_at}
-use Rattle.record_markers.proofs.Filling.{used_is, count_used, count_unused}
 use Rattle.record_markers.proofs.listing.used_count.Given as goal
 
 abbrev pub invariant-loop-i : goal.invariant-loop-i
