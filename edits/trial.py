@@ -207,8 +207,9 @@ def refusals(crate, said):
     unfit = {goal for goal, _ in misfits}
     for path, why in functions.items():
         goal = ("goal", path)
-        if goal in unfit or NOT_ADMITTED.search(why):
+        if goal in unfit:
             continue
+        # that it calls what is not proved may stand beside a goal of its own, and says nothing alone
         asked = GOAL.search(why)
         if goal in proofs or asked:
             where = proofs.pop(goal, "") or asked[0]
