@@ -1,5 +1,7 @@
 """A trial: edits put into a copy of their crate, checked by the prover, and what it said judged."""
 
+import fcntl
+import itertools
 import os
 import re
 import shutil
@@ -106,15 +108,32 @@ def link_proved(one, other):
 class Place:
     """A folder beside the repository, where one check at a time is made: of a crate and those below.
 
-    It lies outside, since rt ci wants every source file of the repository in a crate.
+    It lies outside, since rt ci wants every source file of the repository in a crate. Its name is the
+    same in each run, since rt notes the folders that checks were made in.
     """
 
     def __init__(self):
-        self.root = Path(tempfile.mkdtemp(prefix="darthog-edits-"))
         self.crate = ""
+        for number in itertools.count():
+            root = Path(tempfile.gettempdir()) / f"darthog-edits-{os.geteuid()}-{number}"
+            root.mkdir(0o700, exist_ok=True)
+            try:
+                self.held = os.open(root, os.O_RDONLY | os.O_NOFOLLOW)
+            except OSError:
+                continue  # another user's
+            try:
+                fcntl.flock(self.held, fcntl.LOCK_EX | fcntl.LOCK_NB)
+            except BlockingIOError:
+                os.close(self.held)  # another run's
+                continue
+            if os.fstat(self.held).st_uid == os.geteuid():
+                self.root = root
+                return
+            os.close(self.held)
 
     def remove(self):
         shutil.rmtree(self.root, ignore_errors=True)
+        os.close(self.held)
 
     def prepare(self, crate):
         """The crates below as rt check left them; they stay until another crate is asked for."""
