@@ -106,7 +106,7 @@ def laws(top):
 
 def generated(path):
     """Whether this file answers the goals of one function."""
-    return path.name in ("Proof.antt", "Answers.antt", "Invariants.antt")
+    return "/proofs/" in str(path) and path.name in ("Proof.antt", "Answers.antt", "Invariants.antt")
 
 
 def declared_in(text):

@@ -1,17 +1,20 @@
 // Runs the sheet on standard input, its first 64 KiB, and prints its history, or a refusal's number
-// and line. What is printed is print_run's to say; this function only reads and writes.
+// and line. What is printed is print_run's to say; this function only reads and writes. A read or
+// a write that fails ends it with the error.
 #![tactic(auto)]
 
 mod decimals;
 mod printing;
+mod reading;
 
 use crate::printing::print_run;
-use libc::{STDIN_FILENO, STDOUT_FILENO};
+use crate::reading::read_full;
+use std::io;
 
-fn main() {
-    let mut sheet = io::large_buffer();
-    let n = io::read_full(STDIN_FILENO, &mut sheet);
-    let mut area = io::large_buffer();
+fn main(rt: HostRuntime) -> io::Result<()> {
+    let mut sheet = [0; 65536];
+    let n = read_full(&mut rt.reader(), &mut sheet)?;
+    let mut area = [0; 65536];
     let k = print_run(&sheet[..n], &mut area);
-    io::write_all(STDOUT_FILENO, &area[..k]);
+    rt.write_all(&area[..k])
 }

@@ -23,7 +23,7 @@ use Rattle.rules.specs.Answers.{refused, is_refused}
 use Rattle.rules.specs.Calls.{called}
 use Rattle.rules.specs.Runs.{Turn, calls, backlog, markers, reply, after, after_all}
 use Rattle.rules.proofs.Untouched.{untouched}
-use Rattle.rules.specs.Answers.{plainReport}
+use Rattle.rules.specs.Answers.{plain_report}
 use Rattle.host_calls.specs.Entries.{plain_outcome, on_bytes, bytes_after, count_on, markers_on}
 use Rattle.host_calls.specs.Entries.{area_on}
 use Rattle.host_calls.specs.Lists.{
@@ -119,9 +119,9 @@ module _ (q : Queue) (S : Sized q) (T : Trim q) where
 
   reply_call : (c : Turn) → plain_turn (image_of q) c ≡ in_numbers (reply q c)
   reply_call (calls c) = ap plain_outcome (on_image (λ (r : Queue). called r c))
-  reply_call backlog = ap (λ (k : Count). plainReport (reported_count k)) count_image
+  reply_call backlog = ap (λ (k : Count). plain_report (reported_count k)) count_image
   reply_call (markers area) =
-      ap (λ (k : Listed). plainReport (reported_markers k)) (markers_image (length area))
+      ap (λ (k : Listed). plain_report (reported_markers k)) (markers_image (length area))
 
 -- after a list of calls
 bytes_all :

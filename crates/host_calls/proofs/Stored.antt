@@ -26,7 +26,7 @@ use Rattle.record.specs.Report.{report}
 use Rattle.rules.specs.declared.answers.Answer.{Answer}
 use Rattle.rules.specs.declared.answers.Outcome.{Outcome}
 use Rattle.rules.specs.declared.answers.PlainAnswer.{PlainAnswer}
-use Rattle.rules.specs.Answers.{plain_of, plainReport, refused, is_refused}
+use Rattle.rules.specs.Answers.{plain_of, plain_report, refused, is_refused}
 use Rattle.rules.specs.declared.calls.Call.{Call}
 use Rattle.rules.specs.Calls.{called_valid}
 use Rattle.rules.proofs.Inner.{call_inner}
@@ -68,7 +68,7 @@ module _ (b : List ℕ) (inner : Queue → Outcome) where
       go false y k = refl
 
   pub turned_down :
-      (r : PlainAnswer) → passes_of b ≡ false → r ≡ plainReport (report 21 []) →
+      (r : PlainAnswer) → passes_of b ≡ false → r ≡ plain_report (report 21 []) →
       let o = on_bytes b (λ q. cond (valid q) (inner q) (refused q 21)) in
       (r ≡ plain_outcome o) × (b ≡ bytes_after b o)
   unfolding bytes_after
@@ -101,13 +101,13 @@ module _ (b : List ℕ) (inner : Queue → Outcome) where
 -- Backlog
 module _ (b : List ℕ) (r : PlainAnswer) where
   pub not_counted :
-      passes_of b ≡ false → r ≡ plainReport (report 21 []) → r ≡ plainReport (reported_count (count_on b))
+      passes_of b ≡ false → r ≡ plain_report (report 21 []) → r ≡ plain_report (reported_count (count_on b))
   unfolding count_on passes_of
   not_counted h e = e ∙ go (is_image b) (valid (queue_in b)) h
     where
       go : (x y : Bool) → (x && y) ≡ false →
-          plainReport (report 21 [])
-          ≡ plainReport
+          plain_report (report 21 [])
+          ≡ plain_report
           (reported_count
           (cond x
           (cond y (count.Pending (how_many (pending_at (queue_in b)) (queue_in b).nodeCount))
@@ -118,7 +118,7 @@ module _ (b : List ℕ) (r : PlainAnswer) where
 
   pub counted :
       passes_of b ≡ true → (k : ℕ) → k ≡ how_many (pending_at (queue_in b)) (get_or b 1 0) →
-      r ≡ plainReport (report 0 (k ∷ [])) → r ≡ plainReport (reported_count (count_on b))
+      r ≡ plain_report (report 0 (k ∷ [])) → r ≡ plain_report (reported_count (count_on b))
   unfolding count_on passes_of queue_in
   counted h k e f =
       f ∙ rw (
@@ -135,17 +135,17 @@ module _ (b area : List ℕ) where
 
   told :
       (k : Listed) (r : PlainAnswer) (after : List ℕ) → markers_on b (length area) ≡ k →
-      r ≡ plainReport (reported_markers k) → after ≡ area_by pairs area k →
-      (r ≡ plainReport (reported_markers (markers_on b (length area)))) × (after ≡ area_on b area)
+      r ≡ plain_report (reported_markers k) → after ≡ area_by pairs area k →
+      (r ≡ plain_report (reported_markers (markers_on b (length area)))) × (after ≡ area_on b area)
   unfolding area_on
   told k r after e f g = (
-    f ∙ ap (λ (m : Listed). plainReport (reported_markers m)) (sym e),
+    f ∙ ap (λ (m : Listed). plain_report (reported_markers m)) (sym e),
     g ∙ ap (area_by pairs area) (sym e),
   )
 
   pub not_listed :
-      (r : PlainAnswer) → passes_of b ≡ false → r ≡ plainReport (report 21 []) →
-      (r ≡ plainReport (reported_markers (markers_on b (length area)))) × (area ≡ area_on b area)
+      (r : PlainAnswer) → passes_of b ≡ false → r ≡ plain_report (report 21 []) →
+      (r ≡ plain_report (reported_markers (markers_on b (length area)))) × (area ≡ area_on b area)
   unfolding markers_on passes_of
   not_listed r h e = told (listed.Refused 21) r area (go (is_image b) (valid (queue_in b)) h) e refl
     where
@@ -162,8 +162,8 @@ module _ (b area : List ℕ) where
 
   module _ (h : passes_of b ≡ true) (k : ℕ) (e : k ≡ used_count (queue_in b)) where
     pub too_short :
-        (r : PlainAnswer) → length area < 2 * k → r ≡ plainReport (report 43 []) →
-        (r ≡ plainReport (reported_markers (markers_on b (length area)))) × (area ≡ area_on b area)
+        (r : PlainAnswer) → length area < 2 * k → r ≡ plain_report (report 43 []) →
+        (r ≡ plain_report (reported_markers (markers_on b (length area)))) × (area ≡ area_on b area)
     unfolding markers_on passes_of
     too_short r l f =
         told (listed.Refused 43) r area
@@ -175,8 +175,8 @@ module _ (b area : List ℕ) where
 
     pub listed_all :
         (r : PlainAnswer) (after : List ℕ) → 2 * k ≤ length area →
-        r ≡ plainReport (report 0 (k ∷ [])) → after ≡ at_front pairs area →
-        (r ≡ plainReport (reported_markers (markers_on b (length area)))) × (after ≡ area_on b area)
+        r ≡ plain_report (report 0 (k ∷ [])) → after ≡ at_front pairs area →
+        (r ≡ plain_report (reported_markers (markers_on b (length area)))) × (after ≡ area_on b area)
     unfolding markers_on passes_of
     listed_all r after l f g =
         told (listed.Nodes (used_count (queue_in b))) r after
@@ -184,7 +184,7 @@ module _ (b area : List ℕ) where
           and_left (is_image b) (valid (queue_in b)) h,
           and_right (is_image b) (valid (queue_in b)) h,
           le-ltb (length area) (2 * used_count (queue_in b)) (omega arith),
-        ) refl) (f ∙ ap (λ (n : ℕ). plainReport (report 0 (n ∷ []))) e) g
+        ) refl) (f ∙ ap (λ (n : ℕ). plain_report (report 0 (n ∷ []))) e) g
 
 -- the length of an image
 module _ (p n : ℕ) where

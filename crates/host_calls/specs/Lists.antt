@@ -5,7 +5,7 @@ use Rattle.record_markers.specs.Markers.{area_after, reported_markers}
 use Rattle.image.specs.Image.{image_of, queue_in, is_image}
 use Rattle.record.specs.declared.queues.Queue.{Queue}
 use Rattle.record.specs.Queues.{fresh_queue}
-use Rattle.rules.specs.Answers.{plain_of, plainReport, is_refused}
+use Rattle.rules.specs.Answers.{plain_of, plain_report, is_refused}
 use Rattle.rules.specs.declared.calls.Call.{Call}
 use Rattle.rules.specs.Calls.{called}
 use Rattle.rules.specs.Demand3.{InRange}
@@ -23,8 +23,8 @@ bytes_after_turn b (markers area) = b
 
 abbrev pub plain_turn : List ℕ → Turn → PlainAnswer
 plain_turn b (calls c) = plain_outcome (on_bytes b (λ q. called q c))
-plain_turn b backlog = plainReport (reported_count (count_on b))
-plain_turn b (markers area) = plainReport (reported_markers (markers_on b (length area)))
+plain_turn b backlog = plain_report (reported_count (count_on b))
+plain_turn b (markers area) = plain_report (reported_markers (markers_on b (length area)))
 
 -- the bytes after a list of calls
 unfoldable pub bytes_after_all : List ℕ → List Turn → List ℕ
@@ -34,8 +34,8 @@ bytes_after_all b (c ∷ cs) = bytes_after_all (bytes_after_turn b c) cs
 -- what a call on a record gives back, in numbers
 abbrev pub in_numbers : Reply → PlainAnswer
 in_numbers (answered a) = plain_of a
-in_numbers (counted k) = plainReport (reported_count k)
-in_numbers (listed k area) = plainReport (reported_markers k)
+in_numbers (counted k) = plain_report (reported_count k)
+in_numbers (listed k area) = plain_report (reported_markers k)
 
 -- A call on any bytes, if it is accepted, leaves the image of the defined record, and bytes that
 -- are read as it.

@@ -1,7 +1,7 @@
 // Markers, which changes no byte of the queue (02, W6).
 ghost use Rattle.std.specs.Prelude.{◌≡◌, length};
 ghost use Rattle.record_markers.specs.Markers.{reported_markers};
-ghost use Rattle.rules.specs.Answers.{plainReport};
+ghost use Rattle.rules.specs.Answers.{plain_report};
 ghost use Rattle.host_calls.specs.Entries.{markers_on, area_on};
 
 use crate::replies::{accepted, refusal};
@@ -14,7 +14,7 @@ use rules::PlainAnswer;
 #[unsafe(no_mangle)]
 pub extern "C" fn darthog_markers(image: &[u8], area: &mut [u8]) -> PlainAnswer
     ensures value { result
-        ≡ plainReport
+        ≡ plain_report
         (reported_markers (markers_on image.now (length area.old))) }
     ensures area_after { area.new ≡ area_on image.now area.old }
 {

@@ -2,7 +2,7 @@
 ghost use Rattle.std.specs.Prelude.{◌≡◌};
 ghost use Rattle.record_check.specs.Backlog.{reported_count};
 ghost use Rattle.due.specs.Due.{due_from_seconds, reported_minutes};
-ghost use Rattle.rules.specs.Answers.{plainReport};
+ghost use Rattle.rules.specs.Answers.{plain_report};
 ghost use Rattle.host_calls.specs.Entries.{count_on};
 
 use crate::replies::{accepted, minutes_reply, refusal};
@@ -13,7 +13,7 @@ use rules::PlainAnswer;
 // Backlog: 0 and how many entries are answered and not marked, or 21.
 #[unsafe(no_mangle)]
 pub extern "C" fn darthog_backlog(image: &[u8]) -> PlainAnswer
-    ensures { result ≡ plainReport (reported_count (count_on image.now)) }
+    ensures { result ≡ plain_report (reported_count (count_on image.now)) }
 {
     if !passes(image) {
         return refusal(21);
@@ -24,7 +24,7 @@ pub extern "C" fn darthog_backlog(image: &[u8]) -> PlainAnswer
 // A due minute from seconds: 0 and the minute, or 35.
 #[unsafe(no_mangle)]
 pub extern "C" fn darthog_due(seconds: u64) -> PlainAnswer
-    ensures { result ≡ plainReport (reported_minutes (due_from_seconds seconds)) }
+    ensures { result ≡ plain_report (reported_minutes (due_from_seconds seconds)) }
 {
     let m = due_from_seconds(seconds);
     minutes_reply(m)

@@ -2,14 +2,14 @@
 ghost use Rattle.std.specs.Prelude.{◌≡◌, [], ◌∷◌};
 ghost use Rattle.due.specs.Due.{reported_minutes};
 ghost use Rattle.record.specs.Report.{report};
-ghost use Rattle.rules.specs.Answers.{plainReport};
+ghost use Rattle.rules.specs.Answers.{plain_report};
 
 use due::Minutes;
 use rules::PlainAnswer;
 
 // A refusal's number.
 pub(crate) fn refusal(number: u32) -> PlainAnswer
-    ensures { result ≡ plainReport (report number []) }
+    ensures { result ≡ plain_report (report number []) }
 {
     PlainAnswer {
         code: number,
@@ -21,7 +21,7 @@ pub(crate) fn refusal(number: u32) -> PlainAnswer
 
 // 0 and a value.
 pub(crate) fn accepted(value: u32) -> PlainAnswer
-    ensures { result ≡ plainReport (report 0 (value ∷ [])) }
+    ensures { result ≡ plain_report (report 0 (value ∷ [])) }
 {
     PlainAnswer {
         code: 0,
@@ -32,7 +32,7 @@ pub(crate) fn accepted(value: u32) -> PlainAnswer
 }
 
 pub(crate) fn minutes_reply(m: Minutes) -> PlainAnswer
-    ensures { result ≡ plainReport (reported_minutes m) }
+    ensures { result ≡ plain_report (reported_minutes m) }
 {
     match m {
         Minutes::Refused(n) => refusal(n as u32),

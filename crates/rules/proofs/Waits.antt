@@ -39,7 +39,7 @@ use Rattle.rules.specs.declared.decisions.Decision.{Decision}
 use Rattle.rules.specs.declared.decisions.Searched.{Searched}
 use Rattle.rules.specs.declared.decisions.Sought.{Sought}
 use Rattle.rules.specs.declared.decisions.StepView.{StepView}
-use Rattle.rules.specs.Answers.{isWaits}
+use Rattle.rules.specs.Answers.{is_waits}
 use Rattle.rules.specs.Calls.{reading_place, step_view_of, step_decision, called}
 use Rattle.rules.specs.Decide.{attempt, waits, search_step, seek_step, place_tried}
 use Rattle.rules.specs.Decide.{insert_searched, insert_sought, insert_step}
@@ -71,14 +71,14 @@ pub record Stands (s : StepView) (g : Stage) (d : Decision) : Type 0 where
 -- what follows an attempt waits for the holder of a lock that is held
 tried :
     (s : StepView) (g : Stage) (make : Attempt → Decision) (lock : ℕ) →
-    isWaits (make try.Taken).answer ≡ false →
+    is_waits (make try.Taken).answer ≡ false →
     ((h : ℕ) → make (try.HeldBy h) ≡ waits s g h) →
     ((h : ℕ) → lock ≡ suc h → Told s h g) →
-    isWaits (make (attempt lock)).answer ≡ true → Stands s g (make (attempt lock))
+    is_waits (make (attempt lock)).answer ≡ true → Stands s g (make (attempt lock))
 tried s g make lock goes stays told = go (eqb lock 0) refl
   where
     go : (t : Bool) → eqb lock 0 ≡ t →
-        isWaits (make (cond t try.Taken (try.HeldBy (lock - 1)))).answer ≡ true →
+        is_waits (make (cond t try.Taken (try.HeldBy (lock - 1)))).answer ≡ true →
         Stands s g (make (cond t try.Taken (try.HeldBy (lock - 1))))
     go true z e = no (sym goes ∙ e)
     go false z e = record {
@@ -90,7 +90,7 @@ tried s g make lock goes stays told = go (eqb lock 0) refl
 -- every decision that waits
 module _ (s : StepView) where
   abbrev Waiting : Stage → Decision → Type 0
-  Waiting g d = isWaits d.answer ≡ true → Stands s g d
+  Waiting g d = is_waits d.answer ≡ true → Stands s g d
 
   insert_search :
       (a : Place) → Waiting (stage.Insert (ins.Search a)) (insert_searched s a (search_step s a))
@@ -229,14 +229,14 @@ answer_in (listed k area) = ans.Moved
 pub waits_for_the_holder : WaitsForTheHolder
 waits_for_the_holder q p h e =
     of_call (λ (o : Outcome). o.answer ≡ ans.Waits h → Holder q p h) q (call.Step p)
-    (λ n x. no (ap isWaits x)) (λ v A x. from x) (ap answer_in e)
+    (λ n x. no (ap is_waits x)) (λ v A x. from x) (ap answer_in e)
   where
     c : Processor
     c = processor_at q p
 
     from : (step_decision q c).answer ≡ ans.Waits h → Holder q p h
     from x =
-        let S = stands (step_view_of q c (reading_place c.stage)) c.stage (ap isWaits x) in
+        let S = stands (step_view_of q c (reading_place c.stage)) c.stage (ap is_waits x) in
         let same : S.holder ≡ h =
         sym (ap (λ (d : Decision). named d.answer) S.same) ∙ ap named x in
         subst (Holder q p) same (asked_for q p S.holder c.stage refl S.told)

@@ -13,14 +13,14 @@ use Rattle.rules.specs.declared.answers.Answer.TheVariants as ans
 use Rattle.rules.specs.declared.answers.PlainAnswer.{PlainAnswer}
 use Rattle.rules.specs.declared.answers.Outcome.{Outcome}
 
-abbrev pub entryValues : Entry → List ℕ
-entryValues e = e.due ∷ e.item ∷ e.ticket ∷ []
+abbrev pub entry_values : Entry → List ℕ
+entry_values e = e.due ∷ e.item ∷ e.ticket ∷ []
 
-abbrev pub deedCode : Deed → ℕ
-deedCode deed.Marked = 4
-deedCode deed.Inserted = 5
-deedCode deed.HandedOut = 6
-deedCode deed.TakenBack = 7
+abbrev pub deed_code : Deed → ℕ
+deed_code deed.Marked = 4
+deed_code deed.Inserted = 5
+deed_code deed.HandedOut = 6
+deed_code deed.TakenBack = 7
 
 -- an answer in document 01's numbers: of a refusal its number; of the rest 0 for a begin, and 1 to
 -- 6 in the order in which document 01 names a step's reports; 7 and 8 for a Remove's (02, W5)
@@ -31,19 +31,19 @@ reported ans.Moved = report 1 []
 reported (ans.Waits h) = report 2 (h ∷ [])
 reported ans.Empty = report 3 []
 reported (ans.NotThere w) = report 8 (w.due ∷ w.ticket ∷ [])
-reported (ans.Did d e) = report (deedCode d) (entryValues e)
+reported (ans.Did d e) = report (deed_code d) (entry_values e)
 
-abbrev pub plainFrom : ℕ → ℕ → ℕ → ℕ → PlainAnswer
-plainFrom code first second third =
+abbrev pub plain_from : ℕ → ℕ → ℕ → ℕ → PlainAnswer
+plain_from code first second third =
     record { code = code; first = first; second = second; third = third }
 
 -- a report as four plain numbers: its number, its values, and 0 for a value that it has not
-abbrev pub plainReport : Report → PlainAnswer
-plainReport r =
-    plainFrom r.number (get_or r.values 0 0) (get_or r.values 1 0) (get_or r.values 2 0)
+abbrev pub plain_report : Report → PlainAnswer
+plain_report r =
+    plain_from r.number (get_or r.values 0 0) (get_or r.values 1 0) (get_or r.values 2 0)
 
 abbrev pub plain_of : Answer → PlainAnswer
-plain_of a = plainReport (reported a)
+plain_of a = plain_report (reported a)
 
 -- a refused call leaves the record as it was, its clock too
 abbrev pub refused : Queue → ℕ → Outcome
@@ -58,11 +58,11 @@ is_refused ans.Empty = false
 is_refused (ans.NotThere w) = false
 is_refused (ans.Did d e) = false
 
-abbrev pub isWaits : Answer → Bool
-isWaits (ans.Refused n) = false
-isWaits (ans.Began t) = false
-isWaits ans.Moved = false
-isWaits (ans.Waits h) = true
-isWaits ans.Empty = false
-isWaits (ans.NotThere w) = false
-isWaits (ans.Did d e) = false
+abbrev pub is_waits : Answer → Bool
+is_waits (ans.Refused n) = false
+is_waits (ans.Began t) = false
+is_waits ans.Moved = false
+is_waits (ans.Waits h) = true
+is_waits ans.Empty = false
+is_waits (ans.NotThere w) = false
+is_waits (ans.Did d e) = false

@@ -1,6 +1,6 @@
 // What a call answers, and the readers of an answer.
 ghost use Rattle.std.specs.Prelude.{◌≡◌};
-ghost use Rattle.rules.specs.Answers.{plainFrom, plain_of, deedCode, is_refused, isWaits};
+ghost use Rattle.rules.specs.Answers.{plain_from, plain_of, deed_code, is_refused, is_waits};
 
 use record::{Queue, Wanted};
 
@@ -53,7 +53,7 @@ pub struct PlainAnswer {
 }
 
 fn with_values(code: u32, first: u32, second: u32, third: u32) -> PlainAnswer
-    ensures { result ≡ plainFrom code first second third }
+    ensures { result ≡ plain_from code first second third }
 {
     PlainAnswer {
         code: code,
@@ -64,7 +64,7 @@ fn with_values(code: u32, first: u32, second: u32, third: u32) -> PlainAnswer
 }
 
 fn deed_code(d: Deed) -> u32
-    ensures { result ≡ deedCode d }
+    ensures { result ≡ deed_code d }
 {
     match d {
         Deed::Marked => 4,
@@ -105,7 +105,7 @@ pub fn is_refused(a: Answer) -> bool
 }
 
 pub fn is_waits(a: Answer) -> bool
-    ensures { result ≡ isWaits a }
+    ensures { result ≡ is_waits a }
 {
     match a {
         Answer::Refused(_) => false,

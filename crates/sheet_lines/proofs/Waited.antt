@@ -22,7 +22,7 @@ use Rattle.rules.specs.declared.answers.Answer.{Answer}
 use Rattle.rules.specs.declared.answers.Answer.TheVariants as ans
 use Rattle.rules.specs.declared.answers.Outcome.{Outcome}
 use Rattle.rules.specs.declared.decisions.Decision.{Decision}
-use Rattle.rules.specs.Answers.{refused, is_refused, isWaits}
+use Rattle.rules.specs.Answers.{refused, is_refused, is_waits}
 use Rattle.rules.specs.declared.calls.Call.{Call}
 use Rattle.rules.specs.declared.calls.Call.TheVariants as call
 use Rattle.rules.specs.Calls.{reading_place, step_view_of, step_decision, decision_of, refusal_of}
@@ -84,7 +84,7 @@ pub record Waiting (l : SheetLine) (q : Queue) : Type 0 where
   pub steps : call_of l ≡ call.Step l.first
   pub known : leb q.processorCount l.first ≡ false
   pub busy : is_idle (processor_at q l.first).stage ≡ false
-  pub stands : isWaits (step_decision q (processor_at q l.first)).answer ≡ true
+  pub stands : is_waits (step_decision q (processor_at q l.first)).answer ≡ true
 
 still : (l : SheetLine) (q : Queue) (m : ℕ) → Waiting l q → Waiting l (later q m)
 still l q m w =
@@ -180,14 +180,14 @@ module _ (s : List ℕ) (q₀ : Queue) (k : ℕ) (l : SheetLine) where
 
 -- a call that answers that it waits is a step, and one that is not refused
 abbrev Moves : Outcome → Type 0
-Moves o = isWaits o.answer ≡ false
+Moves o = is_waits o.answer ≡ false
 
 module _ (q : Queue) where
-  begin_moves : (c : Call) → isWaits (decision_of q c).answer ≡ false → Moves (called_valid q c)
+  begin_moves : (c : Call) → is_waits (decision_of q c).answer ≡ false → Moves (called_valid q c)
   begin_moves c d = cond_elim Moves (eqb (refusal_of q c) 0) _ _ d refl
 
   waits_steps :
-      (c : Call) → isWaits (called_valid q c).answer ≡ true → c ≡ call.Step (processor_of c)
+      (c : Call) → is_waits (called_valid q c).answer ≡ true → c ≡ call.Step (processor_of c)
   waits_steps (call.Insert p due item height) h =
       no (sym (begin_moves (call.Insert p due item height) refl) ∙ h)
   waits_steps (call.DeleteMin p) h = no (sym (begin_moves (call.DeleteMin p) refl) ∙ h)
@@ -197,29 +197,29 @@ module _ (q : Queue) where
   waits_steps (call.Step p) h = refl
 
   waited_step :
-      (p : ℕ) → isWaits (called_valid q (call.Step p)).answer ≡ true →
+      (p : ℕ) → is_waits (called_valid q (call.Step p)).answer ≡ true →
       Allowed q (call.Step p)
-      × (isWaits (accepted q p (step_decision q (processor_at q p))).answer ≡ true)
+      × (is_waits (accepted q p (step_decision q (processor_at q p))).answer ≡ true)
   waited_step p = go (eqb (refusal_of q (call.Step p)) 0) refl
     where
       c : Call
       c = call.Step p
 
       go : (t : Bool) → eqb (refusal_of q c) 0 ≡ t →
-          isWaits
+          is_waits
           (cond t (accepted q p (decision_of q c)) (refused q (refusal_of q c))).answer ≡ true →
-          Allowed q c × (isWaits (accepted q p (decision_of q c)).answer ≡ true)
+          Allowed q c × (is_waits (accepted q p (decision_of q c)).answer ≡ true)
       go true z e = (allowed q c (eqb-true (refusal_of q c) 0 z), e)
       go false z e = no e
 
 module _ (l : SheetLine) (q : Queue) where
-  waiting : isWaits (call_on l q).answer ≡ true → (q.clock < max_number) × Waiting l q
+  waiting : is_waits (call_on l q).answer ≡ true → (q.clock < max_number) × Waiting l q
   waiting h =
       let steps : call_of l ≡ call.Step l.first =
       waits_steps q (call_of l) h ∙ ap call.Step (line_processor l) in
       let p =
       waited_step q l.first
-      (sym (ap (λ (c : Call). isWaits (called_valid q c).answer) steps) ∙ h) in
+      (sym (ap (λ (c : Call). is_waits (called_valid q c).answer) steps) ∙ h) in
       let A = p.0 in (
         A.ticks,
         record {
@@ -231,7 +231,7 @@ module _ (l : SheetLine) (q : Queue) where
       )
 
   -- it prints nothing, and does not end its line
-  waits_silent : (a : Answer) → isWaits a ≡ true → is_silent (call_of l) a ≡ true
+  waits_silent : (a : Answer) → is_waits a ≡ true → is_silent (call_of l) a ≡ true
   waits_silent (ans.Refused n) h = no h
   waits_silent (ans.Began t) h = no h
   waits_silent ans.Moved h = no h
@@ -240,7 +240,7 @@ module _ (l : SheetLine) (q : Queue) where
   waits_silent (ans.NotThere w) h = no h
   waits_silent (ans.Did d e) h = no h
 
-  waits_left_lem : (a : Answer) (n : ℕ) → isWaits a ≡ true → n ≡ cond (is_refused a) 0 n
+  waits_left_lem : (a : Answer) (n : ℕ) → is_waits a ≡ true → n ≡ cond (is_refused a) 0 n
   waits_left_lem (ans.Refused m) n h = no h
   waits_left_lem (ans.Began t) n h = no h
   waits_left_lem ans.Moved n h = no h
@@ -329,14 +329,14 @@ module _ (s : List ℕ) (q₀ : Queue) (k : ℕ) (l : SheetLine) (a₀ : List �
   pub call_waits :
       (b a : List ℕ) (at left : ℕ) (i : Within s q₀ k l left b a₀ a at w) (some : 0 < left)
       (c : List ℕ) (r : Answer) → Gives (call_on l (queue_in b)) c r → Sound c →
-      isWaits r ≡ true →
+      is_waits r ≡ true →
       (n : ℕ) (d : List ℕ) →
       n ≡ left - 1 - waits_left (left - 1) (queue_in c).clock →
       d ≡ image_of (later (queue_in c) (waits_left (left - 1) (queue_in c).clock)) →
       Within s q₀ k l n d a₀ a at w
   call_waits b a at left i some c r g z y n d e f =
       let m = waits_left (left - 1) (queue_in c).clock in
-      let x = waiting l (queue_in b) (sym (ap isWaits g.answer) ∙ y) in
+      let x = waiting l (queue_in b) (sym (ap is_waits g.answer) ∙ y) in
       let early = x.0 in
       let read : queue_in c ≡ later (queue_in b) 1 =
       call_queue l b i.sound c r g ∙ ap (λ (o : Outcome). o.queue) (once l (queue_in b) x.1 early) in
