@@ -1,4 +1,4 @@
-//! Links the bare steps: `rt staticlib bench` writes the archive. The crate
+//! Links the bare steps: `.ci/archive bench` writes the archive. The crate
 //! `host` links the calls of `libhost_calls.a`.
 
 use std::path::Path;

@@ -144,19 +144,6 @@ def changed_items(files, edit):
     return changed
 
 
-def name_functions(top, crates, edits):
-    """Tells each edit that changes the body of one function, and nothing else, that one's name."""
-    files, _ = read_items(top, crates)
-    for edit in edits:
-        holders = []
-        for file, old, _ in edit.pairs:
-            functions = (i for i in files.get((edit.crate, file), []) if i.kind == "fn")
-            holders.append([i for i in functions if old in i.body])
-        paths = {i.path for found in holders for i in found}
-        if all(holders) and len(paths) == 1:
-            edit.function = paths.pop()
-
-
 def reached(item, definitions):
     """The definitions that an item's contract or text cites, directly or through others."""
     seen, todo = set(), list(item.cites)

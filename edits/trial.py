@@ -1,26 +1,29 @@
 """A trial: edits put into a copy of their crate, checked by the prover, and what it said judged."""
 
+import fcntl
+import itertools
 import os
 import re
 import shutil
 import subprocess
+import tempfile
 from dataclasses import dataclass, field
 from pathlib import Path
 
 TOP = Path(__file__).resolve().parent.parent
 WORK = TOP / "target" / "edits"
+PARTS = ("src", "specs", "proofs")
 
-# What the prover says where a proof file does not fit its function any more: a need, a place of the
+# What the prover says where a proof file does not fit its function any more: a goal, a place of the
 # code or a local of a loop is gone or new. None of these is about a fact.
-MISFITS = (
-    re.compile(r"has no `?Need-"),
-    re.compile(r"that can be named from here"),
-    re.compile(r"record `[^`]*\.Lts\.[^`]*`\s+has no field `[^`]*`"),
-    re.compile(r"error: `(?:Inv-|μ-|[^`]*-spec`)[^`]*`?: (?!`[^`]*`\s+was not\s+admitted)"),
-)
+MISFIT = re.compile(r"that can be named from here|has no field|is not a goal|exports no|"
+                    r"is not in scope|has no `|is no name|was not declared|takes no `")
 ERROR = re.compile(
-    r"^(?P<file>[\w/]+\.(?:rt|antt)):(?P<at>\d+:\d+): error: (?P<name>`[^`]*`)?", re.M)
-NOT_ADMITTED = re.compile(r"`[^`]*`\s+was not\s+admitted")
+    r"^(?:\./)?(?P<file>[\w/'-]+\.(?:rt|antt)):(?P<at>\d+:\d+): error(?:\[[\w-]+\])?: "
+    r"(?:`(?P<name>[^`]*)`: )?", re.M)
+NOT_ADMITTED = re.compile(r"`[^`]*`\s+was not\s+admitted|which is not proved")
+FUNCTION = re.compile(r"^fn (?P<path>\S+): (?!proved)(?P<why>.*)$", re.M)
+GOAL = re.compile(r"did not prove (`[^`]*`)|gave up[^`]*(`[^`]*`)")
 
 
 @dataclass
@@ -30,7 +33,8 @@ class Edit:
     path: Path
     pairs: list = field(default_factory=list)  # (file, old, new)
     fault: str = ""
-    function: str = ""  # the one function whose body it changes, as the prover names it; or nothing
+    users: set = field(default_factory=set)  # the functions and lemmas that it can make fail
+    near: set = field(default_factory=set)  # those of them that cite what it changes themselves
 
     @property
     def label(self):
@@ -62,50 +66,111 @@ def read_edit(crate, path):
     return edit
 
 
-def apply_edit(edit, crate_dir):
-    """Puts the edit into a copy of the crate: the reason why it can not be, or nothing."""
+def edited(edit, crate_dir):
+    """The files of the crate with this edit, or the reason why it can not be put in."""
     texts = {}
     for file, old, new in edit.pairs:
         if not re.fullmatch(r"(src|specs)/(?!.*\.\.)[\w/.]+", file):
-            return f"{file} is no file of src/ or specs/"
+            return {}, f"{file} is no file of src/ or specs/"
         if not (crate_dir / file).is_file():
-            return f"{file} is not in the crate"
+            return {}, f"{file} is not in the crate"
         text = texts.get(file) or (crate_dir / file).read_text(encoding="utf-8")
         if text.count(old) != 1:
-            return f"its text is in {file} {text.count(old)} times: {old}"
+            return {}, f"its text is in {file} {text.count(old)} times: {old}"
         texts[file] = text.replace(old, new)
+    return texts, ""
+
+
+def apply_edit(edit, crate_dir):
+    """Puts the edit into a copy of the crate: the reason why it can not be, or nothing."""
+    texts, fault = edited(edit, crate_dir)
     for file, text in texts.items():
         (crate_dir / file).write_text(text, encoding="utf-8")
-    return ""
+    return fault
 
 
-def workspace(crate, name):
-    """A repository that lists one crate, a copy, and has the others as rt check left them."""
-    place = WORK / crate / name
-    shutil.rmtree(place / "crates", ignore_errors=True)
-    (place / "crates").mkdir(parents=True)
-    (place / "target" / "inc").mkdir(parents=True, exist_ok=True)
-    lines = (TOP / "crates.txt").read_text().splitlines(keepends=True)
-    (place / "crates.txt").write_text("".join(l for l in lines if l.split(":")[0].strip() == crate))
-    for other in (TOP / "crates").iterdir():
-        if other.name != crate:
-            (place / "crates" / other.name).symlink_to(other)
-    for part in ("src", "specs", "proofs"):
-        if (TOP / "crates" / crate / part).is_dir():
-            shutil.copytree(TOP / "crates" / crate / part, place / "crates" / crate / part)
-    (place / "target" / "rlib").unlink(missing_ok=True)
-    (place / "target" / "rlib").symlink_to(TOP / "target" / "rlib")
-    return place
+def fault_of(edit):
+    return edit.fault or edited(edit, TOP / "crates" / edit.crate)[1]
 
 
-def check(place, crate):
-    """Checks the crate over the workspace's incremental folder: the status, and what was said."""
-    log = place.with_suffix(".log")
-    with open(log, "w", encoding="utf-8") as out:
-        done = subprocess.run(["rt", "dev", crate], cwd=place, stdout=out, stderr=subprocess.STDOUT,
-                              stdin=subprocess.DEVNULL, check=False)
-    said = log.read_text(encoding="utf-8", errors="replace")
-    return done.returncode, said.replace(f"{place}/crates/{crate}/", "")
+def link(one, other):
+    """Gives a file a second name, or copies it. rt and the prover replace such files, and write into none."""
+    try:
+        os.link(one, other)
+    except OSError:
+        shutil.copy2(one, other)
+
+
+def link_proved(one, other):
+    (link if one.endswith(".oantt") else shutil.copy2)(one, other)
+
+
+class Place:
+    """A folder beside the repository, where one check at a time is made: of a crate and those below.
+
+    It lies outside, since rt ci wants every source file of the repository in a crate. Its name is the
+    same in each run, since rt notes the folders that checks were made in.
+    """
+
+    def __init__(self):
+        self.crate = ""
+        for number in itertools.count():
+            root = Path(tempfile.gettempdir()) / f"darthog-edits-{os.geteuid()}-{number}"
+            root.mkdir(0o700, exist_ok=True)
+            try:
+                self.held = os.open(root, os.O_RDONLY | os.O_NOFOLLOW)
+            except OSError:
+                continue  # another user's
+            try:
+                fcntl.flock(self.held, fcntl.LOCK_EX | fcntl.LOCK_NB)
+            except BlockingIOError:
+                os.close(self.held)  # another run's
+                continue
+            if os.fstat(self.held).st_uid == os.geteuid():
+                self.root = root
+                return
+            os.close(self.held)
+
+    def remove(self):
+        shutil.rmtree(self.root, ignore_errors=True)
+        os.close(self.held)
+
+    def prepare(self, crate):
+        """The crates below as rt check left them; they stay until another crate is asked for."""
+        lines = [l for l in (TOP / "crates.txt").read_text().splitlines() if ":" in l and l[0] != "#"]
+        line = next(l for l in lines if l.split(":")[0].split()[0] == crate)
+        needed = {crate, *line.split(":")[1].split()}
+        shutil.rmtree(self.root / "crates", ignore_errors=True)
+        (self.root / "crates").mkdir(parents=True)
+        (self.root / "crates.txt").write_text(
+            "".join(f"{l}\n" for l in lines if l.split(":")[0].split()[0] in needed))
+        for below in needed - {crate}:
+            if (TOP / "crates" / below).is_dir():
+                for part in (*PARTS, "out/rlib"):
+                    if (TOP / "crates" / below / part).is_dir():
+                        shutil.copytree(TOP / "crates" / below / part,
+                                        self.root / "crates" / below / part, copy_function=link)
+        self.crate = crate
+
+    def check(self, crate, edits, log):
+        """Checks a copy of the crate with these edits: status and words, or why it can not be."""
+        if self.crate != crate:
+            self.prepare(crate)
+        own, there = TOP / "crates" / crate, self.root / "crates" / crate
+        shutil.rmtree(there, ignore_errors=True)
+        for part in PARTS:
+            if (own / part).is_dir():
+                shutil.copytree(own / part, there / part)
+        fault = next(filter(None, (apply_edit(e, there) for e in edits)), "")
+        if fault:
+            return None, fault
+        if (own / "out" / "incremental").is_dir():
+            shutil.copytree(own / "out" / "incremental", there / "out" / "incremental",
+                            copy_function=link_proved)
+        with open(log, "w", encoding="utf-8") as out:
+            done = subprocess.run(["rt", "check", "--jobs", "1"], cwd=there, stdout=out,
+                                  stderr=subprocess.STDOUT, stdin=subprocess.DEVNULL, check=False)
+        return done.returncode, log.read_text(encoding="utf-8", errors="replace")
 
 
 def is_proved(status, said):
@@ -116,60 +181,64 @@ def is_refused(status, said):
     return status == 1 and re.search(r"^logic=not-proved", said, re.M) is not None
 
 
-def folder_name(crate):
-    """What this build of the prover calls the one folder that it makes in an incremental folder."""
-    place = workspace(crate, "as_it_is")
-    check(place, crate)
-    made = [p.name for p in (place / "target" / "inc" / crate).glob("*")]
-    return made[0] if len(made) == 1 else ""
-
-
-def check_as_it_is(crate, name):
-    """Whether the crate is proved as it is, over an incremental folder that is left for the edits.
-
-    What rt check proved of a library lies in its rlib, module by module, in the form that the
-    incremental folder has too. The prover takes a module from there only if it is up to date, so
-    that a folder which starts from them costs time at the worst.
-    """
-    place = workspace(crate, "as_it_is")
-    proved_by_check = TOP / "target" / "rlib" / f"{crate}.rlib" / "toolchain" / "checked"
-    folder = place / "target" / "inc" / crate / name
-    if name and proved_by_check.is_dir():
-        shutil.copytree(proved_by_check, folder, dirs_exist_ok=True)
-    return is_proved(*check(place, crate))
-
-
-def check_edited(crate, name, edits):
-    """Checks a copy of the crate with these edits: status and words, or why it can not be."""
-    place = workspace(crate, name)
-    fault = next(filter(None, (apply_edit(e, place / "crates" / crate) for e in edits)), "")
-    status, said = None, fault
-    if not fault:
-        inc = Path("target") / "inc" / crate
-        # the prover replaces a module's file and never writes into it, so links do for a copy
-        shutil.copytree(WORK / crate / "as_it_is" / inc, place / inc, copy_function=os.link)
-        status, said = check(place, crate)
-    shutil.rmtree(place, ignore_errors=True)
-    return status, said
-
-
-def misfit_in(said):
-    for pattern in MISFITS:
-        found = pattern.search(said)
-        if found:
-            return " ".join(said[said.rfind("\n", 0, found.start()) + 1:][:160].split())
-    return ""
+@dataclass
+class Refused:
+    goal: tuple  # ("goal", function) or ("lemma", name)
+    where: str
 
 
 def errors_of(said):
-    """Each error with its text: (file, place and name, text)."""
+    """Each error with its text: (file, place, name, text)."""
     found = list(ERROR.finditer(said))
     ends = [m.start() for m in found[1:]] + [len(said)]
-    return [(m["file"], f"{m['file']}:{m['at']} {m['name'] or ''}".strip(), said[m.start():end])
+    return [(m["file"], f"{m['file']}:{m['at']}", m["name"] or "", said[m.start():end])
             for m, end in zip(found, ends)]
 
 
-def judge(status, said):
+def short(text):
+    return " ".join(text.split("\n\n")[0][:200].split())[:160]
+
+
+def function_of(crate, file, functions):
+    """The function whose proof file this is, or nothing."""
+    path = "::".join([crate, *file.split("/")[1:-1]])
+    return path if path in functions else ""
+
+
+def refusals(crate, said):
+    """The facts that were refused, and what says no more than that a text does not fit."""
+    facts, misfits = [], []
+    errors = errors_of(said)
+    functions = {m["path"]: m["why"] for m in FUNCTION.finditer(said)}
+    proofs = {}
+    for file, place, name, text in errors:
+        first = text.split("\nfn ")[0]
+        if file.startswith(("specs/", "src/")):
+            misfits.append(("", f"a definition or a contract can not be read: {short(first)}"))
+            continue
+        function = function_of(crate, file, functions)
+        goal = ("goal", function) if function else ("lemma", name.split(".")[-1])
+        head = " ".join(first[:600].split())
+        if MISFIT.search(head):
+            misfits.append((goal, f"a proof file no longer fits its function: {short(first)}"))
+        elif not NOT_ADMITTED.search(head) and (function or name):
+            proofs.setdefault(goal, f"{place} `{name}`" if name else place)
+    unfit = {goal for goal, _ in misfits}
+    for path, why in functions.items():
+        goal = ("goal", path)
+        if goal in unfit:
+            continue
+        # that it calls what is not proved may stand beside a goal of its own, and says nothing alone
+        asked = GOAL.search(why)
+        if goal in proofs or asked:
+            where = proofs.pop(goal, "") or asked[0]
+            facts.append(Refused(goal, f"fn {path}; {where}"))
+    facts += [Refused(goal, where) for goal, where in proofs.items()
+              if goal not in unfit and goal[0] == "lemma"]
+    return facts, misfits
+
+
+def judge(crate, status, said):
     """Whether a check of an edited crate refused a fact, and in which words."""
     if status is None:
         return Verdict(False, said)
@@ -178,33 +247,25 @@ def judge(status, said):
     if not is_refused(status, said):
         first = next((l for l in said.splitlines() if "error" in l), f"exit status {status}")
         return Verdict(False, f"the prover was not reached: {first[:200]}")
-    misfit = misfit_in(said)
-    if misfit:
-        return Verdict(False, f"a proof file no longer fits its function: {misfit}")
-    functions = re.findall(r"^fn (\S+): (?!proved)(.*)$", said, re.M)
-    own = [f"fn {name}" for name, why in functions if "which is not proved" not in why]
-    places = [place for _, place, text in errors_of(said) if not NOT_ADMITTED.search(text)]
-    where = "; ".join(own[:2] + places[:1])
-    if not where:
-        return Verdict(False, "not proved, and no function or law is named that was refused")
-    return Verdict(True, where)
+    facts, misfits = refusals(crate, said)
+    unread = next((words for goal, words in misfits if not goal), "")
+    if unread:
+        return Verdict(False, unread)
+    if facts:
+        return Verdict(True, "; ".join(r.where for r in facts[:2]))
+    if misfits:
+        return Verdict(False, misfits[0][1])
+    return Verdict(False, "not proved, and no function or law is named that was refused")
 
 
-def judge_function(status, said, function):
-    """Whether a check of several edits refused a fact of this function's own; where, or nothing.
+def judge_own(crate, status, said, own):
+    """Whether a check of several edits refused one of the goals that this edit alone reaches; where.
 
-    Its needs depend on its body and on the contracts of what it calls, and the other edits change
-    no contract, so that what is refused here is refused of the function's edit alone.
+    What a goal needs depends on what it reaches, so that none of the others made it fail.
     """
-    line = re.search(rf"^fn {re.escape(function)}: (?!proved)(.*)$", said, re.M)
-    if status is None or not is_refused(status, said) or not line:
+    if status is None or not is_refused(status, said):
         return ""
-    file = "proofs/" + "/".join(function.split("::")[1:]) + "/Proof.antt"
-    own = [(place, text) for f, place, text in errors_of(said) if f == file]
-    if misfit_in("".join(text for _, text in own)):
+    facts, misfits = refusals(crate, said)
+    if any(not goal for goal, _ in misfits):
         return ""
-    refused = [place for place, text in own if not NOT_ADMITTED.search(text)]
-    unclosed = re.search(r"`search` does not close `[^`]*`", line[1])
-    if not own and unclosed:
-        return f"fn {function}; {unclosed[0]}"
-    return f"fn {function}; {refused[0]}" if refused else ""
+    return next((r.where for r in facts if r.goal in own), "")

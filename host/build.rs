@@ -1,6 +1,6 @@
 //! Finds the proved static library and has it linked.
 //!
-//! `rt staticlib host_calls` writes it to target/staticlib/libhost_calls.a of the
+//! `.ci/archive host_calls` writes it to target/staticlib/libhost_calls.a of the
 //! repository. The environment variable DARTHOG_LIBRARY_FOLDER names another
 //! folder.
 
@@ -19,7 +19,7 @@ fn main() {
     println!("cargo:rerun-if-changed={}", archive.display());
     if !archive.is_file() {
         eprintln!(
-            "{} is not there: run `rt staticlib host_calls` in the repository, or name the folder that has libhost_calls.a by {VARIABLE}",
+            "{} is not there: run `.ci/archive host_calls` in the repository, or name the folder that has libhost_calls.a by {VARIABLE}",
             archive.display()
         );
         std::process::exit(1);

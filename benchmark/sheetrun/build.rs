@@ -1,4 +1,4 @@
-//! Links the proved run of a sheet: `rt staticlib host_sheet` writes the archive.
+//! Links the proved run of a sheet: `.ci/archive host_sheet` writes the archive.
 
 use std::path::Path;
 

@@ -2,7 +2,7 @@
 //! what is expected written by hand: areas as long as the history, a byte less
 //! and a byte more, below and above 65,536 bytes, where the code runs a sheet
 //! once and twice; and refused sheets. Every byte around the area and in it is
-//! looked at. The reference must say the same. `rt staticlib host_sheet` writes
+//! looked at. The reference must say the same. `.ci/archive host_sheet` writes
 //! the library that is linked here.
 
 use darthog_reference::sheet::{run, SheetRefusal};
