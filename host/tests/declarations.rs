@@ -158,7 +158,7 @@ fn of_source(text: &str, start: &str) -> BTreeMap<String, Function> {
 #[test]
 fn the_functions_are_those_of_the_source() {
     let header = of_header(&read("include/darthog.h"));
-    let start = "#[no_mangle] pub extern \"C\" fn ";
+    let start = "#[unsafe(no_mangle)] pub extern \"C\" fn ";
     let mut source = BTreeMap::new();
     for text in sources() {
         source.append(&mut of_source(&text, start));

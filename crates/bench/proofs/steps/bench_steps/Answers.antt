@@ -1,9 +1,7 @@
 use mathlib.Core.Path.{sym, ◌∙◌}
 use native.Mathlib.Omega.{arith}
-use borrow.Author.Tests.{not-true, not-false}
 use Rattle.image_check.proofs.Tests.{passes_sound}
 use Rattle.bench.proofs.Stepping.{not_ready, was_ready}
-use borrow.Author.Rules.{rules}
 use Rattle.bench.proofs.steps.bench_steps.Goals as goal
 
 pub returns-then-not-passes : goal.returns-then-not-passes
@@ -23,6 +21,6 @@ pub returns : goal.returns
 returns c =
     let a = c.args in
     let r =
-        was_ready a.image.now a.who.now _ (sym c.passes.ensures ∙ c.if-not-passes.false)
-        c.run_steps.ensures in
+    was_ready a.image.now a.who.now _ (sym c.passes.ensures ∙ c.if-not-passes.false)
+    c.run_steps.ensures in
     record { value = r.0; image_after = r.1 }

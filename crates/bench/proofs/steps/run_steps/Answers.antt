@@ -1,13 +1,8 @@
-use mathlib.Core.Path.{◌≡◌, refl, ◌∙◌}
-use Prim.Native.Nat.{◌-◌, ◌≤◌}
+use mathlib.Core.Path.{refl, ◌∙◌}
 use native.Mathlib.Omega.{arith}
-use borrow.Author.Rules.{rules}
-use lib.ListN.{length}
 use Rattle.rules.specs.declared.calls.Call.TheVariants as call
-use Rattle.image.specs.Image.{queue_in, start_of, Sound}
 use Rattle.image_step.proofs.Start.{start_after}
-use Rattle.bench.specs.Turns.{stepped_to}
-use Rattle.bench.proofs.Stepping.{none_stepped, one_stepped, all_stepped}
+use Rattle.bench.proofs.Stepping.{none_stepped, one_stepped}
 use Rattle.bench.proofs.steps.run_steps.Goals as goal
 
 -- TODO goal same-length

@@ -1,9 +1,7 @@
 use mathlib.Core.Path.{sym, ◌∙◌}
 use native.Mathlib.Omega.{arith}
-use borrow.Author.Tests.{not-true, not-false}
 use Rattle.image_check.proofs.Tests.{passes_sound}
 use Rattle.image_list.proofs.Plains.{turned_down, all_run, agreed}
-use borrow.Author.Rules.{rules}
 use Rattle.host_calls.proofs.batch.darthog_calls.Goals as goal
 
 pub returns-then-not-passes : goal.returns-then-not-passes

@@ -1,11 +1,8 @@
 use mathlib.Core.Path.{sym, ◌∙◌}
 use mathlib.Core.Bool.{or-true}
 use Rattle.record_check.specs.Making.{outside}
-use native.Mathlib.Omega.{arith}
-use Rattle.record.specs.Limits.{max_processors, max_nodes}
-use Rattle.record_check.proofs.MadeLaws.{within_range}
+use Rattle.record.specs.Limits.{max_processors}
 use Rattle.host_calls.proofs.Stored.{no_length, some_length}
-use borrow.Author.Rules.{rules}
 use Rattle.host_calls.proofs.making.darthog_image_length.Goals as goal
 
 pub returns-then-outside : goal.returns-then-outside

@@ -3,7 +3,6 @@ use native.Mathlib.Omega.{arith}
 use Rattle.record_check.specs.Making.{made}
 use Rattle.record_check.proofs.MadeLaws.{made_sizes}
 use Rattle.host_calls.proofs.Stored.{not_made_lem, not_long, made_in, some_length, outside_not}
-use borrow.Author.Rules.{rules}
 use Rattle.host_calls.proofs.making.darthog_make.Goals as goal
 
 pub returns-then-refusal-gt0 : goal.returns-then-refusal-gt0
@@ -27,8 +26,8 @@ returns-then-image-darthog_image_length c =
     let t = made_sizes p n l z in
     let k = some_length p n (outside_not p n l z).0 (outside_not p n l z).1 in
     let r =
-        not_long b p n l z
-        (λ h. c.if-image-darthog_image_length.true (h ∙ k ∙ sym c.darthog_image_length.ensures)) in
+    not_long b p n l z
+    (λ h. c.if-image-darthog_image_length.true (h ∙ k ∙ sym c.darthog_image_length.ensures)) in
     record { value = r.0; image_after = r.1 }
 
 pub make_at-requires : goal.make_at-requires
@@ -63,7 +62,7 @@ returns c =
     let t = made_sizes p n l z in
     let k = some_length p n (outside_not p n l z).0 (outside_not p n l z).1 in
     let r =
-        made_in b p n l z _
-        (c.if-image-darthog_image_length.false ∙ c.darthog_image_length.ensures ∙ sym k)
-        c.make_at.ensures.image_after in
+    made_in b p n l z _
+    (c.if-image-darthog_image_length.false ∙ c.darthog_image_length.ensures ∙ sym k)
+    c.make_at.ensures.image_after in
     record { value = r.0; image_after = r.1 }

@@ -1,7 +1,5 @@
 use mathlib.Core.Path.{sym, ◌∙◌}
 use native.Mathlib.Omega.{arith}
-use borrow.Author.Rules.{rules}
-use borrow.Author.Tests.{not-true, not-false}
 use Rattle.image_check.proofs.Tests.{passes_sound}
 use Rattle.host_calls.proofs.Stored.{not_listed, too_short, listed_all}
 use Rattle.host_calls.proofs.markers.darthog_markers.Goals as goal
@@ -9,8 +7,8 @@ use Rattle.host_calls.proofs.markers.darthog_markers.Goals as goal
 pub returns-then-not-passes : goal.returns-then-not-passes
 returns-then-not-passes c =
     let r =
-        not_listed c.args.image.now c.args.area.now _
-        (sym c.passes.ensures ∙ c.if-not-passes.true) c.refusal.ensures in
+    not_listed c.args.image.now c.args.area.now _
+    (sym c.passes.ensures ∙ c.if-not-passes.true) c.refusal.ensures in
     record { value = r.0; area_after = r.1 }
 
 pub used_count-count-requires : goal.used_count-count-requires
@@ -22,9 +20,9 @@ used_count-count-requires c =
 pub returns-then-area-count : goal.returns-then-area-count
 returns-then-area-count c =
     let r =
-        too_short c.args.image.now c.args.area.now
-        (sym c.passes.ensures ∙ c.if-not-passes.false) _ c.used_count-count.ensures.0 _
-        (omega (arith, c.if-area-count.true)) c.refusal-then-area-count.ensures in
+    too_short c.args.image.now c.args.area.now
+    (sym c.passes.ensures ∙ c.if-not-passes.false) _ c.used_count-count.ensures.0 _
+    (omega (arith, c.if-area-count.true)) c.refusal-then-area-count.ensures in
     record { value = r.0; area_after = r.1 }
 
 pub put_pairs-requires : goal.put_pairs-requires
@@ -39,7 +37,7 @@ put_pairs-requires c =
 pub returns : goal.returns
 returns c =
     let r =
-        listed_all c.args.image.now c.args.area.now
-        (sym c.passes.ensures ∙ c.if-not-passes.false) _ c.used_count-count.ensures.0 _ _
-        (omega (arith, c.if-area-count.false)) c.accepted.ensures c.put_pairs.ensures in
+    listed_all c.args.image.now c.args.area.now
+    (sym c.passes.ensures ∙ c.if-not-passes.false) _ c.used_count-count.ensures.0 _ _
+    (omega (arith, c.if-area-count.false)) c.accepted.ensures c.put_pairs.ensures in
     record { value = r.0; area_after = r.1 }

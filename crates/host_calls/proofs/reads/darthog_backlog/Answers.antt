@@ -1,9 +1,7 @@
 use mathlib.Core.Path.{sym, ◌∙◌}
 use native.Mathlib.Omega.{arith}
-use borrow.Author.Tests.{not-true, not-false}
 use Rattle.image_check.proofs.Tests.{passes_sound}
 use Rattle.host_calls.proofs.Stored.{not_counted, counted}
-use borrow.Author.Rules.{rules}
 use Rattle.host_calls.proofs.reads.darthog_backlog.Goals as goal
 
 pub returns-then-not-passes : goal.returns-then-not-passes
