@@ -69,7 +69,7 @@ enum {
     DARTHOG_BUSY = 33,           /* begin: the processor is busy */
     DARTHOG_IDLE = 34,           /* step: the processor is idle */
     DARTHOG_TOO_LARGE = 35,      /* Insert: due or item above 999,999; due: above 59,999,969 s */
-    DARTHOG_BAD_KEY = 38,        /* Remove: due is at most 999,999, a ticket 1 to 999,999 */
+    DARTHOG_BAD_KEY = 38,        /* Remove: due above 999,999 or ticket not 1 to 999,999 */
     DARTHOG_NO_ITEM = 39,        /* Insert: item 0, which is no item */
     DARTHOG_BAD_HEIGHT = 36,     /* Insert: height not 1 to the queue's levels */
     DARTHOG_NO_NODE = 37,        /* Insert: no node that may be used now; later there may be one */

@@ -29,8 +29,7 @@ pub enum Refusal {
     /// Insert: due or item above 999,999. A due minute: seconds above
     /// 59,999,969.
     TooLarge = 35,
-    /// Remove: no withdrawal can have this key, as a due minute is at most
-    /// 999,999 and a ticket 1 to 999,999.
+    /// Remove: due above 999,999, or ticket not 1 to 999,999.
     BadKey = 38,
     /// Insert: item 0, which is no item.
     NoItem = 39,
@@ -88,7 +87,7 @@ impl fmt::Display for Refusal {
             Refusal::Busy => "the processor is busy",
             Refusal::Idle => "the processor is idle",
             Refusal::TooLarge => "due or item above 999,999, or seconds above 59,999,969",
-            Refusal::BadKey => "a due minute is at most 999,999, and a ticket 1 to 999,999",
+            Refusal::BadKey => "due above 999,999 or ticket not 1 to 999,999",
             Refusal::NoItem => "item 0",
             Refusal::BadHeight => "height not 1 to the queue's levels",
             Refusal::NoNode => "no node that may be used",
