@@ -10,6 +10,8 @@ import tempfile
 from dataclasses import dataclass, field
 from pathlib import Path
 
+import renamed
+
 TOP = Path(__file__).resolve().parent.parent
 WORK = TOP / "target" / "edits"
 PARTS = ("src", "specs", "proofs")
@@ -45,6 +47,7 @@ class Edit:
 class Verdict:
     passed: bool
     words: str
+    unfit: bool = False  # nothing but that a proof file no longer fits
 
 
 def read_edit(crate, path):
@@ -113,7 +116,7 @@ class Place:
     """
 
     def __init__(self):
-        self.crate = ""
+        self.crate, self.names = "", {}
         for number in itertools.count():
             root = Path(tempfile.gettempdir()) / f"darthog-edits-{os.geteuid()}-{number}"
             root.mkdir(0o700, exist_ok=True)
@@ -150,27 +153,41 @@ class Place:
                     if (TOP / "crates" / below / part).is_dir():
                         shutil.copytree(TOP / "crates" / below / part,
                                         self.root / "crates" / below / part, copy_function=link)
-        self.crate = crate
+        self.crate, self.names = crate, {}
 
-    def check(self, crate, edits, log):
-        """Checks a copy of the crate with these edits: status and words, or why it can not be."""
+    def check(self, crate, edits, log, following=False):
+        """Checks a copy of the crate with these edits: status and words, or why it can not be.
+
+        Following them, it first gives the proof files the names that they make (renamed.py).
+        """
         if self.crate != crate:
             self.prepare(crate)
+        if following and not self.names:
+            self.copy(crate, [])
+            self.names = renamed.names_of(self.root / "crates" / crate)
+        fault = self.copy(crate, edits)
+        if fault:
+            return None, fault
+        there = self.root / "crates" / crate
+        if following and not renamed.follow(self.names, renamed.names_of(there), there / "proofs"):
+            return None, ""
+        with open(log, "w", encoding="utf-8") as out:
+            done = subprocess.run(["rt", "check", "--jobs", "1"], cwd=there, stdout=out,
+                                  stderr=subprocess.STDOUT, stdin=subprocess.DEVNULL, check=False)
+        return done.returncode, log.read_text(encoding="utf-8", errors="replace")
+
+    def copy(self, crate, edits):
+        """Lays out the crate with these edits; the reason why it can not be, or nothing."""
         own, there = TOP / "crates" / crate, self.root / "crates" / crate
         shutil.rmtree(there, ignore_errors=True)
         for part in PARTS:
             if (own / part).is_dir():
                 shutil.copytree(own / part, there / part)
         fault = next(filter(None, (apply_edit(e, there) for e in edits)), "")
-        if fault:
-            return None, fault
-        if (own / "out" / "incremental").is_dir():
+        if not fault and (own / "out" / "incremental").is_dir():
             shutil.copytree(own / "out" / "incremental", there / "out" / "incremental",
                             copy_function=link_proved)
-        with open(log, "w", encoding="utf-8") as out:
-            done = subprocess.run(["rt", "check", "--jobs", "1"], cwd=there, stdout=out,
-                                  stderr=subprocess.STDOUT, stdin=subprocess.DEVNULL, check=False)
-        return done.returncode, log.read_text(encoding="utf-8", errors="replace")
+        return fault
 
 
 def is_proved(status, said):
@@ -254,7 +271,7 @@ def judge(crate, status, said):
     if facts:
         return Verdict(True, "; ".join(r.where for r in facts[:2]))
     if misfits:
-        return Verdict(False, misfits[0][1])
+        return Verdict(False, misfits[0][1], True)
     return Verdict(False, "not proved, and no function or law is named that was refused")
 
 
