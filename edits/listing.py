@@ -99,7 +99,7 @@ def spec_items(crate, file, text):
 
 
 def imported(pattern, text):
-    """The names that a file takes from specs/: the one used here, and (crate, module, name there)."""
+    """The names that a file takes from specs/: the one here, and (crate, module, name there)."""
     names = {}
     for path, listed in pattern.findall(text):
         own = re.fullmatch(r"Rattle\.(\w+?)\.specs\.(?!declared)([\w.]+)", path)

@@ -1,8 +1,8 @@
 """What each edit can reach: which functions and lemmas of its crate it can make fail.
 
 Everything goes by words, whatever module they stand in, so that too much is reached and never too
-little: a text reaches each definition, constant, type, lemma and function of its crate whose name it
-has as a word, and what those reach. Of a function that is called only the contract is reached, since
+little: a text reaches each definition, constant, type, lemma and function of its crate whose name
+it has as a word, and what those reach. Of a function that is called only its contract is, since
 a proof knows nothing else of it.
 """
 
@@ -11,7 +11,8 @@ from collections import defaultdict
 
 import listing
 
-LEMMA = re.compile(r"^(?!use |module |mod |pub mod |--|import )(?:(?:abbrev|unfoldable|mutual|opaque) )*(?:pub )?"
+LEMMA = re.compile(r"^(?!use |module |mod |pub mod |--|import )"
+                   r"(?:(?:abbrev|unfoldable|mutual|opaque) )*(?:pub )?"
                    r"(?:record |data )?(?P<name>[^\s:(){}]+)(?= |:|$)", re.M)
 ALIAS = re.compile(r"([\w.'◌≡]+) as ([\w.'◌≡]+)")
 PARTS = re.compile(r"[^\s(){}\[\],;.:&#!λ◌|]+")
@@ -112,7 +113,7 @@ class Reach:
 
 
 def changed(files, edit):
-    """What an edit changes: bodies, contracts and definitions, or nothing where it is another thing."""
+    """What an edit changes: bodies, contracts, definitions; nothing where it is another thing."""
     nodes = set()
     for file, old, _ in edit.pairs:
         holders = [i for i in files.get((edit.crate, file), []) if old in i.text]
@@ -150,7 +151,8 @@ def groups(edits, most):
     for edit in edits:
         fits = edit.users and edit.near and not edit.fault
         for group in made if fits else ():
-            if len(group) < most and group[0].near and not group[0].fault and together([*group, edit]):
+            open_for_more = len(group) < most and group[0].near and not group[0].fault
+            if open_for_more and together([*group, edit]):
                 group.append(edit)
                 break
         else:

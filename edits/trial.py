@@ -97,7 +97,7 @@ def fault_of(edit):
 
 
 def link(one, other):
-    """Gives a file a second name, or copies it. rt and the prover replace such files, and write into none."""
+    """Gives a file a second name, or copies it: rt and the prover replace such files whole."""
     try:
         os.link(one, other)
     except OSError:
@@ -109,9 +109,9 @@ def link_proved(one, other):
 
 
 class Place:
-    """A folder beside the repository, where one check at a time is made: of a crate and those below.
+    """A folder outside, where one check at a time is made: of a crate and those below.
 
-    It lies outside, since rt ci wants every source file of the repository in a crate. Its name is the
+    It lies there since rt ci wants every source file of the repository in a crate. Its name is the
     same in each run, since rt notes the folders that checks were made in.
     """
 
@@ -140,7 +140,8 @@ class Place:
 
     def prepare(self, crate):
         """The crates below as rt check left them; they stay until another crate is asked for."""
-        lines = [l for l in (TOP / "crates.txt").read_text().splitlines() if ":" in l and l[0] != "#"]
+        lines = [l for l in (TOP / "crates.txt").read_text().splitlines()
+                 if ":" in l and l[0] != "#"]
         line = next(l for l in lines if l.split(":")[0].split()[0] == crate)
         needed = {crate, *line.split(":")[1].split()}
         shutil.rmtree(self.root / "crates", ignore_errors=True)
@@ -245,7 +246,7 @@ def refusals(crate, said):
         goal = ("goal", path)
         if goal in unfit:
             continue
-        # that it calls what is not proved may stand beside a goal of its own, and says nothing alone
+        # that it calls what is not proved may stand beside an own goal, and says nothing alone
         asked = GOAL.search(why)
         if goal in proofs or asked:
             where = proofs.pop(goal, "") or asked[0]
@@ -276,7 +277,7 @@ def judge(crate, status, said):
 
 
 def judge_own(crate, status, said, own):
-    """Whether a check of several edits refused one of the goals that this edit alone reaches; where.
+    """Where a check of several edits refused one of the goals that this edit alone reaches.
 
     What a goal needs depends on what it reaches, so that none of the others made it fail.
     """
