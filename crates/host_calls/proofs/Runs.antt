@@ -19,6 +19,7 @@ use Rattle.image_parts.proofs.Sounds.{trim_after}
 use Rattle.record.specs.declared.queues.Queue.{Queue}
 use Rattle.record.specs.Queues.{fresh_queue}
 use Rattle.rules.specs.declared.answers.Outcome.{Outcome}
+use Rattle.rules.specs.declared.calls.Call.{Call}
 use Rattle.rules.specs.Answers.{refused, is_refused}
 use Rattle.rules.specs.Calls.{called}
 use Rattle.rules.specs.Runs.{Turn, calls, backlog, markers, reply, after, after_all}
@@ -76,6 +77,12 @@ accepted_read k b h =
       ),
     )
 
+-- what a turn that calls leaves of the bytes
+turn_called :
+    (b : List ℕ) (c : Call) →
+    bytes_after_turn b (calls c) ≡ bytes_after b (on_bytes b (λ (r : Queue). called r c))
+turn_called b c = cc
+
 -- a call on the image of a record
 module _ (q : Queue) (S : Sized q) (T : Trim q) where
   on_image : (call : Queue → Outcome) → on_bytes (image_of q) call ≡ call q
@@ -113,7 +120,8 @@ module _ (q : Queue) (S : Sized q) (T : Trim q) where
       ∙ ap (area_by (pairs_to q q.nodeCount) a) (markers_image (length a))
 
   bytes_call : (c : Turn) → bytes_after_turn (image_of q) c ≡ image_of (after q c)
-  bytes_call (calls c) = called_after (λ (r : Queue). called r c) (kept_call q S c)
+  bytes_call (calls c) =
+      turn_called (image_of q) c ∙ called_after (λ (r : Queue). called r c) (kept_call q S c)
   bytes_call backlog = refl
   bytes_call (markers area) = refl
 
