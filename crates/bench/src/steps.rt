@@ -7,6 +7,7 @@ use image::header;
 use image::layout::{HEADER, PROCESSOR_BYTES};
 use image_check::passes;
 use image_step::step_from;
+use record::Refusal;
 
 // On the image of a record that passes check 21.
 fn run_steps(image: &mut [u8], who: &[u32])
@@ -16,12 +17,9 @@ fn run_steps(image: &mut [u8], who: &[u32])
         (stepped_to (queue_in image.old) who.now
         (length who.now)) }
 {
-    let end = who.len();
     let base = HEADER + PROCESSOR_BYTES * (image[header::PROCESSOR_COUNT] as usize);
-    let mut i: usize = 0;
-    while i < end {
-        step_from(image, base, who[i]);
-        i = i + 1;
+    for &p in who {
+        step_from(image, base, p);
     }
 }
 
@@ -33,7 +31,7 @@ pub extern "C" fn bench_steps(image: &mut [u8], who: &[u32]) -> u32
     ensures image_after { image.new ≡ bytes_stepped image.old who.now }
 {
     if !passes(image) {
-        return 21;
+        return Refusal::Invalid.number() as u32;
     }
     run_steps(image, who);
     0

@@ -2,21 +2,22 @@
 use mathlib.Core.Path.{◌≡◌, refl, sym, ap, ◌∙◌, subst}
 use mathlib.Core.Bool.{Bool, cond}
 use mathlib.Core.List.{List, ◌++◌}
+use Rattle.std.specs.Prelude.{Result, Ok, Err}
 use Prim.Native.Nat.{ℕ, zero, suc, ◌+◌, ◌≤◌}
 use native.Mathlib.Nat.{div-mul-le_self}
 use native.Mathlib.Omega.{arith}
 use lib.Dec.{ltb, leb, eqb}
 use lib.ListN.{length, drop, length-append}
-use Rattle.laws.proofs.Booleans.{cond_elim, cond_cases}
-use Rattle.record_check.specs.Making.{made}
-use Rattle.record.specs.Report.{Report}
-use Rattle.sheet_format.specs.declared.events.SheetOutcome.{SheetOutcome}
-use Rattle.sheet_format.specs.declared.events.SheetOutcome.TheVariants as ran
+use Rattle.laws.proofs.Booleans.{cond_elim}
+use Rattle.record.specs.declared.queues.Queue.{Queue}
+use Rattle.record.specs.declared.refusals.Refusal.{Refusal}
+use Rattle.record.specs.Refusals.{refusal_number}
+use Rattle.sheet_format.specs.declared.events.SheetRefusal.{SheetRefusal}
 use Rattle.sheet_format.specs.Lines.{line_of, part_at, line_in_form, line_count}
 use Rattle.sheet_format.specs.Lines.{right_letter, first_failing, first_out_of_form, first_misplaced}
 use Rattle.sheet_format.specs.Program.{refusal_text, printed_of, text_of}
-use Rattle.sheet_format.specs.Sheets.{history, history_of, ran_of, ran_sheet, area_written, area_after}
-use Rattle.sheet_format.proofs.Reports.{refused_ran}
+use Rattle.sheet_format.specs.Sheets.{history, history_of, made_by, queue_made, ran_made, ran_sheet}
+use Rattle.sheet_format.specs.Sheets.{area_written, area_after}
 
 -- a line that is told is a line of the sheet
 failing_within : (f : ℕ → Bool) (n : ℕ) → first_failing f n ≤ n
@@ -43,31 +44,32 @@ module _ (s : List ℕ) (short : length s ≤ 65536) where
       cond_elim (λ (x : ℕ). x ≤ 2185) (eqb (line_count s) 0) 1 k (omega arith) (omega (arith, h, lines_few))
 
   -- the line is low, or the length is the history's
-  abbrev Told : SheetOutcome → Type 0
-  Told (ran.Refused n line) = line ≤ 2185
-  Told (ran.Length n) = n ≡ length (history_of s (line_of (part_at s 1)))
+  abbrev Told : Result ℕ SheetRefusal → Type 0
+  Told (Err e) = e.line ≤ 2185
+  Told (Ok n) = n ≡ length (history_of s (line_of (part_at s 1)))
 
-  abbrev ToldOf : Report → Type 0
-  ToldOf o = Told (ran_of o)
+  made_told :
+      (room : ℕ) (m : Result Queue Refusal) → made_by (line_of (part_at s 1)) ≡ m
+      → Told (ran_made s room m)
+  made_told room (Ok q) e =
+      cond_elim Told (ltb room (length (history s q))) _ _ (omega arith)
+      (ap (λ (m : Result Queue Refusal). length (history s (queue_made m))) (sym e))
+  made_told room (Err r) e = omega arith
 
   pub ran_told : (room : ℕ) → Told (ran_sheet s room)
   ran_told room =
-      let l = line_of (part_at s 1) in
-      let m = made l.first l.second l.third in
-      cond_elim ToldOf (ltb 0 (first_out_of_form s)) _ _ out_of_form_low
-      (cond_elim ToldOf (ltb 0 (first_misplaced s)) _ _ misplaced_low
-      (cond_cases ToldOf (eqb m.refusal 0) _ _
-      (λ _. cond_elim ToldOf (ltb room (length (history s m.queue))) _ _ (omega arith) refl)
-      (λ t. subst Told (refused_ran m.refusal 1 t) (omega arith))))
+      cond_elim Told (ltb 0 (first_out_of_form s)) _ _ out_of_form_low
+      (cond_elim Told (ltb 0 (first_misplaced s)) _ _ misplaced_low
+      (made_told room (made_by (line_of (part_at s 1))) refl))
 
 -- a sheet that ran in an area of 64 KiB: the outcome, and the area after
-pub record Run (s area after : List ℕ) (r : SheetOutcome) : Type 0 where
+pub record Run (s area after : List ℕ) (r : Result ℕ SheetRefusal) : Type 0 where
   pub short : length s ≤ 65536
   pub size : length area ≡ 65536
   pub outcome : r ≡ ran_sheet s (length area)
   pub written : after ≡ area_after s area
 
-module _ (s area after : List ℕ) (r : SheetOutcome) (run : Run s area after r) where
+module _ (s area after : List ℕ) (r : Result ℕ SheetRefusal) (run : Run s area after r) where
   abbrev history_is : List ℕ
   history_is = history_of s (line_of (part_at s 1))
 
@@ -80,18 +82,18 @@ module _ (s area after : List ℕ) (r : SheetOutcome) (run : Run s area after r)
   told : Told s run.short r
   told = subst (Told s run.short) (sym run.outcome) (ran_told s run.short (length area))
 
-  module _ (n line : ℕ) (e : r ≡ ran.Refused n line) where
+  module _ (f : SheetRefusal) (e : r ≡ Err f) where
     -- a refusal leaves the area as it was
     pub area_kept : after ≡ area
     area_kept = after_run ∙ ap (area_written history_is area) e
 
-    pub refusal_printed : refusal_text n line ≡ text_of s
+    pub refusal_printed : refusal_text (refusal_number f.refusal) f.line ≡ text_of s
     refusal_printed = sym (ap (printed_of history_is) e) ∙ prints
 
-    pub line_low : line ≤ 2185
+    pub line_low : f.line ≤ 2185
     line_low = subst (Told s run.short) e told
 
-  module _ (n : ℕ) (e : r ≡ ran.Length n) where
+  module _ (n : ℕ) (e : r ≡ Ok n) where
     history_printed : history_is ≡ text_of s
     history_printed = sym (ap (printed_of history_is) e) ∙ prints
 

@@ -1,13 +1,14 @@
 -- Laws of a number's digits and of a refusal's text, stored in turn. Assumes nothing.
-use mathlib.Core.Path.{◌≡◌, sym, ap, ◌∙◌}
-use mathlib.Core.Bool.{Bool, true, false, cond}
-use mathlib.Core.List.{List, [], ◌∷◌, ◌++◌}
-use Prim.Native.Nat.{ℕ, suc, ◌+◌, ◌-◌, ◌≤◌, ◌<◌}
+use mathlib.Core.Path.{◌≡◌, refl, sym, ap, ◌∙◌}
+use mathlib.Core.Bool.{true, false}
+use mathlib.Core.List.{List, [], ◌∷◌, ◌++◌, append_assoc}
+use Prim.Native.Nat.{ℕ, zero, suc, ◌+◌, ◌-◌, ◌≤◌, ◌<◌}
 use native.Mathlib.Numerals.{add-one}
 use native.Mathlib.Omega.{arith}
 use lib.Dec.{eqb}
 use lib.ListN.{length, take, drop, get_or, set, length-append, length-drop}
-use lib.Seq.{sets, sets-eq, take_all, drop-cons, drop-length}
+use lib.Seq.{sets, sets-eq, take_all, drop-drop}
+use borrow.Rule.Slice.PartMut.{put_mid}
 use borrow.Author.Tests.{eq-eqb, ne_eqb}
 use Rattle.laws.proofs.Booleans.{cond_elim}
 use Rattle.sheet_format.specs.Columns.{columns, trimmed, decimal}
@@ -16,36 +17,20 @@ use Rattle.sheet_format.specs.Program.{refusal_text}
 use Rattle.sheet_format.proofs.Padding.{length_columns}
 use Rattle.sheet_format.proofs.Stores.{sets_append}
 
--- nothing is left at the end
-pub none_left : (s : List ℕ) (k : ℕ) → k ≡ length s → drop k s ≡ []
-none_left s k e = ap (λ (n : ℕ). drop n s) e ∙ drop-length s
-
-module _ (s : List ℕ) (k : ℕ) (h : k < length s) where
-  -- what is left of the trimmed list at k, if a space stands there or if not
-  abbrev left_by : Bool → List ℕ
-  left_by t = cond t (trimmed (drop (suc k) s)) (get_or s k 0 ∷ drop (suc k) s)
-
-  left_is : (t : Bool) → eqb (get_or s k 0) space ≡ t → trimmed (drop k s) ≡ left_by t
-  left_is t e = ap trimmed (drop-cons s k 0 h) ∙ ap left_by e
-
-  pub space_more : get_or s k 0 ≡ space → trimmed (drop (k + 1) s) ≡ trimmed (drop k s)
-  space_more e =
-      ap (λ (n : ℕ). trimmed (drop n s)) (add-one k)
-      ∙ sym (left_is true (eq-eqb (get_or s k 0) space e))
-
-  pub digit_first : (get_or s k 0 ≡ space → ⊥) → drop k s ≡ trimmed (drop k s)
-  digit_first e = drop-cons s k 0 h ∙ sym (left_is false (ne_eqb (get_or s k 0) space e))
-
-  -- one more byte stored
-  pub byte_more : (area : List ℕ) (at : ℕ)
-      → sets (set area (at + k) (get_or s k 0)) (at + (k + 1)) (drop (k + 1) s)
-      ≡ sets area (at + k) (drop k s)
-  byte_more area at =
-      let e : at + (k + 1) ≡ suc (at + k) = omega arith in
-      let l = set area (at + k) (get_or s k 0) in
-      ap (λ (n : ℕ). sets l n (drop (k + 1) s)) e
-      ∙ ap (λ (n : ℕ). sets l (suc (at + k)) (drop n s)) (add-one k)
-      ∙ sym (ap (sets area (at + k)) (drop-cons s k 0 h))
+-- behind the spaces before it a number stands whole
+pub trimmed_at :
+    (s : List ℕ) (n : ℕ) → n ≤ length s → ((k : ℕ) → k < n → get_or s k 0 ≡ space)
+    → (n < length s → get_or s n 0 ≡ space → ⊥) → drop n s ≡ trimmed s
+trimmed_at [] zero h before found = refl
+trimmed_at [] (suc n) h before found = absurd (omega arith)
+trimmed_at (c ∷ cs) zero h before found =
+    let e : eqb c space ≡ false = ne_eqb c space (found (omega arith)) in
+    rw e refl
+trimmed_at (c ∷ cs) (suc n) h before found =
+    let e : eqb c space ≡ true = eq-eqb c space (before 0 (omega arith)) in
+    let r : drop n cs ≡ trimmed cs =
+    trimmed_at cs n (omega arith) (λ k l. before (suc k) (omega arith)) (λ l. found (omega arith)) in
+    rw e r
 
 pub length_trimmed : (s : List ℕ) → length (trimmed s) ≤ length s
 length_trimmed [] = omega arith
@@ -64,6 +49,17 @@ pub digits_of :
 digits_of s n k e t =
     let l : length s ≡ 7 = ap length e ∙ length_columns n in
     take_all (7 - k) (drop k s) (omega (arith, length-drop k s)) ∙ t ∙ ap trimmed e
+
+-- and what they hold, written into the area in one piece
+pub digits_written :
+    (area d : List ℕ) (at k : ℕ) (b : List ℕ) → b ≡ d → k ≡ length d → at + length d ≤ length area
+    → put_mid at k area b ≡ sets area at d
+digits_written area d at k b e n h =
+    ap (λ (x : List ℕ). take at area ++ (x ++ drop k (drop at area))) e
+    ∙ ap (λ (i : ℕ). take at area ++ (d ++ drop i (drop at area))) n
+    ∙ ap (λ (x : List ℕ). take at area ++ (d ++ x)) (drop-drop (length d) at area)
+    ∙ sym (append_assoc (take at area) d (drop (at + length d) area))
+    ∙ sym (sets-eq d area at h)
 
 -- a refusal's text
 length_text :

@@ -12,6 +12,7 @@ use crate::reading::read_full;
 use std::io;
 
 fn main(rt: HostRuntime) -> io::Result<()> {
+    // fixed memory: no heap
     let mut sheet = [0; 65536];
     let n = read_full(&mut rt.reader(), &mut sheet)?;
     let mut area = [0; 65536];

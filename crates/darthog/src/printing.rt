@@ -4,7 +4,6 @@ ghost use Rattle.sheet_format.specs.Program.{refusal_text, text_of, program_prin
 ghost use Rattle.laws.specs.Front.{at_front};
 
 use crate::decimals::decimal_into;
-use sheet_format::SheetOutcome;
 use sheet_format::letters::{LINE_FEED, SPACE};
 use sheet_run::run_sheet;
 
@@ -31,8 +30,8 @@ fn print_sheet(sheet: &[u8], area: &mut [u8]) -> usize
     ensures area_after { area.new ≡ at_front (text_of sheet.now) area.old }
 {
     match run_sheet(sheet, area) {
-        SheetOutcome::Refused(number, line) => print_refusal(area, number as u32, line as u32),
-        SheetOutcome::Length(bytes) => bytes,
+        Ok(bytes) => bytes,
+        Err(e) => print_refusal(area, e.refusal.number() as u32, e.line as u32),
     }
 }
 
@@ -41,9 +40,5 @@ pub fn print_run(sheet: &[u8], area: &mut [u8; 65536]) -> usize
     ensures value { result ≡ length (program_prints sheet.now) }
     ensures area_after { area.new ≡ at_front (program_prints sheet.now) area.old }
 {
-    if sheet.len() <= LENT {
-        return print_sheet(sheet, area);
-    }
-    let part = &sheet[..LENT];
-    print_sheet(part, area)
+    print_sheet(&sheet[..LENT.min(sheet.len())], area)
 }

@@ -8,7 +8,8 @@ use std::io::Read;
 pub(crate) fn read_full<R: Read>(reader: &mut R, buffer: &mut [u8]) -> io::Result<usize>
     ensures { IfOk result (λ n. n ≤ length buffer.new) }
 {
-    let mut done: usize = 0;
+    let mut done = 0;
+    // a read puts as many bytes as it has
     while done < buffer.len() {
         let n = reader.read(&mut buffer[done..])?;
         if n == 0 {

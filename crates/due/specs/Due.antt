@@ -1,11 +1,12 @@
 -- A due minute from a count of seconds (02, W8): the minute nearest to it, half a minute to the
 -- even one; 35 past `max_seconds`. `Nearest` is what has to be believed; `nearest_minute` computes
 -- it, and proofs/Nearest proves what `OneNearest` and `TakenIfDue` state.
-use Rattle.std.specs.Prelude.{ℕ, ◌+◌, ◌-◌, ◌*◌, ◌/◌, ◌%◌, ◌≤◌, ◌<◌, ◌≡◌, cond, [], ◌∷◌, ltb}
-use Rattle.due.specs.declared.seconds.Minutes.{Minutes}
-use Rattle.due.specs.declared.seconds.Minutes.TheVariants as minutes
+use Rattle.std.specs.Prelude.{ℕ, ◌+◌, ◌-◌, ◌*◌, ◌/◌, ◌%◌, ◌≤◌, ◌<◌, ◌≡◌, cond, [], ◌∷◌, ltb, Result, Ok, Err}
 use Rattle.record.specs.Limits.{max_number}
+use Rattle.record.specs.Refusals.{refusal_number}
 use Rattle.record.specs.Report.{Report, report}
+use Rattle.record.specs.declared.refusals.Refusal.{Refusal}
+use Rattle.record.specs.declared.refusals.Refusal.TheVariants as refusal
 
 -- the greatest count of seconds that becomes a due minute (02, W8)
 abbrev pub max_seconds : ℕ
@@ -30,13 +31,13 @@ nearest_minute s =
     (cond (ltb 30 (s % 60)) (s / 60 + 1)
     (s / 60 + s / 60 % 2))
 
-abbrev pub due_from_seconds : ℕ → Minutes
-due_from_seconds s = cond (ltb max_seconds s) (minutes.Refused 35) (minutes.Due (nearest_minute s))
+abbrev pub due_from_seconds : ℕ → Result ℕ Refusal
+due_from_seconds s = cond (ltb max_seconds s) (Err refusal.TooLarge) (Ok (nearest_minute s))
 
 -- what an answer says of the seconds
-abbrev pub Meant : ℕ → Minutes → Type 0
-Meant s (minutes.Refused n) = (max_seconds < s) × (n ≡ 35)
-Meant s (minutes.Due m) = (s ≤ max_seconds) × Nearest s m
+abbrev pub Meant : ℕ → Result ℕ Refusal → Type 0
+Meant s (Err r) = (max_seconds < s) × (r ≡ refusal.TooLarge)
+Meant s (Ok m) = (s ≤ max_seconds) × Nearest s m
 
 -- every count has one nearest minute, and that is the computed one
 abbrev pub OneNearest : Type 0
@@ -48,6 +49,6 @@ TakenIfDue =
     (s m : ℕ) → Nearest s m → (s ≤ max_seconds → m ≤ max_number) × (m ≤ max_number → s ≤ max_seconds)
 
 -- each answer in document 01's numbers: 0 and the minute, or the number of the refusal
-abbrev pub reported_minutes : Minutes → Report
-reported_minutes (minutes.Refused n) = report n []
-reported_minutes (minutes.Due m) = report 0 (m ∷ [])
+abbrev pub reported_minutes : Result ℕ Refusal → Report
+reported_minutes (Err r) = report (refusal_number r) []
+reported_minutes (Ok m) = report 0 (m ∷ [])

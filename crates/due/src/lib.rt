@@ -3,4 +3,4 @@
 
 pub mod seconds;
 
-pub use seconds::{Minutes, due_from_seconds};
+pub use seconds::due_from_seconds;

@@ -3,16 +3,11 @@ ghost use Rattle.std.specs.Prelude.{◌≡◌, ◌+◌, ◌<◌};
 ghost use Rattle.due.specs.Due.{Nearest, nearest_minute, due_from_seconds, Meant};
 ghost use Rattle.due.specs.Due.{reported_minutes};
 
+use record::Refusal;
+
 // A count of seconds that becomes a due minute is at most this (02, W8): `max_seconds` of
 // specs/Due.antt.
 const SECONDS: u64 = 59999969;
-
-// A due minute, or refusal 35.
-#[derive(Clone, Copy)]
-pub enum Minutes {
-    Refused(u8),
-    Due(u32),
-}
 
 // The minute nearest to a count of seconds. What is left over goes to the minute below if it is
 // less than half a minute, and exactly half a minute does if that minute is even.
@@ -22,20 +17,21 @@ fn nearest_minute(seconds: u64) -> u64
 {
     let below = seconds / 60;
     if seconds % 60 + below % 2 <= 30 {
-        return below;
+        below
+    } else {
+        below + 1
     }
-    below + 1
 }
 
 // The minute nearest to a count of seconds, half a minute to the even one; 35 above 59,999,969
 // seconds.
-pub fn due_from_seconds(seconds: u64) -> Minutes
+pub fn due_from_seconds(seconds: u64) -> Result<u32, Refusal>
     ensures value { result ≡ due_from_seconds seconds }
     ensures nearest { Meant seconds result }
     ensures numbers { reported_minutes result ≡ reported_minutes (due_from_seconds seconds) }
 {
     if SECONDS < seconds {
-        return Minutes::Refused(35);
+        return Err(Refusal::TooLarge);
     }
-    Minutes::Due(nearest_minute(seconds) as u32)
+    Ok(nearest_minute(seconds) as u32)
 }

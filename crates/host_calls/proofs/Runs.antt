@@ -2,11 +2,12 @@
 use mathlib.Core.Path.{◌≡◌, refl, sym, ap, ◌∙◌}
 use mathlib.Core.Bool.{Bool, true, false, cond, true≢false}
 use mathlib.Core.List.{List, [], ◌∷◌}
+use Rattle.std.specs.Prelude.{Result}
 use Prim.Native.Nat.{ℕ}
 use lib.ListN.{length}
-use Rattle.record_check.specs.declared.counting.Count.{Count}
+use Rattle.record.specs.declared.refusals.Refusal.{Refusal}
+use Rattle.record.specs.declared.refusals.Refusal.TheVariants as refusal
 use Rattle.record_check.specs.Backlog.{backlog_of, reported_count}
-use Rattle.record_markers.specs.declared.listing.Listed.{Listed}
 use Rattle.record_markers.specs.Markers.{pairs_to, markers_of, area_by, area_after, reported_markers}
 use Rattle.image.specs.Image.{image_of, queue_in, is_image}
 use Rattle.image.specs.OneToOne.{Sized, Trim}
@@ -51,9 +52,9 @@ unfolding on_bytes
 taken b call h = go (is_image b) refl h
   where
     go : (t : Bool) → is_image b ≡ t →
-        is_refused (cond t (call (queue_in b)) (refused (queue_in b) 21)).answer ≡ false →
+        is_refused (cond t (call (queue_in b)) (refused (queue_in b) refusal.Invalid)).answer ≡ false →
         (is_image b ≡ true) ×
-        (cond (is_image b) (call (queue_in b)) (refused (queue_in b) 21) ≡ call (queue_in b))
+        (cond (is_image b) (call (queue_in b)) (refused (queue_in b) refusal.Invalid) ≡ call (queue_in b))
     go true e k = (e, rw e refl)
     go false e k = absurd (true≢false k)
 
@@ -115,9 +116,9 @@ module _ (q : Queue) (S : Sized q) (T : Trim q) where
   area_image : (a : List ℕ) → area_on (image_of q) a ≡ area_after q a
   unfolding area_on
   area_image a =
-      ap (λ (r : Queue). area_by (pairs_to r r.nodeCount) a (markers_on (image_of q) (length a)))
+      ap (λ (r : Queue). area_by (pairs_to r r.node_count) a (markers_on (image_of q) (length a)))
       (read_write q S T)
-      ∙ ap (area_by (pairs_to q q.nodeCount) a) (markers_image (length a))
+      ∙ ap (area_by (pairs_to q q.node_count) a) (markers_image (length a))
 
   bytes_call : (c : Turn) → bytes_after_turn (image_of q) c ≡ image_of (after q c)
   bytes_call (calls c) =
@@ -127,9 +128,9 @@ module _ (q : Queue) (S : Sized q) (T : Trim q) where
 
   reply_call : (c : Turn) → plain_turn (image_of q) c ≡ in_numbers (reply q c)
   reply_call (calls c) = ap plain_outcome (on_image (λ (r : Queue). called r c))
-  reply_call backlog = ap (λ (k : Count). plain_report (reported_count k)) count_image
+  reply_call backlog = ap (λ (k : Result ℕ Refusal). plain_report (reported_count k)) count_image
   reply_call (markers area) =
-      ap (λ (k : Listed). plain_report (reported_markers k)) (markers_image (length area))
+      ap (λ (k : Result ℕ Refusal). plain_report (reported_markers k)) (markers_image (length area))
 
 -- after a list of calls
 bytes_all :

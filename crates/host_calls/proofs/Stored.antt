@@ -3,6 +3,8 @@
 use mathlib.Core.Path.{◌≡◌, refl, sym, ap, subst, ◌∙◌}
 use mathlib.Core.Bool.{Bool, true, false, cond, ◌&&◌, ◌||◌, true≢false}
 use mathlib.Core.List.{List, [], ◌∷◌}
+use Rattle.std.specs.Prelude.{Some, None, Result, Ok, Err}
+use Rattle.std.specs.Result.{result_err}
 use Prim.Native.Nat.{ℕ, ◌*◌, ◌≤◌, ◌<◌}
 use native.Mathlib.Omega.{arith}
 use lib.ListN.{length, get_or}
@@ -11,11 +13,12 @@ use borrow.Author.Tests.{eq-eqb, ne_eqb, le-ltb, lt-ltb}
 use Rattle.laws.specs.Front.{at_front}
 use Rattle.laws.specs.HowMany.{how_many}
 use Rattle.laws.proofs.Counting.{and_left, and_right}
-use Rattle.record_check.specs.declared.counting.Count.TheVariants as count
+use Rattle.record.specs.declared.refusals.Refusal.{Refusal}
+use Rattle.record.specs.declared.refusals.Refusal.TheVariants as refusal
+use Rattle.record.specs.Refusals.{refusal_number}
+use Rattle.due.specs.Due.{reported_minutes}
 use Rattle.record_check.specs.Backlog.{pending_at, reported_count}
 use Rattle.record_check.specs.Check.{valid}
-use Rattle.record_markers.specs.declared.listing.Listed.{Listed}
-use Rattle.record_markers.specs.declared.listing.Listed.TheVariants as listed
 use Rattle.record_markers.specs.Markers.{pairs_to, used_count, area_by, reported_markers}
 use Rattle.record_check.specs.Making.{outside, made}
 use Rattle.record_check.proofs.MadeLaws.{made_sizes, made_fresh}
@@ -49,27 +52,27 @@ use Rattle.host_calls.specs.Entries.{
 
 -- a call on any bytes: by its inner form where they pass, and refused with 21 where not
 module _ (b : List ℕ) (inner : Queue → Outcome) where
-  pub passing : passes_of b ≡ true → on_bytes b (λ q. cond (valid q) (inner q) (refused q 21)) ≡ inner (queue_in b)
+  pub passing : passes_of b ≡ true → on_bytes b (λ q. cond (valid q) (inner q) (refused q refusal.Invalid)) ≡ inner (queue_in b)
   unfolding on_bytes passes_of
   passing h =
       rw (and_left (is_image b) (valid (queue_in b)) h, and_right (is_image b) (valid (queue_in b)) h)
       refl
 
   pub failing :
-      passes_of b ≡ false → on_bytes b (λ q. cond (valid q) (inner q) (refused q 21)) ≡ refused (queue_in b) 21
+      passes_of b ≡ false → on_bytes b (λ q. cond (valid q) (inner q) (refused q refusal.Invalid)) ≡ refused (queue_in b) refusal.Invalid
   unfolding on_bytes passes_of
   failing h = go (is_image b) (valid (queue_in b)) h
     where
       go : (x y : Bool) → (x && y) ≡ false →
-          cond x (cond y (inner (queue_in b)) (refused (queue_in b) 21)) (refused (queue_in b) 21)
-          ≡ refused (queue_in b) 21
+          cond x (cond y (inner (queue_in b)) (refused (queue_in b) refusal.Invalid)) (refused (queue_in b) refusal.Invalid)
+          ≡ refused (queue_in b) refusal.Invalid
       go true true k = absurd (true≢false k)
       go true false k = refl
       go false y k = refl
 
   pub turned_down :
       (r : PlainAnswer) → passes_of b ≡ false → r ≡ plain_report (report 21 []) →
-      let o = on_bytes b (λ q. cond (valid q) (inner q) (refused q 21)) in
+      let o = on_bytes b (λ q. cond (valid q) (inner q) (refused q refusal.Invalid)) in
       (r ≡ plain_outcome o) × (b ≡ bytes_after b o)
   unfolding bytes_after
   turned_down r h e =
@@ -82,7 +85,7 @@ module _ (b : List ℕ) (inner : Queue → Outcome) where
       (after : List ℕ) (a : Answer) (r : PlainAnswer) → passes_of b ≡ true → Sound b →
       Kept (queue_in b) (inner (queue_in b)) → Gives (inner (queue_in b)) after a →
       r ≡ plain_of a →
-      let o = on_bytes b (λ q. cond (valid q) (inner q) (refused q 21)) in
+      let o = on_bytes b (λ q. cond (valid q) (inner q) (refused q refusal.Invalid)) in
       (r ≡ plain_outcome o) × (after ≡ bytes_after b o)
   unfolding bytes_after
   carried_out after a r h s k g e =
@@ -110,8 +113,8 @@ module _ (b : List ℕ) (r : PlainAnswer) where
           ≡ plain_report
           (reported_count
           (cond x
-          (cond y (count.Pending (how_many (pending_at (queue_in b)) (queue_in b).nodeCount))
-          (count.Refused 21)) (count.Refused 21)))
+          (cond y (Ok (how_many (pending_at (queue_in b)) (queue_in b).node_count))
+          (Err refusal.Invalid)) (Err refusal.Invalid)))
       go true true k = absurd (true≢false k)
       go true false k = refl
       go false y k = refl
@@ -131,15 +134,15 @@ module _ (b : List ℕ) (r : PlainAnswer) where
 -- markers: what is told of an answer, and the answers in their order
 module _ (b area : List ℕ) where
   abbrev pairs : List ℕ
-  pairs = pairs_to (queue_in b) (queue_in b).nodeCount
+  pairs = pairs_to (queue_in b) (queue_in b).node_count
 
   told :
-      (k : Listed) (r : PlainAnswer) (after : List ℕ) → markers_on b (length area) ≡ k →
+      (k : Result ℕ Refusal) (r : PlainAnswer) (after : List ℕ) → markers_on b (length area) ≡ k →
       r ≡ plain_report (reported_markers k) → after ≡ area_by pairs area k →
       (r ≡ plain_report (reported_markers (markers_on b (length area)))) × (after ≡ area_on b area)
   unfolding area_on
   told k r after e f g = (
-    f ∙ ap (λ (m : Listed). plain_report (reported_markers m)) (sym e),
+    f ∙ ap (λ (m : Result ℕ Refusal). plain_report (reported_markers m)) (sym e),
     g ∙ ap (area_by pairs area) (sym e),
   )
 
@@ -147,15 +150,15 @@ module _ (b area : List ℕ) where
       (r : PlainAnswer) → passes_of b ≡ false → r ≡ plain_report (report 21 []) →
       (r ≡ plain_report (reported_markers (markers_on b (length area)))) × (area ≡ area_on b area)
   unfolding markers_on passes_of
-  not_listed r h e = told (listed.Refused 21) r area (go (is_image b) (valid (queue_in b)) h) e refl
+  not_listed r h e = told (Err refusal.Invalid) r area (go (is_image b) (valid (queue_in b)) h) e refl
     where
       go : (x y : Bool) → (x && y) ≡ false →
           cond x
           (cond y
-          (cond (ltb (length area) (2 * used_count (queue_in b))) (listed.Refused 43)
-          (listed.Nodes (used_count (queue_in b))))
-          (listed.Refused 21)) (listed.Refused 21)
-          ≡ listed.Refused 21
+          (cond (ltb (length area) (2 * used_count (queue_in b))) (Err refusal.Room)
+          (Ok (used_count (queue_in b))))
+          (Err refusal.Invalid)) (Err refusal.Invalid)
+          ≡ Err refusal.Invalid
       go true true k = absurd (true≢false k)
       go true false k = refl
       go false y k = refl
@@ -166,7 +169,7 @@ module _ (b area : List ℕ) where
         (r ≡ plain_report (reported_markers (markers_on b (length area)))) × (area ≡ area_on b area)
     unfolding markers_on passes_of
     too_short r l f =
-        told (listed.Refused 43) r area
+        told (Err refusal.Room) r area
         (rw (
           and_left (is_image b) (valid (queue_in b)) h,
           and_right (is_image b) (valid (queue_in b)) h,
@@ -179,7 +182,7 @@ module _ (b area : List ℕ) where
         (r ≡ plain_report (reported_markers (markers_on b (length area)))) × (after ≡ area_on b area)
     unfolding markers_on passes_of
     listed_all r after l f g =
-        told (listed.Nodes (used_count (queue_in b))) r after
+        told (Ok (used_count (queue_in b))) r after
         (rw (
           and_left (is_image b) (valid (queue_in b)) h,
           and_right (is_image b) (valid (queue_in b)) h,
@@ -201,15 +204,21 @@ module _ (p n : ℕ) where
 -- making
 module _ (b : List ℕ) (p n l : ℕ) where
   pub not_made_lem :
-      0 < (made p n l).refusal →
-      ((made p n l).refusal ≡ make_code b (made p n l)) × (b ≡ bytes_made b (made p n l))
+      (r : Refusal) → Some r ≡ result_err (made p n l) →
+      (refusal_number r ≡ make_code b (made p n l)) × (b ≡ bytes_made b (made p n l))
   unfolding make_code bytes_made
-  not_made_lem h =
-      let ne : ((made p n l).refusal ≡ 0 → ⊥) = λ z. omega arith in
-      let k = ne_eqb (made p n l).refusal 0 ne in
-      (rw k refl, rw (k, k) refl)
+  not_made_lem r h = go (made p n l) h
+    where
+      go :
+          (m : Result Queue Refusal) → Some r ≡ result_err m →
+          (refusal_number r ≡ make_code b m) × (b ≡ bytes_made b m)
+      go (Ok q) e = absurd (some_none e)
+        where
+          some_none : Some r ≡ None → ⊥
+          some_none f = cc
+      go (Err x) e = let f : r ≡ x = cc in (ap refusal_number f, refl)
 
-  module _ (z : (made p n l).refusal ≡ 0) where
+  module _ (z : result_err (made p n l) ≡ None) where
     pub not_long :
         (length b ≡ image_length p n → ⊥) →
         (21 ≡ make_code b (made p n l)) × (b ≡ bytes_made b (made p n l))
@@ -224,6 +233,11 @@ module _ (b : List ℕ) (p n l : ℕ) where
     made_in after h e = let k = eq-eqb (length b) (image_length p n) h in
         (rw (made_fresh p n l z, k) refl, rw (made_fresh p n l z, k) e)
 
+-- Backlog and a due minute are told alike
+pub told_alike : (r : Result ℕ Refusal) → reported_count r ≡ reported_minutes r
+told_alike (Ok n) = refl
+told_alike (Err r) = refl
+
 -- the inner form keeps what a call keeps
 pub call_keeps : (b : List ℕ) → Sound b → (c : Call) → Kept (queue_in b) (called_valid (queue_in b) c)
 call_keeps b s c =
@@ -232,7 +246,7 @@ call_keeps b s c =
 
 -- sizes that are not refused
 pub outside_not :
-    (p n l : ℕ) → (made p n l).refusal ≡ 0 →
+    (p n l : ℕ) → result_err (made p n l) ≡ None →
     (outside p max_processors ≡ false) × (outside n max_nodes ≡ false)
 outside_not p n l z =
     let t = made_sizes p n l z in (

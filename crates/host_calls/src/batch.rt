@@ -4,6 +4,7 @@ ghost use Rattle.image_list.specs.InPlace.{list_code, bytes_after_list, answers_
 
 use image_check::passes;
 use image_list::runs::run_calls;
+use record::Refusal;
 
 // Five numbers for each call and for each answer (image_list/specs/Plain); it stops at the end of
 // either list. 21, and nothing is changed, where the bytes are not the image of a record that
@@ -18,7 +19,7 @@ pub extern "C" fn darthog_calls(image: &mut [u8], calls: &[u32], answers: &mut [
     ensures list_agrees { ListAgrees image.old calls.now answers.old }
 {
     if !passes(image) {
-        return 21;
+        return Refusal::Invalid.number() as u32;
     }
     run_calls(image, calls, answers);
     0

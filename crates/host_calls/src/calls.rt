@@ -6,9 +6,10 @@ ghost use Rattle.rules.specs.Calls.{called, begin_insert, begin_delete_min, begi
 ghost use Rattle.rules.specs.Calls.{begin_remove, step as step_of};
 ghost use Rattle.host_calls.specs.Entries.{plain_outcome, on_bytes, bytes_after};
 
-use crate::replies::refusal;
+use crate::replies::reply;
 use image_call::call_at;
 use image_check::passes;
+use record::Refusal;
 use rules::answers::plain;
 use rules::{Call, PlainAnswer};
 
@@ -19,10 +20,9 @@ fn call_on(image: &mut [u8], c: Call) -> PlainAnswer
         ≡ bytes_after image.old (on_bytes image.old (λ q. called q c)) }
 {
     if !passes(image) {
-        return refusal(21);
+        return reply(Err(Refusal::Invalid));
     }
-    let a = call_at(image, c);
-    plain(a)
+    plain(call_at(image, c))
 }
 
 // The begin of an Insert by a processor.

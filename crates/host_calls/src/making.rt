@@ -5,6 +5,7 @@ ghost use Rattle.host_calls.specs.Entries.{length_for, make_code, bytes_made};
 
 use image::layout::image_length;
 use image_make::make_at;
+use record::Refusal;
 use record::limits::{MAX_NODES, MAX_PROCESSORS};
 use record_check::{making_refusal, outside};
 
@@ -31,12 +32,11 @@ pub extern "C" fn darthog_make(image: &mut [u8], processors: u32, entries: u32, 
     ensures value { result ≡ make_code image.old (made processors entries levels) }
     ensures image_after { image.new ≡ bytes_made image.old (made processors entries levels) }
 {
-    let refusal = making_refusal(processors, entries, levels);
-    if 0 < refusal {
-        return refusal as u32;
+    if let Some(refusal) = making_refusal(processors, entries, levels) {
+        return refusal.number() as u32;
     }
     if image.len() != darthog_image_length(processors, entries) {
-        return 21;
+        return Refusal::Invalid.number() as u32;
     }
     make_at(image, processors as u8, entries as u8, levels as u8);
     0

@@ -4,9 +4,10 @@ ghost use Rattle.record_markers.specs.Markers.{reported_markers};
 ghost use Rattle.rules.specs.Answers.{plain_report};
 ghost use Rattle.host_calls.specs.Entries.{markers_on, area_on};
 
-use crate::replies::{accepted, refusal};
+use crate::replies::reply;
 use image_check::passes;
 use image_markers::{put_pairs, used_count};
+use record::Refusal;
 use rules::PlainAnswer;
 
 // The area's front gets two bytes for each node in use, its number and its marker or 255; 0
@@ -19,12 +20,12 @@ pub extern "C" fn darthog_markers(image: &[u8], area: &mut [u8]) -> PlainAnswer
     ensures area_after { area.new ≡ area_on image.now area.old }
 {
     if !passes(image) {
-        return refusal(21);
+        return reply(Err(Refusal::Invalid));
     }
     let count = used_count(image);
     if area.len() < 2 * (count as usize) {
-        return refusal(43);
+        return reply(Err(Refusal::Room));
     }
     put_pairs(image, area);
-    accepted(count as u32)
+    reply(Ok(count as u32))
 }

@@ -5,9 +5,10 @@ ghost use Rattle.due.specs.Due.{due_from_seconds, reported_minutes};
 ghost use Rattle.rules.specs.Answers.{plain_report};
 ghost use Rattle.host_calls.specs.Entries.{count_on};
 
-use crate::replies::{accepted, minutes_reply, refusal};
+use crate::replies::reply;
 use due::due_from_seconds;
 use image_check::{passes, pending};
+use record::Refusal;
 use rules::PlainAnswer;
 
 // Backlog: 0 and how many entries are answered and not marked, or 21.
@@ -16,9 +17,9 @@ pub extern "C" fn darthog_backlog(image: &[u8]) -> PlainAnswer
     ensures { result ≡ plain_report (reported_count (count_on image.now)) }
 {
     if !passes(image) {
-        return refusal(21);
+        return reply(Err(Refusal::Invalid));
     }
-    accepted(pending(image) as u32)
+    reply(Ok(pending(image) as u32))
 }
 
 // A due minute from seconds: 0 and the minute, or 35.
@@ -26,6 +27,5 @@ pub extern "C" fn darthog_backlog(image: &[u8]) -> PlainAnswer
 pub extern "C" fn darthog_due(seconds: u64) -> PlainAnswer
     ensures { result ≡ plain_report (reported_minutes (due_from_seconds seconds)) }
 {
-    let m = due_from_seconds(seconds);
-    minutes_reply(m)
+    reply(due_from_seconds(seconds))
 }

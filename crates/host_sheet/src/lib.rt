@@ -6,10 +6,11 @@ ghost use Rattle.std.specs.Prelude.{◌≡◌, length};
 ghost use Rattle.sheet_format.specs.Sheets.{outcome, reported_run, area_after};
 ghost use Rattle.host_sheet.specs.Replies.{sheet_reply};
 
-use sheet_format::SheetOutcome;
+use sheet_format::SheetRefusal;
 use sheet_run::run_sheet;
 
-// A refusal's number and its line, or 0 and the length of the history in bytes.
+// A refusal's number and its line, or 0 and the length of the history in bytes, as
+// include/darthog_sheet.h has them for C.
 #[repr(C)]
 #[derive(Clone, Copy)]
 pub struct SheetReply {
@@ -17,18 +18,20 @@ pub struct SheetReply {
     pub value: usize,
 }
 
-fn sheet_reply(r: SheetOutcome) -> SheetReply
-    ensures { result ≡ sheet_reply (reported_run r) }
-{
-    match r {
-        SheetOutcome::Refused(number, line) => SheetReply {
-            number: number as u32,
-            value: line,
-        },
-        SheetOutcome::Length(bytes) => SheetReply {
-            number: 0,
-            value: bytes,
-        },
+impl From<Result<usize, SheetRefusal>> for SheetReply {
+    ghost from_gives = { λ r reply. reply ≡ sheet_reply (reported_run r) };
+
+    fn from(r: Result<usize, SheetRefusal>) -> Self {
+        match r {
+            Ok(bytes) => SheetReply {
+                number: 0,
+                value: bytes,
+            },
+            Err(e) => SheetReply {
+                number: e.refusal.number() as u32,
+                value: e.line,
+            },
+        }
     }
 }
 
@@ -39,6 +42,5 @@ pub extern "C" fn darthog_run_sheet(sheet: &[u8], history: &mut [u8]) -> SheetRe
     ensures value { result ≡ sheet_reply (outcome sheet.now (length history.old)) }
     ensures history_after { history.new ≡ area_after sheet.now history.old }
 {
-    let r = run_sheet(sheet, history);
-    sheet_reply(r)
+    run_sheet(sheet, history).into()
 }

@@ -1,12 +1,11 @@
 -- Stamps, uses and stages as numbers, there and back. Assumes nothing.
+use Rattle.std.specs.Prelude.{Option, ℕ, Some, None}
 use mathlib.Core.Path.{◌≡◌, refl, ◌∙◌, ap}
 use mathlib.Core.Bool.{true, false, ◌&&◌}
 use Prim.Native.Nat.{ℕ}
 use lib.Dec.{eqb}
 use borrow.Author.Tests.{eqb-true, eq-eqb}
 use Rattle.laws.proofs.Counting.{and_left, and_right, and_both}
-use Rattle.record.specs.declared.nodes.Stamp.{Stamp}
-use Rattle.record.specs.declared.nodes.Stamp.TheVariants as stamp
 use Rattle.record.specs.declared.nodes.Use.{Use}
 use Rattle.record.specs.declared.nodes.Use.TheVariants as use'
 use Rattle.record.specs.declared.stages.Seek.TheVariants as seek
@@ -38,16 +37,16 @@ timed_eq x y h =
     eqb-true _ _ (and_right (eqb x.tag y.tag) (eqb x.time y.time) h) in
     ap (λ (a : ℕ). timed a x.time) t ∙ ap (λ (a : ℕ). timed y.tag a) u
 
-pub stamp_back : (s : Stamp) → stamp_of (stamp_timed s) ≡ s
-stamp_back stamp.Unset = refl
-stamp_back (stamp.At t) = refl
+pub stamp_back : (s : Option ℕ) → stamp_of (stamp_timed s) ≡ s
+stamp_back None = refl
+stamp_back (Some t) = refl
 
 pub use_back : (s : Use) → use_of (use_timed s) ≡ s
 use_back use'.Never = refl
 use_back use'.InUse = refl
 use_back (use'.Retired t) = refl
 
-pub stamp_taken_lem : (s : Stamp) → stamp_taken (stamp_timed s) ≡ true
+pub stamp_taken_lem : (s : Option ℕ) → stamp_taken (stamp_timed s) ≡ true
 stamp_taken_lem s = rw (stamp_back s) (timed_same_lem (stamp_timed s))
 
 pub use_taken_lem : (s : Use) → use_taken (use_timed s) ≡ true

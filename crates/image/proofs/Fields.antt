@@ -30,8 +30,8 @@ eight_from f j =
 abbrev pub node_from : (ℕ → ℕ) → Node
 node_from f = record {
   forward = eight_from f 0;
-  levelLocks = eight_from f 8;
-  nodeLock = f 16;
+  level_locks = eight_from f 8;
+  node_lock = f 16;
   mark = f 17;
   stamp = stamp_of (timed (f 18) (number f 19));
   due = number f 23;

@@ -31,27 +31,27 @@ use Rattle.image.proofs.Sizes.{sized_in}
 
 -- the parts of an image
 module _ (q : Queue) where
-  pub processor_part_lem : (p : ℕ) → p < q.processorCount → processor_part (image_of q) p
+  pub processor_part_lem : (p : ℕ) → p < q.processor_count → processor_part (image_of q) p
       ≡ processor_image (processor_at q p)
   processor_part_lem p h =
       rw (sym (drop-drop (26 * p) 7 (image_of q)))
       (joined_part (λ k. processor_image (processor_at q k)) 26
-      (λ k. length_processor (processor_at q k)) q.processorCount p
-      (nodes_image q (q.nodeCount + 2)) h)
+      (λ k. length_processor (processor_at q k)) q.processor_count p
+      (nodes_image q (q.node_count + 2)) h)
 
-  node_part_lem : (x : ℕ) → x < q.nodeCount + 2 → node_part (image_of q) x ≡ node_image (node_at q x)
+  node_part_lem : (x : ℕ) → x < q.node_count + 2 → node_part (image_of q) x ≡ node_image (node_at q x)
   node_part_lem x h =
-      let cut : drop (7 + 26 * q.processorCount) (image_of q)
-      ≡ nodes_image q (q.nodeCount + 2) ++ [] =
-      drop_at (headed q ++ processors_image q q.processorCount) (nodes_image q (q.nodeCount + 2))
-      (7 + 26 * q.processorCount) (length_front q)
-      ∙ sym (append-nil (nodes_image q (q.nodeCount + 2))) in
-      rw (sym (drop-drop (41 * x) (7 + 26 * q.processorCount) (image_of q)), cut)
+      let cut : drop (7 + 26 * q.processor_count) (image_of q)
+      ≡ nodes_image q (q.node_count + 2) ++ [] =
+      drop_at (headed q ++ processors_image q q.processor_count) (nodes_image q (q.node_count + 2))
+      (7 + 26 * q.processor_count) (length_front q)
+      ∙ sym (append-nil (nodes_image q (q.node_count + 2))) in
+      rw (sym (drop-drop (41 * x) (7 + 26 * q.processor_count) (image_of q)), cut)
       (joined_part (λ k. node_image (node_at q k)) 41 (λ k. length_node (node_at q k))
-      (q.nodeCount + 2) x [] h)
+      (q.node_count + 2) x [] h)
 
   module _ (s : Sized q) (t : Trim q) where
-    processor_read : (p : ℕ) → p < q.processorCount →
+    processor_read : (p : ℕ) → p < q.processor_count →
         ((read_processor (processor_part (image_of q) p)).processor ≡ processor_at q p) ×
         ((read_processor (processor_part (image_of q) p)).ok ≡ true)
     processor_read p h =
@@ -60,7 +60,7 @@ module _ (q : Queue) where
         (s.saved_long p (omega (arith, t.processors_high))) in
         (rw (e, f) refl, rw (e, f) refl)
 
-    node_read : (x : ℕ) → x < q.nodeCount + 2 →
+    node_read : (x : ℕ) → x < q.node_count + 2 →
         ((read_node (node_part (image_of q) x)).node ≡ node_at q x) ×
         ((read_node (node_part (image_of q) x)).ok ≡ true)
     node_read x h =
@@ -70,22 +70,22 @@ module _ (q : Queue) where
         (rw (e, f) refl, rw (e, f) refl)
 
     processor_same : (p : ℕ) → p < max_processors → processor_in (image_of q) p ≡ processor_at q p
-    processor_same p h = go (ltb p q.processorCount) refl
+    processor_same p h = go (ltb p q.processor_count) refl
       where
-        go : (u : Bool) → ltb p q.processorCount ≡ u →
+        go : (u : Bool) → ltb p q.processor_count ≡ u →
             cond u (read_processor (processor_part (image_of q) p)).processor fresh_processor
             ≡ processor_at q p
         go true e = (processor_read p (ltb-true _ _ e)).0
         go false e = sym (t.processors p (ltb-false _ _ e) h)
 
     node_same : (x : ℕ) → x < node_slots → node_in (image_of q) x ≡ node_at q x
-    node_same x h = go (ltb x (q.nodeCount + 2)) refl
+    node_same x h = go (ltb x (q.node_count + 2)) refl
       where
-        go : (u : Bool) → ltb x (q.nodeCount + 2) ≡ u →
-            cond u (read_node (node_part (image_of q) x)).node (fresh_node (q.nodeCount + 1))
+        go : (u : Bool) → ltb x (q.node_count + 2) ≡ u →
+            cond u (read_node (node_part (image_of q) x)).node (fresh_node (q.node_count + 1))
             ≡ node_at q x
         go true e = (node_read x (ltb-true _ _ e)).0
-        go false e = let g : q.nodeCount + 1 < x = omega (arith, ltb-false x (q.nodeCount + 2) e) in
+        go false e = let g : q.node_count + 1 < x = omega (arith, ltb-false x (q.node_count + 2) e) in
             sym (t.nodes x g h)
 
     pub read_write : queue_in (image_of q) ≡ q
@@ -102,12 +102,12 @@ module _ (q : Queue) where
     image_taken =
         and_both _ _ (and_both _ _
         (and_both _ _
-        (and_both _ _ (le-leb q.processorCount max_processors t.processors_high)
-        (le-leb (q.nodeCount + 2) node_slots t.nodes_high))
+        (and_both _ _ (le-leb q.processor_count max_processors t.processors_high)
+        (le-leb (q.node_count + 2) node_slots t.nodes_high))
         (eq-eqb _ _ (length_image q)))
-        (all_of (λ p. (read_processor (processor_part (image_of q) p)).ok) q.processorCount
+        (all_of (λ p. (read_processor (processor_part (image_of q) p)).ok) q.processor_count
         (λ p h. (processor_read p h).1)))
-        (all_of (λ x. (read_node (node_part (image_of q) x)).ok) (q.nodeCount + 2)
+        (all_of (λ x. (read_node (node_part (image_of q) x)).ok) (q.node_count + 2)
         (λ x h. (node_read x h).1))
 
 pub written_is_read : WrittenIsRead

@@ -30,16 +30,16 @@ length_processors q p =
     (λ k. length_processor (processor_at q k)) p
 
 abbrev pub headed : Queue → List ℕ
-headed q = header_image q.processorCount q.nodeCount q.levelCount q.clock
+headed q = header_image q.processor_count q.node_count q.level_count q.clock
 
 pub length_front :
-    (q : Queue) → length (headed q ++ processors_image q q.processorCount)
-    ≡ 7 + 26 * q.processorCount
+    (q : Queue) → length (headed q ++ processors_image q q.processor_count)
+    ≡ 7 + 26 * q.processor_count
 length_front q =
-    length-append (headed q) (processors_image q q.processorCount)
-    ∙ ap (λ (k : ℕ). 7 + k) (length_processors q q.processorCount)
+    length-append (headed q) (processors_image q q.processor_count)
+    ∙ ap (λ (k : ℕ). 7 + k) (length_processors q q.processor_count)
 
-pub length_image : (q : Queue) → length (image_of q) ≡ image_length q.processorCount q.nodeCount
+pub length_image : (q : Queue) → length (image_of q) ≡ image_length q.processor_count q.node_count
 length_image q =
-    length-append (headed q ++ processors_image q q.processorCount) (nodes_image q (q.nodeCount + 2))
-    ∙ rw (length_front q, length_nodes q (q.nodeCount + 2)) refl
+    length-append (headed q ++ processors_image q q.processor_count) (nodes_image q (q.node_count + 2))
+    ∙ rw (length_front q, length_nodes q (q.node_count + 2)) refl

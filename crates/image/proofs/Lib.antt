@@ -6,6 +6,7 @@ pub mod Bytes
 pub mod Sides
 pub mod Parts
 pub mod Puts
+pub mod Runs
 pub mod Whole
 pub mod Fields
 pub mod Sizes

@@ -33,10 +33,6 @@ module _ {A : Type 0} where
   unfolding stored_at
   next a i l m k xs ys e f h = e ∙ rw f refl ∙ sets_more a i k xs ys h
 
-  pub written_one : (l : List A) (i : ℕ) (v : A) → set l i v ≡ stored_at l i (v ∷ [])
-  unfolding stored_at
-  written_one l i v = refl
-
   pub written_none : (l : List A) (i : ℕ) → l ≡ stored_at l i []
   unfolding stored_at
   written_none l i = refl

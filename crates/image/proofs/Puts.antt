@@ -4,13 +4,12 @@ use mathlib.Core.List.{List, [], ◌∷◌, ◌++◌, append_assoc}
 use Prim.Native.Nat.{ℕ, zero, suc, ◌+◌, ◌*◌, ◌<◌}
 use native.Mathlib.Decide.{ℕ_discrete}
 use native.Mathlib.Omega.{arith}
-use native.Mathlib.Numerals.{add-one}
 use lib.ListN.{length, set, length-set}
 use lib.Seq.{set-append_left}
 use Rattle.image.specs.Lists.{joined}
 use Rattle.image.proofs.Lists.{length_joined}
 use Rattle.image.proofs.Parts.{joined_same}
-use Rattle.image.specs.Puts.{puts, puts_in, clears, rests}
+use Rattle.image.specs.Puts.{puts, puts_in}
 
 -- every store is below w
 abbrev pub Below : ℕ → List (ℕ × ℕ) → Type 0
@@ -74,18 +73,3 @@ pub puts_append : (b : List ℕ) (o : ℕ) (xs ys : List (ℕ × ℕ)) → puts 
     ≡ puts (puts b o xs) o ys
 puts_append b o [] ys = refl
 puts_append b o (x ∷ xs) ys = puts_append (set b (o + x.0) x.1) o xs ys
-
-pub clears_next : (b : List ℕ) (o k : ℕ) → set (puts b o (clears k)) (o + (9 + k)) 0
-    ≡ puts b o (clears (k + 1))
-clears_next b o k = rw add-one (sym (puts_append b o (clears k) ((9 + k, 0) ∷ [])))
-
-abbrev rest : List (ℕ × ℕ)
-rest = (1, 0) ∷ (2, 0) ∷ (3, 0) ∷ (4, 0) ∷ (5, 0) ∷ (6, 0) ∷ (7, 0) ∷ (8, 0) ∷ []
-
-pub cleared : (b l : List ℕ) (o k m : ℕ) → l ≡ puts b o (clears k) → k ≡ m →
-    puts (set l o 0) o rest ≡ puts b o (clears m ++ rests)
-cleared b l o k m e h =
-    let z : o ≡ o + 0 = omega arith in
-    ap (λ (i : ℕ). puts (set l i 0) o rest) z
-    ∙ ap (λ (r : List ℕ). puts r o rests) (e ∙ ap (λ (n : ℕ). puts b o (clears n)) h)
-    ∙ sym (puts_append b o (clears m) rests)

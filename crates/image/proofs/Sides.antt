@@ -20,7 +20,7 @@ use Rattle.image.proofs.Enums.{stage_taken_lem}
 
 -- what is read of what is written
 pub node_back :
-    (n : Node) → length n.forward ≡ 8 → length n.levelLocks ≡ 8 → read_node (node_image n)
+    (n : Node) → length n.forward ≡ 8 → length n.level_locks ≡ 8 → read_node (node_image n)
     ≡ record { ok = true; node = n }
 unfolding node_image read_node
 node_back n forward locks =
@@ -35,7 +35,7 @@ node_back n forward locks =
       use_taken_lem n.state,
       use_back n.state,
       eight_back n.forward forward,
-      eight_back n.levelLocks locks,
+      eight_back n.level_locks locks,
     )
     refl
 

@@ -20,7 +20,7 @@ forward_read : (b : List ℕ) → length (read_node b).node.forward ≡ 8
 unfolding read_node
 forward_read b = refl
 
-locks_read : (b : List ℕ) → length (read_node b).node.levelLocks ≡ 8
+locks_read : (b : List ℕ) → length (read_node b).node.level_locks ≡ 8
 unfolding read_node
 locks_read b = refl
 
@@ -38,8 +38,8 @@ sized_in b = record {
       ∙ cond_elim (λ (n : Node). length n.forward ≡ 8) (ltb i (get_or b 1 0 + 2)) _ _
       (forward_read (node_part b i)) refl;
   locks_long = λ i h.
-      ap (λ (n : Node). length n.levelLocks) (get_d_listed (node_in b) node_slots i (fresh_node 0) h)
-      ∙ cond_elim (λ (n : Node). length n.levelLocks ≡ 8) (ltb i (get_or b 1 0 + 2)) _ _
+      ap (λ (n : Node). length n.level_locks) (get_d_listed (node_in b) node_slots i (fresh_node 0) h)
+      ∙ cond_elim (λ (n : Node). length n.level_locks ≡ 8) (ltb i (get_or b 1 0 + 2)) _ _
       (locks_read (node_part b i)) refl;
   saved_long = λ p h.
       ap (λ (c : Processor). length c.saved)

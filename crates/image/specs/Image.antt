@@ -32,9 +32,9 @@ nodes_image q k = joined (λ i. node_image (node_at q i)) k
 
 abbrev pub image_of : Queue → List ℕ
 image_of q =
-    header_image q.processorCount q.nodeCount q.levelCount q.clock
-    ++ processors_image q q.processorCount
-    ++ nodes_image q (q.nodeCount + 2)
+    header_image q.processor_count q.node_count q.level_count q.clock
+    ++ processors_image q q.processor_count
+    ++ nodes_image q (q.node_count + 2)
 
 -- how long the bytes are, and where the nodes start, by the sizes that stand in them
 abbrev pub length_of : List ℕ → ℕ
@@ -62,9 +62,9 @@ node_in b x =
 -- the record that the bytes are read as
 unfoldable pub queue_in : List ℕ → Queue
 queue_in b = record {
-  processorCount = get_or b 0 0;
-  nodeCount = get_or b 1 0;
-  levelCount = get_or b 2 0;
+  processor_count = get_or b 0 0;
+  node_count = get_or b 1 0;
+  level_count = get_or b 2 0;
   clock = number32 b 3;
   nodes = listed (node_in b) node_slots;
   processors = listed (processor_in b) max_processors;

@@ -12,16 +12,16 @@ pub record Sized (q : Queue) : Type 0 where
   pub nodes_long : length q.nodes ≡ node_slots
   pub processors_long : length q.processors ≡ max_processors
   pub forward_long : (i : ℕ) → i < node_slots → length (node_at q i).forward ≡ max_levels
-  pub locks_long : (i : ℕ) → i < node_slots → length (node_at q i).levelLocks ≡ max_levels
+  pub locks_long : (i : ℕ) → i < node_slots → length (node_at q i).level_locks ≡ max_levels
   pub saved_long : (p : ℕ) → p < max_processors → length (processor_at q p).saved ≡ max_levels
 
 -- the slots past P and N + 1 are as made
 pub record Trim (q : Queue) : Type 0 where
-  pub processors_high : q.processorCount ≤ max_processors
-  pub nodes_high : q.nodeCount + 2 ≤ node_slots
+  pub processors_high : q.processor_count ≤ max_processors
+  pub nodes_high : q.node_count + 2 ≤ node_slots
   pub nodes :
-      (x : ℕ) → q.nodeCount + 1 < x → x < node_slots → node_at q x ≡ fresh_node (q.nodeCount + 1)
-  pub processors : (p : ℕ) → q.processorCount ≤ p → p < max_processors
+      (x : ℕ) → q.node_count + 1 < x → x < node_slots → node_at q x ≡ fresh_node (q.node_count + 1)
+  pub processors : (p : ℕ) → q.processor_count ≤ p → p < max_processors
       → processor_at q p ≡ fresh_processor
 
 -- every element is a byte

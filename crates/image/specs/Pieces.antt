@@ -49,7 +49,7 @@ code_at b =
 
 abbrev pub links_image : Node → List ℕ
 links_image n =
-    eight n.forward 0 ++ eight n.levelLocks 0 ++ (n.nodeLock ∷ []) ++ (n.mark ∷ [])
+    eight n.forward 0 ++ eight n.level_locks 0 ++ (n.node_lock ∷ []) ++ (n.mark ∷ [])
 
 abbrev pub entry_image : Node → List ℕ
 entry_image n =
@@ -69,8 +69,8 @@ read_node b = record {
   ok = stamp_taken (timed_at b 18) && use_taken (timed_at b 36);
   node = record {
     forward = eight b 0;
-    levelLocks = eight b 8;
-    nodeLock = get_or b 16 0;
+    level_locks = eight b 8;
+    node_lock = get_or b 16 0;
     mark = get_or b 17 0;
     stamp = stamp_of (timed_at b 18);
     due = number32 b 23;

@@ -5,9 +5,7 @@
 --   use     0 never used   1 in use   2 retired, with a time
 --   stage   0 to 32: the column `tag` of the table in record/specs/Stages
 --   job     0 to deliver   1 to take back; 0 at a stage that has none
-use Rattle.std.specs.Prelude.{ℕ, ◌-◌, Bool, cond, ◌&&◌, eqb, leb}
-use Rattle.record.specs.declared.nodes.Stamp.{Stamp}
-use Rattle.record.specs.declared.nodes.Stamp.TheVariants as stamp
+use Rattle.std.specs.Prelude.{ℕ, ◌-◌, Bool, cond, ◌&&◌, eqb, leb, Option, Some, None}
 use Rattle.record.specs.declared.nodes.Use.{Use}
 use Rattle.record.specs.declared.nodes.Use.TheVariants as use'
 use Rattle.record.specs.declared.stages.Place.{Place}
@@ -52,12 +50,12 @@ timed tag time = record { tag = tag; time = time }
 abbrev pub timed_same : Timed → Timed → Bool
 timed_same x y = eqb x.tag y.tag && eqb x.time y.time
 
-abbrev pub stamp_timed : Stamp → Timed
-stamp_timed stamp.Unset = timed 0 0
-stamp_timed (stamp.At t) = timed 1 t
+abbrev pub stamp_timed : Option ℕ → Timed
+stamp_timed None = timed 0 0
+stamp_timed (Some t) = timed 1 t
 
-abbrev pub stamp_of : Timed → Stamp
-stamp_of x = cond (eqb x.tag 1) (stamp.At x.time) stamp.Unset
+abbrev pub stamp_of : Timed → Option ℕ
+stamp_of x = cond (eqb x.tag 1) (Some x.time) None
 
 abbrev pub use_timed : Use → Timed
 use_timed use'.Never = timed 0 0

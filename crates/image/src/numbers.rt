@@ -11,9 +11,7 @@ pub fn number_from(b: &[u8], at: usize) -> u32
     requires { at + 4 ≤ length b.now }
     ensures { result ≡ number32 b.now at }
 {
-    let low = (b[at] as u32) + 256 * (b[at + 1] as u32);
-    let high = 65536 * (b[at + 2] as u32);
-    low + high + 16777216 * (b[at + 3] as u32)
+    u32::from_le_bytes([b[at], b[at + 1], b[at + 2], b[at + 3]])
 }
 
 // The clock ticks.
@@ -22,21 +20,16 @@ pub fn tick(b: &mut [u8])
     ensures { b.new ≡ puts b.old 0 (four 3 (number32 b.old 3 + 1)) }
 {
     let t = number_from(b, header::CLOCK) + 1;
-    b[3] = (t % 256) as u8;
-    b[4] = (t / 256 % 256) as u8;
-    b[5] = (t / 65536 % 256) as u8;
-    b[6] = (t / 16777216) as u8;
+    put_number(b, 0, header::CLOCK, t);
 }
 
 // A number of four bytes, at a place after a start.
 pub fn put_number(b: &mut [u8], o: usize, j: usize, v: u32)
-    requires { (o + (j + 3) < length b.old) × (length b.old ≤ max_image_length) }
+    requires { o + (j + 3) < length b.old }
     ensures { b.new ≡ puts b.old o (four j v) }
 {
-    b[o + j] = (v % 256) as u8;
-    b[o + (j + 1)] = (v / 256 % 256) as u8;
-    b[o + (j + 2)] = (v / 65536 % 256) as u8;
-    b[o + (j + 3)] = (v / 16777216) as u8;
+    let at = o + j;
+    b[at..at + 4].copy_from_slice(&v.to_le_bytes());
 }
 
 // The key that a Remove carries, in the bytes of the processor at o; 0 and 0 where it ends.
@@ -48,24 +41,11 @@ pub fn put_wanted(b: &mut [u8], o: usize, due: u32, ticket: u32)
     put_number(b, o, processor::WANTED_TICKET, ticket);
 }
 
-// An idle processor's bytes; the saved nodes of the levels past l stay.
+// An idle processor's bytes, up to the saved nodes of l levels; those of the levels past l stay.
 pub fn clear(b: &mut [u8], o: usize, l: usize)
     requires { (o + processor_bytes ≤ length b.old) × (length b.old ≤ max_image_length)
         × (l ≤ max_levels) }
     ensures { b.new ≡ puts b.old o (clears l ++ rests) }
 {
-    let mut k: usize = 0;
-    while k < l {
-        b[o + (processor::SAVED + k)] = 0;
-        k = k + 1;
-    }
-    b[o] = 0;
-    b[o + 1] = 0;
-    b[o + 2] = 0;
-    b[o + 3] = 0;
-    b[o + 4] = 0;
-    b[o + 5] = 0;
-    b[o + 6] = 0;
-    b[o + 7] = 0;
-    b[o + 8] = 0;
+    b[o..o + processor::SAVED + l].fill(0);
 }

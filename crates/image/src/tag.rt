@@ -1,4 +1,5 @@
-// The tags of the stages that the code names, as the table has them (record/specs/Stages.antt).
+// The tags of the stages that the code names, as the table has them (record/specs/Stages.antt):
+// numbers, since they are bytes of the image.
 pub const IDLE: u8 = 0;
 
 // An Insert: its Search, the first stage of its Lock-seek (the other three and I1 have the next

@@ -1,5 +1,6 @@
 -- What a begin stores is what the definition says, and the bytes after it are sound. Assumes
 -- nothing.
+use Rattle.std.specs.Prelude.{None}
 use mathlib.Core.Path.{◌≡◌, refl, sym, ◌∙◌, ap}
 use mathlib.Core.Bool.{◌||◌}
 use mathlib.Core.List.{List, [], ◌++◌}
@@ -9,6 +10,7 @@ use lib.ListN.{get_or}
 use lib.Dec.{ltb, eqb}
 use borrow.Author.Tests.{eq-eqb, ne_eqb, ltb-false}
 use Rattle.record.specs.declared.queues.Processor.{Processor}
+use Rattle.record.specs.declared.refusals.Refusal.TheVariants as refusal
 use Rattle.record.specs.declared.stages.Delete.TheVariants as del
 use Rattle.record.specs.declared.stages.Relaxed.TheVariants as rlx
 use Rattle.record.specs.declared.stages.Remove.TheVariants as rmv
@@ -53,10 +55,10 @@ based b s =
     record {
       start = refl;
       long = s.long;
-      processors_high = v.processorCount.high;
+      processors_high = v.processor_count.high;
       nodes_high =
-          v.nodeCount.high;
-      levels_high = v.levelCount.high;
+          v.node_count.high;
+      levels_high = v.level_count.high;
     }
 
 -- an idle processor's stage
@@ -93,7 +95,7 @@ module _ (b : List ℕ) (p : ℕ) (s : Sound b) (low : p < get_or b 0 0)
 
 -- a Delete_Min, a Relaxed one and a Remove are such calls
 module _ (b : List ℕ) (p : ℕ) (s : Sound b) where
-  pub delete_begins_lem : (e : refusal_in b (call.DeleteMin p) ≡ 0) (after : List ℕ) (r : Answer) →
+  pub delete_begins_lem : (e : refusal_in b (call.DeleteMin p) ≡ None) (after : List ℕ) (r : Answer) →
       r ≡ ans.Began (number32 b 3 + 1) →
       after ≡ puts (puts b 0 (four 3 (number32 b 3 + 1))) (7 + 26 * p)
       (begun (number32 b 3 + 1) 0 11 1) →
@@ -104,10 +106,10 @@ module _ (b : List ℕ) (p : ℕ) (s : Sound b) where
       let fs = begun (number32 b 3 + 1) 0 11 1 in
       walk_begins_lem b p s (here b s k e) (begin_idle b s k e refl)
       (stage.Delete (del.ReadNext (place 0 1))) k
-      (call_accepted (queue_in b) k (first_none (refusal_in b k) 0 e)) fs (fits_below 26 fs refl)
+      (call_accepted (queue_in b) k (first_none (refusal_in b k) None e)) fs (fits_below 26 fs refl)
       (λ c. refl)
 
-  pub relaxed_begins_lem : (e : refusal_in b (call.Relaxed p) ≡ 0) (after : List ℕ) (r : Answer) →
+  pub relaxed_begins_lem : (e : refusal_in b (call.Relaxed p) ≡ None) (after : List ℕ) (r : Answer) →
       r ≡ ans.Began (number32 b 3 + 1) →
       after ≡ puts (puts b 0 (four 3 (number32 b 3 + 1))) (7 + 26 * p)
       (begun (number32 b 3 + 1) 0 27 1) →
@@ -118,10 +120,10 @@ module _ (b : List ℕ) (p : ℕ) (s : Sound b) where
       let fs = begun (number32 b 3 + 1) 0 27 1 in
       walk_begins_lem b p s (here b s k e) (begin_idle b s k e refl)
       (stage.Relaxed (rlx.ReadNext (place 0 1))) k
-      (call_accepted (queue_in b) k (first_none (refusal_in b k) 0 e)) fs (fits_below 26 fs refl)
+      (call_accepted (queue_in b) k (first_none (refusal_in b k) None e)) fs (fits_below 26 fs refl)
       (λ c. refl)
 
-  pub remove_begins_lem : (due ticket : ℕ) (e : refusal_in b (call.Remove p due ticket) ≡ 0)
+  pub remove_begins_lem : (due ticket : ℕ) (e : refusal_in b (call.Remove p due ticket) ≡ None)
       (after : List ℕ) (r : Answer) → r ≡ ans.Began (number32 b 3 + 1) →
       after ≡ puts (puts b 0 (four 3 (number32 b 3 + 1))) (7 + 26 * p)
       (begun (number32 b 3 + 1) 0 29 (get_or b 2 0) ++ wants due ticket) →
@@ -132,15 +134,15 @@ module _ (b : List ℕ) (p : ℕ) (s : Sound b) where
       let fs = begun (number32 b 3 + 1) 0 29 (get_or b 2 0) ++ wants due ticket in
       walk_begins_lem b p s (here b s k e) (begin_idle b s k e refl)
       (stage.Remove (wanted_of due ticket) (rmv.Search (place 0 (get_or b 2 0)))) k
-      (call_accepted (queue_in b) k (first_none (refusal_in b k) 0 e)) fs (fits_below 26 fs refl)
+      (call_accepted (queue_in b) k (first_none (refusal_in b k) None e)) fs (fits_below 26 fs refl)
       (λ c. refl)
 
 module _ (b : List ℕ) (p due item height : ℕ) (s : Sound b)
-    (e : refusal_in b (call.Insert p due item height) ≡ 0) where
-  pub insert_without : (r : Answer) → chosen (queue_in b) ≡ 0 → r ≡ ans.Refused 37 →
+    (e : refusal_in b (call.Insert p due item height) ≡ None) where
+  pub insert_without : (r : Answer) → chosen (queue_in b) ≡ 0 → r ≡ ans.Refused refusal.NoNode →
       Called b (call.Insert p due item height) b r
   insert_without r x f =
-      refused_late b s (call.Insert p due item height) e 37 (rw (eq-eqb _ 0 x) refl) (omega arith) r
+      refused_late b s (call.Insert p due item height) e refusal.NoNode (rw (eq-eqb _ 0 x) refl) r
       f
 
   pub insert_begins_lem :
@@ -162,7 +164,7 @@ module _ (b : List ℕ) (p due item height : ℕ) (s : Sound b)
       let low = here b s k e in
       let idle = begin_idle b s k e refl in
       let there : (chosen q ≡ 0 → ⊥) = λ z. some (is ∙ z) in
-      let none : refusal_of q k ≡ 0 =
+      let none : refusal_of q k ≡ None =
       first_none (refusal_in b k) (node_refusal k (taken q k)) e
       ∙ rw (ne_eqb (chosen q) 0 there) refl in
       let x≤ : x ≤ get_or b 1 0 = rw is (chosen_high q) in
@@ -185,9 +187,9 @@ module _ (b : List ℕ) (p due item height : ℕ) (s : Sound b)
   pub height_high : height ≤ 8
   unfolding queue_in
   height_high =
-      let n = passed (outside height (get_or b 2 0)) 36 0 (omega arith)
-      (passed (eqb item 0) 39 _ (omega arith)
-      (passed (ltb max_number due || ltb max_number item) 35 _ (omega arith)
+      let n = passed (outside height (get_or b 2 0)) refusal.Height None
+      (passed (eqb item 0) refusal.NoItem _
+      (passed (ltb max_number due || ltb max_number item) refusal.TooLarge _
       (numbers_in b s (call.Insert p due item height) e)).1).1 in
       omega (
         arith,

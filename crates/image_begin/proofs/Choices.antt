@@ -1,4 +1,5 @@
 -- The choice of a node by the bytes. Assumes nothing.
+use Rattle.std.specs.Prelude.{Some, None}
 use mathlib.Core.Path.{◌≡◌, refl, sym, ◌∙◌, ap, subst}
 use mathlib.Core.Bool.{Bool, true, false, cond, ◌||◌, true≢false}
 use mathlib.Core.List.{List}
@@ -8,7 +9,7 @@ use native.Mathlib.Numerals.{add-one}
 use native.Mathlib.Decide.{ℕ_discrete}
 use lib.Dec.{eqb, ltb}
 use lib.ListN.{get_or}
-use borrow.Author.Tests.{eq-eqb, ne_eqb, lt-ltb, le-ltb, ltb-true, ltb-false, eqb-true}
+use borrow.Author.Tests.{eq-eqb, ne_eqb, lt-ltb, le-ltb, ltb-true, ltb-false, eqb-true, eqb-false}
 use Rattle.laws.proofs.Booleans.{cond_cases}
 use Rattle.laws.proofs.Counting.{and_left, and_right}
 use Rattle.record.specs.declared.nodes.Node.{Node}
@@ -32,7 +33,7 @@ use Rattle.rules.proofs.ValidDecisions.{longest_retired_high}
 use Rattle.rules.proofs.ValidFacts.{valid_facts}
 use Rattle.rules.proofs.Chosen.{chosen_never, chosen_none, chosen_retired}
 use Rattle.image_parts.proofs.Refusals.{idle_is}
-use Rattle.image_begin.specs.Stores.{Based, late, end_of}
+use Rattle.image_begin.specs.Stores.{Based, late, end_of, found}
 
 -- a use as one number
 abbrev word_of : Use → ℕ
@@ -135,6 +136,26 @@ module _ (state : ℕ → Use) (i best least : ℕ) (s : Seen state i best least
     longest = sym (longest_more ∙ rw (le-ltb t least l) refl);
     since = s.since;
   }
+
+pub found_some : (x : ℕ) → 0 < x → Some x ≡ found x
+found_some x h = rw (ne_eqb x 0 (λ e. omega arith)) refl
+
+pub some_found : (x n : ℕ) → Some x ≡ found n → (x ≡ n) × (x ≡ 0 → ⊥)
+some_found x n e = go (eqb n 0) refl e
+  where
+    go : (t : Bool) → eqb n 0 ≡ t → Some x ≡ cond t None (Some n) → (x ≡ n) × (x ≡ 0 → ⊥)
+    go true h k = absurd (cc)
+    go false h k =
+        let z : x ≡ n = cc in
+        let ne = eqb-false n 0 h in
+        (z, λ l. ne (sym z ∙ l))
+
+pub none_found : (n : ℕ) → None ≡ found n → n ≡ 0
+none_found n e = go (eqb n 0) refl e
+  where
+    go : (t : Bool) → eqb n 0 ≡ t → None ≡ cond t None (Some n) → n ≡ 0
+    go true h k = eqb-true n 0 h
+    go false h k = absurd (cc)
 
 never_first : (state : ℕ → Use) (i : ℕ) → never_used state i ≡ 0 → is_never (state (suc i)) ≡ true →
     never_used state (suc i) ≡ suc i
@@ -254,11 +275,11 @@ module _ (b : List ℕ) (p : ℕ) (many : get_or b 0 0 ≤ 16) (low : p < get_or
 -- after the last node
 module _ (b : List ℕ) (i best least : ℕ) (all : i ≡ get_or b 1 0)
     (s : Seen (state_of (queue_in b)) i best least) where
-  none_never : 0 ≡ never_used (state_of (queue_in b)) (queue_in b).nodeCount
+  none_never : 0 ≡ never_used (state_of (queue_in b)) (queue_in b).node_count
   unfolding queue_in
   none_never = sym s.none ∙ ap (never_used (state_of (queue_in b))) all
 
-  longest_all : best ≡ longest_retired (state_of (queue_in b)) (queue_in b).nodeCount
+  longest_all : best ≡ longest_retired (state_of (queue_in b)) (queue_in b).node_count
   unfolding queue_in
   longest_all = s.longest ∙ ap (longest_retired (state_of (queue_in b))) all
 

@@ -1,10 +1,11 @@
 -- Stores in a node's levels, and the bytes of a node that an Insert takes. Assumes nothing.
 use mathlib.Core.Path.{◌≡◌, refl, sym, ◌∙◌, ap}
 use mathlib.Core.List.{List, [], ◌∷◌, ◌++◌, append_assoc}
-use Prim.Native.Nat.{ℕ, zero, suc, ◌+◌, ◌≤◌}
+use Prim.Native.Nat.{ℕ, zero, suc, ◌+◌, ◌-◌, ◌≤◌}
 use native.Mathlib.Omega.{arith}
-use native.Mathlib.Numerals.{add-one}
-use lib.ListN.{length, set}
+use borrow.Rule.Slice.PartMut.{put_mid}
+use lib.ListN.{length, set, replicate}
+use Rattle.std.proofs.lemmas.List.{length-replicate}
 use Rattle.record.specs.declared.nodes.Node.{Node}
 use Rattle.laws.specs.Every.{set_below}
 use Rattle.laws.proofs.Counting.{length_below}
@@ -12,12 +13,24 @@ use Rattle.record.specs.Nodes.{filled}
 use Rattle.image.specs.Pieces.{node_image}
 use Rattle.image.specs.Puts.{puts, puts_in, four}
 use Rattle.image.proofs.Puts.{Below, puts_append}
+use Rattle.image.proofs.Runs.{run, put_mid-puts, run_more}
 use Rattle.image_parts.proofs.Pieces.{leveled, put_forward, put_lock}
 use Rattle.image_begin.specs.Stores.{levels, unmarked, used, fixed, fills}
 
-pub levels_next : (b : List ℕ) (o j k v : ℕ) → set (puts b o (levels j k v)) (o + (j + k)) v
-    ≡ puts b o (levels j (k + 1) v)
-levels_next b o j k v = rw add-one (sym (puts_append b o (levels j k v) ((j + k, v) ∷ [])))
+run_levels : (j l v : ℕ) → run j (replicate l v) ≡ levels j l v
+run_levels j zero v = refl
+run_levels j (suc k) v =
+    sym (run_more j k v) ∙ ap (λ (r : List (ℕ × ℕ)). r ++ ((j + k, v) ∷ [])) (run_levels j k v)
+
+-- levels that were written at once
+pub levels_stored :
+    (b ys : List ℕ) (o j l k v : ℕ) → ys ≡ replicate k v → k ≡ l → o + j + l ≤ length b →
+    put_mid (o + j) (o + j + l - (o + j)) b ys ≡ puts b o (levels j l v)
+levels_stored b ys o j l k v is long high =
+    let e : o + j + length ys ≡ o + j + l = omega (arith, ap length is, length-replicate {A = ℕ} k v) in
+    put_mid-puts b ys (o + j) (o + j + l) o j refl e high
+    ∙ ap (puts b o)
+    (ap (run j) (is ∙ ap (λ (i : ℕ). replicate i v) long) ∙ run_levels j l v)
 
 pub levels_below : (w j l v : ℕ) (es : List (ℕ × ℕ)) → j + l ≤ w → Below w es →
     Below w (levels j l v ++ es)
@@ -28,25 +41,25 @@ levels_below w j (suc l) v es h k =
 
 put_forwards : (n : Node) (l v : ℕ) (es : List (ℕ × ℕ)) → l ≤ 8 → length n.forward ≡ 8 →
     puts_in (node_image n) (levels 0 l v ++ es)
-    ≡ puts_in (node_image (leveled n (set_below n.forward l v) n.levelLocks)) es
+    ≡ puts_in (node_image (leveled n (set_below n.forward l v) n.level_locks)) es
 put_forwards n zero v es low long = refl
 put_forwards n (suc l) v es low long =
-    let m = leveled n (set_below n.forward l v) n.levelLocks in
+    let m = leveled n (set_below n.forward l v) n.level_locks in
     let z : 0 + l ≡ l = omega arith in
     ap (puts_in (node_image n)) (append_assoc (levels 0 l v) ((0 + l, v) ∷ []) es)
     ∙ put_forwards n l v ((0 + l, v) ∷ es) (omega arith) long
     ∙ ap (λ (i : ℕ). puts_in (set (node_image m) i v) es) z
     ∙ put_forward m l v es (omega arith) (length_below n.forward l v ∙ long)
 
-put_locks : (n : Node) (l v : ℕ) (es : List (ℕ × ℕ)) → l ≤ 8 → length n.levelLocks ≡ 8 →
+put_locks : (n : Node) (l v : ℕ) (es : List (ℕ × ℕ)) → l ≤ 8 → length n.level_locks ≡ 8 →
     puts_in (node_image n) (levels 8 l v ++ es)
-    ≡ puts_in (node_image (leveled n n.forward (set_below n.levelLocks l v))) es
+    ≡ puts_in (node_image (leveled n n.forward (set_below n.level_locks l v))) es
 put_locks n zero v es low long = refl
 put_locks n (suc l) v es low long =
     ap (puts_in (node_image n)) (append_assoc (levels 8 l v) ((8 + l, v) ∷ []) es)
     ∙ put_locks n l v ((8 + l, v) ∷ es) (omega arith) long
-    ∙ put_lock (leveled n n.forward (set_below n.levelLocks l v)) l v es (omega arith)
-    (length_below n.levelLocks l v ∙ long)
+    ∙ put_lock (leveled n n.forward (set_below n.level_locks l v)) l v es (omega arith)
+    (length_below n.level_locks l v ∙ long)
 
 put_fixed : (n : Node) (f g : List ℕ) (h t due item height : ℕ) →
     puts_in (node_image (leveled n f g)) (fixed h t due item height)
@@ -55,14 +68,14 @@ unfolding node_image
 put_fixed n f g h t due item height = refl
 
 pub put_filled : (n : Node) (l tail h t due item height : ℕ) → l ≤ 8 → length n.forward ≡ 8 →
-    length n.levelLocks ≡ 8 →
+    length n.level_locks ≡ 8 →
     puts_in (node_image n) (fills l tail h t due item height)
     ≡ node_image (filled n l tail h t due item height)
 put_filled n l tail h t due item height low long locks =
     put_forwards n l tail (levels 8 l 0 ++ fixed h t due item height) low long
-    ∙ put_locks (leveled n (set_below n.forward l tail) n.levelLocks) l 0
+    ∙ put_locks (leveled n (set_below n.forward l tail) n.level_locks) l 0
     (fixed h t due item height) low locks
-    ∙ put_fixed n (set_below n.forward l tail) (set_below n.levelLocks l 0) h t due item height
+    ∙ put_fixed n (set_below n.forward l tail) (set_below n.level_locks l 0) h t due item height
 
 pub fixed_below : (h t due item height : ℕ) → Below 41 (fixed h t due item height)
 fixed_below h t due item height = (

@@ -1,5 +1,5 @@
 -- What a begin stores, and what it may take for granted.
-use Rattle.std.specs.Prelude.{◌≡◌, cond, List, [], ◌∷◌, ◌++◌, ℕ, zero, suc, ◌+◌, ◌*◌, ◌≤◌, eqb, length, get_or}
+use Rattle.std.specs.Prelude.{◌≡◌, Option, Some, None, cond, List, [], ◌∷◌, ◌++◌, ℕ, zero, suc, ◌+◌, ◌*◌, ◌≤◌, eqb, length, get_or}
 use Rattle.record.specs.Limits.{max_processors, max_nodes, max_levels, max_number}
 use Rattle.image.specs.Image.{start_of}
 use Rattle.image.specs.Layout.{node_bytes}
@@ -40,6 +40,10 @@ pub record Based (b : List ℕ) (base : ℕ) : Type 0 where
 -- node was retired at t. In a record that passes none of these reaches `late`.
 abbrev pub late : ℕ
 late = 256 * (max_number + 1)
+
+-- node x, or none for 0
+abbrev pub found : ℕ → Option ℕ
+found x = cond (eqb x 0) None (Some x)
 
 -- so that a node in use comes after those that were retired
 abbrev pub end_of : ℕ → ℕ

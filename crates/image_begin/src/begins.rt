@@ -17,6 +17,7 @@ use image::layout::{HEADER, NODE_BYTES, PROCESSOR_BYTES};
 use image::numbers::{number_from, put_wanted, tick};
 use image::{header, tag};
 use image_parts::refused::refusal_at;
+use record::Refusal;
 use rules::{Answer, Call};
 
 // An operation that takes no node begins at the head, on this level; `first` is its first stage's
@@ -47,8 +48,7 @@ pub fn begin_delete_min_at(image: &mut [u8], processor: u32) -> Answer
     requires { Sound image.old }
     ensures { Called image.old (call.DeleteMin processor) image.new result }
 {
-    let refusal = refusal_at(image, Call::DeleteMin(processor));
-    if 0 < refusal {
+    if let Some(refusal) = refusal_at(image, Call::DeleteMin(processor)) {
         return Answer::Refused(refusal);
     }
     begin_walk(image, processor, tag::READ_NEXT, 1)
@@ -59,8 +59,7 @@ pub fn begin_relaxed_at(image: &mut [u8], processor: u32) -> Answer
     requires { Sound image.old }
     ensures { Called image.old (call.Relaxed processor) image.new result }
 {
-    let refusal = refusal_at(image, Call::Relaxed(processor));
-    if 0 < refusal {
+    if let Some(refusal) = refusal_at(image, Call::Relaxed(processor)) {
         return Answer::Refused(refusal);
     }
     begin_walk(image, processor, tag::RELAXED_READ_NEXT, 1)
@@ -71,8 +70,7 @@ pub fn begin_remove_at(image: &mut [u8], processor: u32, due: u32, ticket: u32) 
     requires { Sound image.old }
     ensures { Called image.old (call.Remove processor due ticket) image.new result }
 {
-    let refusal = refusal_at(image, Call::Remove(processor, due, ticket));
-    if 0 < refusal {
+    if let Some(refusal) = refusal_at(image, Call::Remove(processor, due, ticket)) {
         return Answer::Refused(refusal);
     }
     let l = image[header::LEVEL_COUNT];
@@ -88,15 +86,13 @@ pub fn begin_insert_at(image: &mut [u8], processor: u32, due: u32, item: u32, he
     ensures { Called image.old (call.Insert processor due item height)
         image.new result }
 {
-    let refusal = refusal_at(image, Call::Insert(processor, due, item, height));
-    if 0 < refusal {
+    if let Some(refusal) = refusal_at(image, Call::Insert(processor, due, item, height)) {
         return Answer::Refused(refusal);
     }
     let base = HEADER + PROCESSOR_BYTES * (image[header::PROCESSOR_COUNT] as usize);
-    let x = choose(image, base);
-    if x == 0 {
-        return Answer::Refused(37);
-    }
+    let Some(x) = choose(image, base) else {
+        return Answer::Refused(Refusal::NoNode);
+    };
     let l = image[header::LEVEL_COUNT];
     let tail = image[header::NODE_COUNT] + 1;
     let h = (processor as u8) + 1;

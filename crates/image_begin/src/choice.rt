@@ -3,14 +3,13 @@ ghost use Rattle.std.specs.Prelude.{◌≡◌, ◌+◌, ◌*◌, ◌≤◌, ◌<
 ghost use Rattle.record.specs.Queues.{processor_at};
 ghost use Rattle.rules.specs.Choice.{began_after, all_began_after, chosen};
 ghost use Rattle.image.specs.Image.{queue_in, Sound, start_of};
-ghost use Rattle.image_begin.specs.Stores.{Based, end_of};
+ghost use Rattle.image_begin.specs.Stores.{Based, end_of, found};
 ghost use Rattle.image.specs.Layout.{processor_bytes, processor_start};
 ghost use Rattle.record.specs.Limits.{max_processors};
 
 use image::layout::{HEADER, NODE_BYTES, PROCESSOR_BYTES};
 use image::numbers::number_from;
 use image::{header, node, processor, tag};
-use record::levels::both;
 use record::limits::MAX_NUMBER;
 
 // More than the use of every retired node, read as one number.
@@ -30,10 +29,7 @@ fn began_after(b: &[u8], p: usize, t: u32) -> bool
         (processor_at (queue_in b.now) p).begin }
 {
     let at = HEADER + PROCESSOR_BYTES * p;
-    if b[at + processor::TAG] == tag::IDLE {
-        return true;
-    }
-    t < number_from(b, at + processor::BEGIN)
+    b[at + processor::TAG] == tag::IDLE || t < number_from(b, at + processor::BEGIN)
 }
 
 // No busy processor began at t or before.
@@ -42,39 +38,29 @@ fn all_after(b: &[u8], t: u32) -> bool
     ensures { result ≡ all_began_after (queue_in b.now) t }
 {
     let end = b[header::PROCESSOR_COUNT] as usize;
-    let mut ok = true;
-    let mut p: usize = 0;
-    while p < end {
-        ok = both(ok, began_after(b, p, t));
-        p = p + 1;
-    }
-    ok
+    (0..end).all(|p| began_after(b, p, t))
 }
 
 // One pass: the first node that was never used is taken at once, and of the others the one retired
-// first is kept. A use is read as one number, 256 * time + tag: no time needs a fourth byte.
-pub fn choose(b: &[u8], base: usize) -> u8
+// first is kept, without a branch, as best is 0 where there is none. A use is read as one number,
+// 256 * time + tag: no time needs a fourth byte.
+pub fn choose(b: &[u8], base: usize) -> Option<u8>
     requires { Based b.now base × Sound b.now }
-    ensures { result ≡ chosen (queue_in b.now) }
+    ensures { result ≡ found (chosen (queue_in b.now)) }
 {
-    let end = b[header::NODE_COUNT];
     let mut best: u8 = 0;
     let mut least: u32 = LATE;
-    let mut i: u8 = 0;
-    while i < end {
-        i = i + 1;
-        let used = number_from(b, base + NODE_BYTES * (i as usize) + node::USE);
+    for i in 0..b[header::NODE_COUNT] {
+        let x = i + 1;
+        let used = number_from(b, base + NODE_BYTES * (x as usize) + node::USE);
         if used == 0 {
-            return i;
+            return Some(x);
         }
         let t = end_of(used);
         if t < least {
-            best = i;
+            best = x;
             least = t;
         }
     }
-    if best == 0 {
-        return 0;
-    }
-    if all_after(b, least / 256) { best } else { 0 }
+    (best != 0 && all_after(b, least / 256)).then_some(best)
 }

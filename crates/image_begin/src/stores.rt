@@ -13,11 +13,8 @@ fn put_levels(b: &mut [u8], o: usize, j: usize, l: usize, v: u8)
         × (l ≤ max_levels) }
     ensures { b.new ≡ puts b.old o (levels j l v) }
 {
-    let mut k: usize = 0;
-    while k < l {
-        b[o + (j + k)] = v;
-        k = k + 1;
-    }
+    let at = o + j;
+    b[at..at + l].fill(v);
 }
 
 fn put_links(b: &mut [u8], o: usize, l: usize, tail: u8)
@@ -37,10 +34,7 @@ fn put_unmarked(b: &mut [u8], o: usize, h: u8)
     b[o + node::NODE_LOCK] = h;
     b[o + node::MARK] = node::UNMARKED;
     b[o + node::STAMP] = 0;
-    b[o + node::STAMP_TIME] = 0;
-    b[o + 20] = 0;
-    b[o + 21] = 0;
-    b[o + 22] = 0;
+    put_number(b, o, node::STAMP_TIME, 0);
 }
 
 fn put_entry(b: &mut [u8], o: usize, t: u32, due: u32, item: u32)
@@ -59,10 +53,7 @@ fn put_used(b: &mut [u8], o: usize, height: u8)
 {
     b[o + node::HEIGHT] = height;
     b[o + node::USE] = node::IN_USE;
-    b[o + node::USE_TIME] = 0;
-    b[o + 38] = 0;
-    b[o + 39] = 0;
-    b[o + 40] = 0;
+    put_number(b, o, node::USE_TIME, 0);
 }
 
 // The node that starts at o is filled in.

@@ -14,12 +14,10 @@ pub fn call_at(image: &mut [u8], c: Call) -> Answer
     ensures { Called image.old c image.new result }
 {
     match c {
-        Call::Insert(p, due, item, height) => {
-            return begin_insert_at(image, p, due, item, height);
-        }
-        Call::DeleteMin(p) => return begin_delete_min_at(image, p),
-        Call::Relaxed(p) => return begin_relaxed_at(image, p),
-        Call::Remove(p, due, ticket) => return begin_remove_at(image, p, due, ticket),
-        Call::Step(p) => return step_at(image, p),
+        Call::Insert(p, due, item, height) => begin_insert_at(image, p, due, item, height),
+        Call::DeleteMin(p) => begin_delete_min_at(image, p),
+        Call::Relaxed(p) => begin_relaxed_at(image, p),
+        Call::Remove(p, due, ticket) => begin_remove_at(image, p, due, ticket),
+        Call::Step(p) => step_at(image, p),
     }
 }

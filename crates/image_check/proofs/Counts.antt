@@ -1,8 +1,9 @@
 -- Which nodes Backlog counts, by their bytes. Assumes nothing.
+use Rattle.std.specs.Prelude.{Some, None}
 use mathlib.Core.Path.{◌≡◌, refl, sym, ◌∙◌, ap}
-use mathlib.Core.Bool.{Bool, true, false, cond, ◌&&◌, not}
+use mathlib.Core.Bool.{Bool, true, false, cond, not}
 use mathlib.Core.List.{List}
-use Prim.Native.Nat.{ℕ, zero, suc, ◌+◌, ◌*◌, ◌≤◌}
+use Prim.Native.Nat.{ℕ, zero, suc, ◌+◌, ◌-◌, ◌*◌, ◌≤◌}
 use native.Mathlib.Omega.{arith}
 use lib.Dec.{eqb}
 use lib.ListN.{get_or}
@@ -11,7 +12,6 @@ use Rattle.laws.specs.HowMany.{how_many}
 use Rattle.laws.proofs.HowMany.{many_more}
 use Rattle.record_check.specs.Backlog.{holds_pending, pending_at}
 use Rattle.record_check.proofs.SizeLaws.{valid_sizes}
-use Rattle.record.specs.declared.nodes.Stamp.TheVariants as stamp
 use Rattle.record.specs.declared.nodes.Use.TheVariants as use'
 use Rattle.record.specs.Nodes.{is_in_use, is_marked, is_stamped}
 use Rattle.image.specs.Image.{queue_in, start_of, Sound}
@@ -33,7 +33,7 @@ used t u = go (eqb t 2) (eqb t 1) refl refl
 stamped : (t u : ℕ) → is_stamped (stamp_of (timed t u)) ≡ eqb t 1
 stamped t u = go (eqb t 1)
   where
-    go : (x : Bool) → is_stamped (cond x (stamp.At u) stamp.Unset) ≡ x
+    go : (x : Bool) → is_stamped (cond x (Some u) None) ≡ x
     go true = refl
     go false = refl
 
@@ -62,21 +62,18 @@ module _ (b : List ℕ) (s : Sound b) where
       ∙ rw (used (get_or b (o + 36) 0) _, stamped (get_or b (o + 18) 0) _, unmarked (get_or b (o + 17) 0))
       refl
 
-  -- one more node
+  -- one more node: i, behind those from 1 on
   pub pending_next :
-      (i k r t : ℕ) → i + 1 ≤ get_or b 1 0 →
-      k ≡ how_many (pending_at (queue_in b)) i →
-      let o = start_of b + 41 * (i + 1) in
+      (i k r t : ℕ) → 1 ≤ i → i ≤ get_or b 1 0 →
+      k ≡ how_many (pending_at (queue_in b)) (i - 1) →
+      let o = start_of b + 41 * i in
       r ≡ cond (pending_bytes (get_or b (o + 36) 0) (get_or b (o + 18) 0) (get_or b (o + 17) 0)) 1 0 →
-      t ≡ k + r → t ≡ how_many (pending_at (queue_in b)) (i + 1)
-  pending_next i k r t h e f g =
-      g ∙ rw (e, f, sym (pending_is (i + 1) (omega arith)))
-      (sym (many_more (pending_at (queue_in b)) i))
-
--- the test of a node, made of its parts
-pub counted_is :
-    (used stamped mark : ℕ) (x y t : Bool) → x ≡ (eqb stamped 1 && eqb mark 0) →
-    y ≡ (eqb used 1 && x) → y ≡ t →
-    ◌≡◌ {A = ℕ} (cond t 1 0) (cond (pending_bytes used stamped mark) 1 0)
-counted_is used stamped mark x y t e f g =
-    ap (λ (z : Bool). cond z 1 0) (sym g ∙ f ∙ ap (λ (z : Bool). eqb used 1 && z) e)
+      t ≡ k + r → t ≡ how_many (pending_at (queue_in b)) (i + 1 - 1)
+  pending_next i k r t low h e f g =
+      let p = pending_at (queue_in b) in
+      let y : i - 1 + 1 ≡ i = omega arith in
+      let z : i + 1 - 1 ≡ i = omega arith in
+      g ∙ rw (e, f, sym (pending_is i (omega arith)))
+      (ap (λ (x : ℕ). how_many p (i - 1) + cond (p x) 1 0) (sym y)
+      ∙ sym (many_more p (i - 1))
+      ∙ ap (how_many p) (y ∙ sym z))

@@ -1,5 +1,4 @@
 pub mod Stages
 pub mod Masks
-pub mod Timed
 pub mod Tests
 pub mod Counts

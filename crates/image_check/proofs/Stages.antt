@@ -6,7 +6,7 @@ use Prim.Native.Nat.{ℕ, zero, suc, ◌+◌, ◌≤◌, ◌<◌}
 use native.Mathlib.Decide.{ℕ_discrete}
 use native.Mathlib.Omega.{arith}
 use lib.Dec.{eqb, leb}
-use borrow.Author.Tests.{eq-eqb, ne_eqb, le-leb, lt-leb, leb-true, eqb-true, eqb-false, not-true}
+use borrow.Author.Tests.{eq-eqb, ne_eqb, le-leb, lt-leb, leb-true}
 use Rattle.laws.proofs.Counting.{and_left, and_right, every_at}
 use Rattle.record_check.specs.declared.check.Sizes.{Sizes}
 use Rattle.record.specs.declared.stages.Wanted.{Wanted}
@@ -18,44 +18,8 @@ use Rattle.record.specs.Stages.{carried}
 use Rattle.image.specs.Tags.{Code, code, code_of, code_same, job_of, stage_of, stage_taken}
 use Rattle.image_check.specs.Bounds.{row_at, between, in_bounds, errand_in_bounds}
 
-pub flip : (a b : ℕ) → eqb a b ≡ eqb b a
-flip a b = go (eqb a b) refl
-  where
-    go : (t : Bool) → eqb a b ≡ t → t ≡ eqb b a
-    go true e = sym (eq-eqb b a (sym (eqb-true a b e)))
-    go false e = sym (ne_eqb b a (λ h. eqb-false a b e (sym h)))
-
 pub same : (a : ℕ) → eqb a a ≡ true
 same a = eq-eqb a a refl
-
--- a bound picked by a column
-pub picked : (n k : ℕ) {v : ℕ} {m M : Bool} → v ≡ cond m n k → m ≡ M → v ≡ cond M n k
-picked n k e g = e ∙ ap (λ (c : Bool). cond c n k) g
-
-pub picked_twice :
-    (n l : ℕ) {v k : ℕ} {m M p P : Bool} → v ≡ cond m n k → m ≡ M → k ≡ cond p l 0 → p ≡ P →
-    v ≡ cond M n (cond P l 0)
-picked_twice n l {k = k} {M = M} e g f h = picked n k e g ∙ ap (cond M n) (picked l 0 f h)
-
--- a test against a bound v, which is w
-module _ {v w x : ℕ} (e : v ≡ w) where
-  pub low_ok : v ≤ x → leb w x ≡ true
-  low_ok h = le-leb w x (omega arith)
-
-  pub low_not : x < v → leb w x ≡ false
-  low_not h = lt-leb w x (omega arith)
-
-  pub top_ok : x ≤ v → leb x w ≡ true
-  top_ok h = le-leb x w (omega arith)
-
-  pub top_not : v < x → leb x w ≡ false
-  top_not h = lt-leb x w (omega arith)
-
--- at most 0 is 0
-pub low_zero : (x : ℕ) → eqb x 0 ≡ leb x 0
-low_zero zero = refl
-low_zero (suc x) =
-    ne_eqb (suc x) 0 (λ h. omega (arith, h)) ∙ sym (lt-leb (suc x) 0 (omega arith))
 
 -- two tests that agree for all values of five
 abbrev agree : Bool → Bool → Bool
@@ -105,7 +69,7 @@ lower a n = go (within a n) refl
 
 -- a row with these columns, for the numbers a, i, x; the columns removes and seeks with them, for
 -- the numbers job, due and ticket
-module _ (s : Sizes) (t a i x own : ℕ) (tall : 1 ≤ s.levelCount) where
+module _ (s : Sizes) (t a i x own : ℕ) (tall : 1 ≤ s.level_count) where
   abbrev line : Bool → Bool → Bool → Bool → Row
   line owns placed marks releases = record {
     tag = t;
@@ -135,31 +99,31 @@ module _ (s : Sizes) (t a i x own : ℕ) (tall : 1 ≤ s.levelCount) where
   place_asked r =
       own_valid s (carried_of r).own own
       && place_valid s (carried_of r).place
-      && leb (carried_of r).ahead (s.nodeCount + 1)
+      && leb (carried_of r).ahead (s.node_count + 1)
       && marking_valid s (carried_of r).marking (carried_of r).place.node
 
   abbrev taken : Row → Bool
   taken r = place_same r && place_asked r
 
   abbrev A : Bool
-  A = leb a (s.nodeCount + 1)
+  A = leb a (s.node_count + 1)
 
   abbrev W : Bool
-  W = within i s.levelCount
+  W = within i s.level_count
 
   abbrev X : Bool
-  X = leb x (s.nodeCount + 1)
+  X = leb x (s.node_count + 1)
 
   abbrev owned : Bool → Bool
-  owned o = between (cond o 1 0) own (cond o s.nodeCount (s.nodeCount + 1))
+  owned o = between (cond o 1 0) own (cond o s.node_count (s.node_count + 1))
 
-  own_tests : (o : Bool) → cond o (within own s.nodeCount) (leb own (s.nodeCount + 1)) ≡ owned o
+  own_tests : (o : Bool) → cond o (within own s.node_count) (leb own (s.node_count + 1)) ≡ owned o
   own_tests true = refl
   own_tests false = rw (le-leb 0 own (omega arith)) refl
 
   line_tests :
       (o p m e : Bool) → (m ≡ true → p ≡ true) → taken (line o p m e)
-      ≡ in_bounds (line o p m e) a i x own s.nodeCount s.levelCount
+      ≡ in_bounds (line o p m e) a i x own s.node_count s.level_count
   -- by the columns placed, marks and releases
   line_tests o true false false h =
       rw (same t, same a, same i, zero_low x, le-leb 0 a (omega arith), own_tests o)
@@ -170,13 +134,13 @@ module _ (s : Sizes) (t a i x own : ℕ) (tall : 1 ≤ s.levelCount) where
       (all_ways (λ x O A W u. O && (A && W) && x && true) (λ x O A W u. W && x && A && O) refl
       X (owned o) A W true)
   line_tests o true true false h =
-      rw (same t, same a, same i, zero_low x, own_tests o, sym (lower a s.nodeCount))
+      rw (same t, same a, same i, zero_low x, own_tests o, sym (lower a s.node_count))
       (all_ways (λ z O A W B. z && (O && (A && W) && A && (A && B)))
-      (λ z O A W B. W && z && (A && B) && O) refl (leb x 0) (owned o) A W (within a s.nodeCount))
+      (λ z O A W B. W && z && (A && B) && O) refl (leb x 0) (owned o) A W (within a s.node_count))
   line_tests o true true true h =
-      rw (same t, same a, same i, same x, own_tests o, sym (lower a s.nodeCount))
+      rw (same t, same a, same i, same x, own_tests o, sym (lower a s.node_count))
       (all_ways (λ x O A W B. O && (A && W) && x && (A && B))
-      (λ x O A W B. W && x && (A && B) && O) refl X (owned o) A W (within a s.nodeCount))
+      (λ x O A W B. W && x && (A && B) && O) refl X (owned o) A W (within a s.node_count))
   line_tests o false false false h =
       rw (
         same t,
@@ -185,8 +149,8 @@ module _ (s : Sizes) (t a i x own : ℕ) (tall : 1 ≤ s.levelCount) where
         zero_low x,
         le-leb 0 a (omega arith),
         le-leb 0 i (omega arith),
-        le-leb 0 (s.nodeCount + 1) (omega arith),
-        le-leb 1 s.levelCount tall,
+        le-leb 0 (s.node_count + 1) (omega arith),
+        le-leb 1 s.level_count tall,
         own_tests o,
       )
       (all_ways (λ a i x O u. a && (i && x) && (O && true && true && true))
@@ -199,8 +163,8 @@ module _ (s : Sizes) (t a i x own : ℕ) (tall : 1 ≤ s.levelCount) where
         zero_low i,
         le-leb 0 a (omega arith),
         le-leb 0 i (omega arith),
-        le-leb 0 (s.nodeCount + 1) (omega arith),
-        le-leb 1 s.levelCount tall,
+        le-leb 0 (s.node_count + 1) (omega arith),
+        le-leb 1 s.level_count tall,
         own_tests o,
       )
       (all_ways (λ a i x O u. a && (i && true) && (O && true && x && true))
@@ -305,74 +269,12 @@ module _ (t : ℕ) (low : t < 33) where
       go true p h e = e
       go false p h e = absurd (false≢true h)
 
-  pub owned_rest :
-      (t ≡ 0 → ⊥) → (t ≡ 11 → ⊥) → (t ≡ 12 → ⊥) → (t ≡ 13 → ⊥) → (t ≡ 27 → ⊥) →
-      (t ≡ 28 → ⊥) → (t ≡ 29 → ⊥) → (t ≡ 30 → ⊥) → (t ≡ 31 → ⊥) → (t ≡ 32 → ⊥) →
-      (row_at t).owns ≡ true
-  owned_rest n0 n11 n12 n13 n27 n28 n29 n30 n31 n32 =
-      subst (λ (b : Bool). b ≡ true)
-      (rw (
-        ne_eqb t 0 n0,
-        ne_eqb t 11 n11,
-        ne_eqb t 12 n12,
-        ne_eqb t 13 n13,
-        ne_eqb t 27 n27,
-        ne_eqb t 28 n28,
-        ne_eqb t 29 n29,
-        ne_eqb t 30 n30,
-        ne_eqb t 31 n31,
-        ne_eqb t 32 n32,
-      ) refl)
-      (every_at
-      (λ t. eqb t 0 || eqb t 11 || eqb t 12 || eqb t 13 || eqb t 27 || eqb t 28
-      || eqb t 29 || eqb t 30 || eqb t 31 || eqb t 32 || (row_at t).owns)
-      33 t refl low)
-
-  pub placed_rest : (t ≡ 0 → ⊥) → (t ≡ 9 → ⊥) → (t ≡ 10 → ⊥) → (t ≡ 15 → ⊥) → (t ≡ 25 → ⊥) →
-      (t ≡ 26 → ⊥) → (row_at t).placed ≡ true
-  placed_rest n0 n9 n10 n15 n25 n26 =
-      subst (λ (b : Bool). b ≡ true)
-      (rw (
-        ne_eqb t 0 n0,
-        ne_eqb t 9 n9,
-        ne_eqb t 10 n10,
-        ne_eqb t 15 n15,
-        ne_eqb t 25 n25,
-        ne_eqb t 26 n26,
-      ) refl)
-      (every_at
-      (λ t. eqb t 0 || eqb t 9 || eqb t 10 || eqb t 15 || eqb t 25 || eqb t 26 || (row_at t).placed)
-      33 t refl low)
-
-  pub releases_rest : (t ≡ 5 → ⊥) → (t ≡ 19 → ⊥) → (row_at t).releases ≡ false
-  releases_rest n5 n19 =
-      not-true (row_at t).releases
-      (subst (λ (b : Bool). b ≡ true) (rw (ne_eqb t 5 n5, ne_eqb t 19 n19) refl)
-      (every_at (λ t. eqb t 5 || eqb t 19 || not (row_at t).releases) 33 t refl low))
-
-  pub marks_rest : (t ≡ 13 → ⊥) → (t ≡ 28 → ⊥) → (t ≡ 32 → ⊥) → (row_at t).marks ≡ false
-  marks_rest n13 n28 n32 =
-      not-true (row_at t).marks
-      (subst (λ (b : Bool). b ≡ true) (rw (ne_eqb t 13 n13, ne_eqb t 28 n28, ne_eqb t 32 n32) refl)
-      (every_at (λ t. eqb t 13 || eqb t 28 || eqb t 32 || not (row_at t).marks) 33 t refl low))
-
-  -- the tags with a job, and those with a key
-  pub removed : (row_at t).removes ≡ (leb 14 t && leb t 26)
-  removed =
-      agrees (row_at t).removes (leb 14 t && leb t 26)
-      (every_at (λ t. agree (row_at t).removes (leb 14 t && leb t 26)) 33 t refl low)
-
-  pub sought_from : (row_at t).seeks ≡ leb 29 t
-  sought_from =
-      agrees (row_at t).seeks (leb 29 t)
-      (every_at (λ t. agree (row_at t).seeks (leb 29 t)) 33 t refl low)
-
   pub stage_tests :
-      (s : Sizes) (a i x job due ticket own : ℕ) → 1 ≤ s.levelCount →
+      (s : Sizes) (a i x job due ticket own : ℕ) → 1 ≤ s.level_count →
       (stage_taken (code t a i x job due ticket)
       && carried_valid s (carried (stage_of (code t a i x job due ticket))) own)
       ≡ (errand_in_bounds (row_at t) job due ticket
-      && in_bounds (row_at t) a i x own s.nodeCount s.levelCount)
+      && in_bounds (row_at t) a i x own s.node_count s.level_count)
   stage_tests s a i x job due ticket own tall =
       let c = code t a i x job due ticket in
       let r = row_at t in

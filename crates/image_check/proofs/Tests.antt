@@ -4,13 +4,15 @@ use mathlib.Core.Bool.{Bool, true, false, ◌&&◌, and-false}
 use mathlib.Core.List.{List}
 use Prim.Native.Nat.{ℕ, zero, suc, ◌+◌, ◌*◌, ◌≤◌, ◌<◌}
 use native.Mathlib.Omega.{arith}
-use lib.Dec.{leb}
+use lib.Dec.{eqb, leb}
 use lib.ListN.{length, get_or}
-use borrow.Author.Tests.{eq-eqb, ne_eqb, le-leb, lt-leb}
+use borrow.Author.Tests.{eq-eqb, eqb-true, eqb-false, ne_eqb, le-leb, lt-leb}
 use Rattle.laws.specs.Every.{every_below, all_at_most}
 use Rattle.laws.proofs.Counting.{and_left, and_right, and_both}
+use Rattle.record_check.specs.declared.check.Sizes.{Sizes}
 use Rattle.record_check.specs.Check.{within, stamp_valid, use_valid, sizes_of, sizes_valid, node_valid}
 use Rattle.record_check.specs.Check.{carried_valid, processor_valid, valid}
+use Rattle.record_check.proofs.SizeLaws.{sizes_bounds}
 use Rattle.image.specs.Tags.{Code, timed, stamp_of, stamp_taken, use_of, use_taken}
 use Rattle.image.specs.Tags.{stage_of, stage_taken}
 use Rattle.record.specs.declared.nodes.Node.{Node}
@@ -286,6 +288,26 @@ module _ (b : List ℕ) where
       (all_below (λ x. (read_node (node_part b x)).ok) (get_or b 1 0 + 2))
       (every_below (λ x. node_valid (sizes_of (queue_in b)) x (node_at (queue_in b) x))
       (get_or b 1 0 + 2)))
+
+  -- in the order of the code
+  pub tests_of :
+      (sizes_valid (sizes (get_or b 0 0) (get_or b 1 0) (get_or b 2 0) (number32 b 3))
+      && (eqb (length b) (length_of b)
+      && (every_below (processor_ok b) (get_or b 0 0) && every_below (node_ok b) (get_or b 1 0 + 2))))
+      ≡ passes_of b
+  tests_of = go (sizes_valid known) (eqb (length b) (length_of b)) refl refl
+    where
+      known : Sizes
+      known = sizes (get_or b 0 0) (get_or b 1 0) (get_or b 2 0) (number32 b 3)
+
+      go : (x y : Bool) → sizes_valid known ≡ x → eqb (length b) (length_of b) ≡ y →
+          (x && (y && (every_below (processor_ok b) (get_or b 0 0)
+          && every_below (node_ok b) (get_or b 1 0 + 2)))) ≡ passes_of b
+      go false y h k = outsized (sym h)
+      go true false h k = misfit (eqb-false (length b) (length_of b) k)
+      go true true h k =
+          let z = sizes_bounds known h in
+          all_tests (sym h) (eqb-true (length b) (length_of b) k) z.processors_high z.nodes_high
 
   -- bytes that pass are sound
   pub passes_sound : Bytes b → passes_of b ≡ true → Sound b

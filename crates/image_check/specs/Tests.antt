@@ -27,7 +27,7 @@ entry_test b o l clock =
     && within (get_or b (o + 35) 0) l
 
 abbrev pub sizes : ℕ → ℕ → ℕ → ℕ → Sizes
-sizes p n l clock = record { processorCount = p; nodeCount = n; levelCount = l; clock = clock }
+sizes p n l clock = record { processor_count = p; node_count = n; level_count = l; clock = clock }
 
 unfoldable pub node_ok : List ℕ → ℕ → Bool
 node_ok b x = (read_node (node_part b x)).ok && node_valid (sizes_of (queue_in b)) x (node_at (queue_in b) x)

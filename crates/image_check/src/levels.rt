@@ -8,13 +8,12 @@ ghost use Rattle.image.specs.Layout.{max_image_length};
 ghost use Rattle.record.specs.Limits.{max_levels};
 
 use image::node;
-use record::levels::both;
 
 // A number of slot k is at most top, or the slot is past l.
 fn slot_low(k: usize, l: usize, x: u8, top: u8) -> bool
     ensures { result ≡ (leb l k || leb x top) }
 {
-    if l <= k { true } else { x <= top }
+    l <= k || x <= top
 }
 
 // The first l of the eight numbers at o + j are at most top. All eight are read, which takes no
@@ -25,10 +24,8 @@ pub(crate) fn levels_low(b: &[u8], o: usize, j: usize, l: usize, top: u8) -> boo
     ensures { result ≡ every_below (λ (k : ℕ). leb (piece b.now o (j + k)) top) l }
 {
     let mut ok = true;
-    let mut k: usize = 0;
-    while k < 8 {
-        ok = both(ok, slot_low(k, l, b[o + (j + k)], top));
-        k = k + 1;
+    for k in 0..8 {
+        ok &= slot_low(k, l, b[o + (j + k)], top);
     }
     ok
 }
@@ -36,23 +33,25 @@ pub(crate) fn levels_low(b: &[u8], o: usize, j: usize, l: usize, top: u8) -> boo
 pub(crate) fn is_within(x: usize, top: usize) -> bool
     ensures { result ≡ within x top }
 {
-    both(1 <= x, x <= top)
+    1 <= x && x <= top
 }
 
 pub(crate) fn stamp_passes(tag: u8, time: u32, entry: bool, clock: u32) -> bool
     ensures { result ≡ (stamp_taken (timed tag time) && stamp_valid (stamp_of (timed tag time)) entry clock) }
 {
     if tag == node::STAMPED {
-        return both(entry, time <= clock);
+        entry && time <= clock
+    } else {
+        tag == 0 && time == 0
     }
-    both(tag == 0, time == 0)
 }
 
 pub(crate) fn use_passes(tag: u8, time: u32, clock: u32) -> bool
     ensures { result ≡ (use_taken (timed tag time) && use_valid (use_of (timed tag time)) clock) }
 {
     if tag == node::RETIRED {
-        return time <= clock;
+        time <= clock
+    } else {
+        tag <= node::IN_USE && time == 0
     }
-    both(tag <= node::IN_USE, time == 0)
 }

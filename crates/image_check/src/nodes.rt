@@ -10,7 +10,6 @@ use crate::levels::{is_within, levels_low, stamp_passes, use_passes};
 use image::layout::{HEADER, NODE_BYTES, PROCESSOR_BYTES};
 use image::numbers::number_from;
 use image::{header, node};
-use record::levels::both;
 use record::limits::MAX_NUMBER;
 
 // The links of the node at o, and its node lock.
@@ -19,11 +18,10 @@ fn links_pass(b: &[u8], o: usize, p: u8, n: u8, l: usize) -> bool
         × (n ≤ max_nodes) × (l ≤ max_levels) }
     ensures { result ≡ links_test b.now o p n l }
 {
-    let levels = both(
-        levels_low(b, o, node::FORWARD, l, n + 1),
-        levels_low(b, o, node::LEVEL_LOCKS, l, p),
-    );
-    both(levels, b[o + node::NODE_LOCK] <= p)
+    // Both are looked at: two tests that each end it take longer than one of all 16 numbers.
+    let levels = levels_low(b, o, node::FORWARD, l, n + 1)
+        & levels_low(b, o, node::LEVEL_LOCKS, l, p);
+    levels && b[o + node::NODE_LOCK] <= p
 }
 
 // The due minute, the item, the ticket and the height of the node at o.
@@ -31,12 +29,10 @@ fn entry_passes(b: &[u8], o: usize, l: usize, clock: u32) -> bool
     requires { (o + node_bytes ≤ length b.now) × (length b.now ≤ max_image_length) }
     ensures { result ≡ entry_test b.now o l clock }
 {
-    let low = both(
-        number_from(b, o + node::DUE) <= MAX_NUMBER,
-        number_from(b, o + node::ITEM) <= MAX_NUMBER,
-    );
-    let old = both(low, number_from(b, o + node::TICKET) <= clock);
-    both(old, is_within(b[o + node::HEIGHT] as usize, l))
+    number_from(b, o + node::DUE) <= MAX_NUMBER
+        && number_from(b, o + node::ITEM) <= MAX_NUMBER
+        && number_from(b, o + node::TICKET) <= clock
+        && is_within(b[o + node::HEIGHT] as usize, l)
 }
 
 // Node x: its bytes are ones that are written, and it passes check 21. Bytes mostly pass: each test
@@ -52,25 +48,16 @@ pub(crate) fn node_passes(b: &[u8], x: usize) -> bool
     let l = b[header::LEVEL_COUNT] as usize;
     let clock = number_from(b, header::CLOCK);
     let o = HEADER + PROCESSOR_BYTES * (p as usize) + NODE_BYTES * x;
-    if !links_pass(b, o, p, n, l) {
-        return false;
-    }
-    if !entry_passes(b, o, l, clock) {
-        return false;
-    }
-    if p < b[o + node::MARK] {
-        return false;
-    }
-    let entry = is_within(x, n as usize);
-    if !stamp_passes(
-        b[o + node::STAMP],
-        number_from(b, o + node::STAMP_TIME),
-        entry,
-        clock,
-    ) {
-        return false;
-    }
-    use_passes(b[o + node::USE], number_from(b, o + node::USE_TIME), clock)
+    links_pass(b, o, p, n, l)
+        && entry_passes(b, o, l, clock)
+        && b[o + node::MARK] <= p
+        && stamp_passes(
+            b[o + node::STAMP],
+            number_from(b, o + node::STAMP_TIME),
+            is_within(x, n as usize),
+            clock,
+        )
+        && use_passes(b[o + node::USE], number_from(b, o + node::USE_TIME), clock)
 }
 
 pub(crate) fn nodes_pass(b: &[u8]) -> bool
@@ -79,12 +66,5 @@ pub(crate) fn nodes_pass(b: &[u8]) -> bool
     ensures { result ≡ every_below (node_ok b.now) (get_or b.now 1 0 + 2) }
 {
     let end = (b[header::NODE_COUNT] as usize) + 2;
-    let mut x: usize = 0;
-    while x < end {
-        if !node_passes(b, x) {
-            return false;
-        }
-        x = x + 1;
-    }
-    true
+    (0..end).all(|x| node_passes(b, x))
 }

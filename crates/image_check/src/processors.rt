@@ -6,7 +6,7 @@ ghost use Rattle.image_check.specs.Tests.{processor_ok};
 ghost use Rattle.record.specs.Limits.{max_levels, max_nodes, max_processors};
 
 use crate::levels::levels_low;
-use crate::tags::{errand_passes, stage_passes};
+use crate::tags::{Tag, errand_passes, stage_passes};
 use image::layout::{HEADER, PROCESSOR_BYTES};
 use image::numbers::number_from;
 use image::{header, processor, tag};
@@ -27,10 +27,11 @@ pub(crate) fn processor_passes(b: &[u8], p: usize) -> bool
     if !levels_low(b, at, processor::SAVED, l as usize, n + 1) {
         return false;
     }
-    let tag = b[at + processor::TAG] as usize;
-    if tag::COUNT <= tag {
+    let number = b[at + processor::TAG] as usize;
+    if tag::COUNT <= number {
         return false;
     }
+    let tag = Tag { number };
     let due = number_from(b, at + processor::WANTED_DUE);
     let ticket = number_from(b, at + processor::WANTED_TICKET);
     if !errand_passes(tag, b[at + processor::JOB], due, ticket) {
@@ -54,12 +55,5 @@ pub(crate) fn processors_pass(b: &[u8]) -> bool
     ensures { result ≡ every_below (processor_ok b.now) (get_or b.now 0 0) }
 {
     let end = b[header::PROCESSOR_COUNT] as usize;
-    let mut p: usize = 0;
-    while p < end {
-        if !processor_passes(b, p) {
-            return false;
-        }
-        p = p + 1;
-    }
-    true
+    (0..end).all(|p| processor_passes(b, p))
 }

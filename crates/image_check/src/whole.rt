@@ -10,7 +10,6 @@ use crate::processors::processors_pass;
 use image::header;
 use image::layout::{HEADER, NODE_BYTES, image_length};
 use image::numbers::number_from;
-use record::levels::both;
 use record::limits::{MAX_LEVELS, MAX_NODES, MAX_NUMBER, MAX_PROCESSORS};
 
 // Fewer bytes are no image: these are the sizes, the clock, the head and the tail.
@@ -19,14 +18,10 @@ const SHORTEST: usize = HEADER + 2 * NODE_BYTES;
 fn sizes_pass(p: u8, n: u8, l: u8, clock: u32) -> bool
     ensures { result ≡ sizes_valid (sizes p n l clock) }
 {
-    let few = both(
-        is_within(p as usize, MAX_PROCESSORS as usize),
-        is_within(n as usize, MAX_NODES as usize),
-    );
-    both(
-        both(few, is_within(l as usize, MAX_LEVELS as usize)),
-        clock <= MAX_NUMBER,
-    )
+    is_within(p as usize, MAX_PROCESSORS as usize)
+        && is_within(n as usize, MAX_NODES as usize)
+        && is_within(l as usize, MAX_LEVELS as usize)
+        && clock <= MAX_NUMBER
 }
 
 // The bytes are the image of a record that passes check 21.
@@ -40,11 +35,8 @@ pub fn passes(image: &[u8]) -> bool
     let p = image[header::PROCESSOR_COUNT];
     let n = image[header::NODE_COUNT];
     let l = image[header::LEVEL_COUNT];
-    if !sizes_pass(p, n, l, number_from(image, header::CLOCK)) {
-        return false;
-    }
-    if length != image_length(p, n) {
-        return false;
-    }
-    both(processors_pass(image), nodes_pass(image))
+    sizes_pass(p, n, l, number_from(image, header::CLOCK))
+        && length == image_length(p, n)
+        && processors_pass(image)
+        && nodes_pass(image)
 }

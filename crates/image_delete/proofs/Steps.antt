@@ -1,16 +1,17 @@
 -- What each stage of a walk stores is what the definition says. W1 and W3 are a Delete_Min's (w is
 -- false) and a Relaxed one's (w is true). Assumes nothing.
 use mathlib.Core.Path.{◌≡◌, refl, ◌∙◌, ap}
-use mathlib.Core.Bool.{Bool}
+use mathlib.Core.Bool.{Bool, true, false}
 use mathlib.Core.List.{List, [], ◌∷◌, ◌++◌}
-use Prim.Native.Nat.{ℕ, ◌+◌, ◌*◌, ◌≤◌, ◌<◌}
+use Prim.Native.Nat.{ℕ, ◌+◌, ◌*◌}
 use native.Mathlib.Omega.{arith}
 use lib.ListN.{get_or}
-use borrow.Author.Tests.{eq-eqb, ne_eqb, lt-ltb, le-ltb}
+use borrow.Author.Tests.{eq-eqb, ne_eqb, lt-ltb}
 use Rattle.record.specs.declared.stages.Removal.TheVariants as rem
 use Rattle.record.specs.declared.stages.Job.TheVariants as jobs
 use Rattle.record.specs.declared.stages.Delete.TheVariants as del
 use Rattle.record.specs.declared.stages.Stage.TheVariants as stage
+use Rattle.record.specs.Nodes.{stamped_before}
 use Rattle.record.specs.Queues.{node_at, processor_at}
 use Rattle.record.specs.Stages.{place}
 use Rattle.image.specs.Numbers.{number32}
@@ -24,13 +25,14 @@ use Rattle.rules.specs.Decide.{moved, answers, removing}
 use Rattle.image.specs.Puts.{puts, four, clears, rests}
 use Rattle.image.specs.Image.{queue_in}
 use Rattle.image_parts.specs.Given.{Stepped}
+use Rattle.image_parts.specs.Reads.{entry_in, stamp_in}
 use Rattle.image_parts.specs.Ready.{Walked}
 use Rattle.image_parts.proofs.Pieces.{moves, put_mark}
 use Rattle.image_parts.proofs.Pieces.{put_idle}
 use Rattle.rules.specs.declared.decisions.ProcessorChange.TheVariants as change
 use Rattle.image.proofs.Sizes.{sized_in}
 use Rattle.image_parts.proofs.Readings.{mine, arm, levels_is, clears_below, fits_below}
-use Rattle.image_parts.proofs.Readings.{entry_in, entry_is}
+use Rattle.image_parts.proofs.Readings.{entry_is}
 use Rattle.image_parts.proofs.Walks.{after_is, stamped_is, marked_is, entries_is}
 use Rattle.image_delete.proofs.Tags.{reading, setting, onto, read_tag, set_tag, onto_tag}
 use Rattle.image_delete.proofs.Tags.{read_tag_lem, set_tag_lem, read_busy, set_busy, read_ends}
@@ -90,13 +92,16 @@ module _ (w : Bool) (b : List ℕ) (base p : ℕ) (r : Walked b base p (read_tag
 
 -- W2
 module _ (b : List ℕ) (base p : ℕ) (r : Walked b base p 12) (after : List ℕ) (answer : Answer) where
-  pub stamp_none :
-      (get_or b (base + 41 * mine b p 6 + 18) 0 ≡ 1 → ⊥) →
+  abbrev stamped : Bool
+  stamped = stamped_before (stamp_in b (base + 41 * mine b p 6)) (number32 b (7 + 26 * p + 0))
+
+  pub stamp_misses :
+      stamped ≡ false →
       after ≡ puts (puts b 0 (four 3 (number32 b 3 + 1))) (7 + 26 * p) ((5, 11) ∷ []) →
       answer ≡ ans.Moved →
       Stepped b p after answer
   unfolding processor_image
-  stamp_none h e f =
+  stamp_misses h e f =
       let q = queue_in b in
       let c = processor_at q p in
       let a = place (mine b p 6) (mine b p 7) in
@@ -104,37 +109,17 @@ module _ (b : List ℕ) (base p : ℕ) (r : Walked b base p 12) (after : List �
       arm b base p 12 r.sound r.start r.nodes_high r.processors_high r.low
       r.few r.early r.tagged (stage.Delete (del.TestStamp a)) refl refl
       (moved s eff.Keep (stage.Delete (del.ReadNext a)))
-      (rw (stamped_is b base p 12 r, ne_eqb _ _ h) refl)
+      (rw (stamped_is b base p 12 r, h) refl)
       ([]) ((5, 11) ∷ []) (omega arith) tt (omega arith, tt)
       (refl) (refl) after e answer f
 
-  pub stamp_late :
-      get_or b (base + 41 * mine b p 6 + 18) 0 ≡ 1 →
-      number32 b (7 + 26 * p + 0) ≤ number32 b (base + 41 * mine b p 6 + 19) →
-      after ≡ puts (puts b 0 (four 3 (number32 b 3 + 1))) (7 + 26 * p) ((5, 11) ∷ []) →
-      answer ≡ ans.Moved →
-      Stepped b p after answer
-  unfolding processor_image
-  stamp_late h l e f =
-      let q = queue_in b in
-      let c = processor_at q p in
-      let a = place (mine b p 6) (mine b p 7) in
-      let s = step_view_of q c (place (mine b p 6) 1) in
-      arm b base p 12 r.sound r.start r.nodes_high r.processors_high r.low
-      r.few r.early r.tagged (stage.Delete (del.TestStamp a)) refl refl
-      (moved s eff.Keep (stage.Delete (del.ReadNext a)))
-      (rw (stamped_is b base p 12 r, eq-eqb _ _ h, le-ltb _ _ l) refl)
-      ([]) ((5, 11) ∷ []) (omega arith) tt (omega arith, tt)
-      (refl) (refl) after e answer f
-
-  pub stamp_early :
-      get_or b (base + 41 * mine b p 6 + 18) 0 ≡ 1 →
-      number32 b (base + 41 * mine b p 6 + 19) < number32 b (7 + 26 * p + 0) →
+  pub stamp_passes :
+      stamped ≡ true →
       after ≡ puts (puts b 0 (four 3 (number32 b 3 + 1))) (7 + 26 * p) ((5, 13) ∷ []) →
       answer ≡ ans.Moved →
       Stepped b p after answer
   unfolding processor_image
-  stamp_early h l e f =
+  stamp_passes h e f =
       let q = queue_in b in
       let c = processor_at q p in
       let a = place (mine b p 6) (mine b p 7) in
@@ -142,7 +127,7 @@ module _ (b : List ℕ) (base p : ℕ) (r : Walked b base p 12) (after : List �
       arm b base p 12 r.sound r.start r.nodes_high r.processors_high r.low
       r.few r.early r.tagged (stage.Delete (del.TestStamp a)) refl refl
       (moved s eff.Keep (stage.Delete (del.SetMark a)))
-      (rw (stamped_is b base p 12 r, eq-eqb _ _ h, lt-ltb _ _ l) refl)
+      (rw (stamped_is b base p 12 r, h) refl)
       ([]) ((5, 13) ∷ []) (omega arith) tt (omega arith, tt)
       (refl) (refl) after e answer f
 

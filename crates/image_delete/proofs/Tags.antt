@@ -73,7 +73,7 @@ module _ (see : Place → StepView) (a : Place) where
   abbrev s : StepView
   s = see (place a.node 1)
 
-  pub read_ends : (w : Bool) → s.nextIsTail ≡ true →
+  pub read_ends : (w : Bool) → s.next_is_tail ≡ true →
       decide (see (reading_place (reading w a))) (reading w a) ≡ answers eff.Keep ans.Empty
   read_ends true h = rw h refl
   read_ends false h = rw h refl
@@ -83,7 +83,7 @@ module _ (see : Place → StepView) (a : Place) where
   either true g h = refl
   either false g h = refl
 
-  pub read_goes : (w : Bool) → s.nextIsTail ≡ false →
+  pub read_goes : (w : Bool) → s.next_is_tail ≡ false →
       decide (see (reading_place (reading w a))) (reading w a)
       ≡ moved s eff.Keep (onto w s.next)
   read_goes true h =

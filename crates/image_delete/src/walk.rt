@@ -10,7 +10,8 @@ ghost use Rattle.image_parts.specs.Ready.{Walked};
 use image::layout::{HEADER, NODE_BYTES, PROCESSOR_BYTES};
 use image::numbers::{clear, number_from, tick};
 use image::{header, node, processor, tag};
-use rules::{Answer, Deed, Entry};
+use image_parts::reads::{entry_at, stamped_before};
+use rules::{Answer, Deed};
 
 // The tag of W1.
 fn read_tag(relaxed: bool) -> u8
@@ -31,13 +32,13 @@ fn next_tag(relaxed: bool, x: u8) -> u8
         (cond (eqb x 0) (relaxed_tag (rlx.ReadNext anywhere)) (relaxed_tag (rlx.SetMark anywhere)))
         (delete_tag (del.TestStamp anywhere)) }
 {
-    if relaxed {
-        if x == 0 {
-            return tag::RELAXED_READ_NEXT;
-        }
-        return tag::RELAXED_SET_MARK;
+    if !relaxed {
+        tag::TEST_STAMP
+    } else if x == 0 {
+        tag::RELAXED_READ_NEXT
+    } else {
+        tag::RELAXED_SET_MARK
     }
-    tag::TEST_STAMP
 }
 
 // W1.
@@ -56,8 +57,7 @@ pub fn read_next(image: &mut [u8], base: usize, p: usize, relaxed: bool) -> Answ
         clear(image, at, l);
         return Answer::Empty;
     }
-    let goes = next_tag(relaxed, x);
-    image[at + processor::TAG] = goes;
+    image[at + processor::TAG] = next_tag(relaxed, x);
     image[at + processor::PLACE] = x;
     image[at + processor::LEVEL] = 1;
     Answer::Moved
@@ -72,18 +72,13 @@ pub fn test_stamp(image: &mut [u8], base: usize, p: usize) -> Answer
     let a = image[at + processor::PLACE];
     let here = base + NODE_BYTES * (a as usize);
     let begin = number_from(image, at + processor::BEGIN);
-    let t = image[here + node::STAMP];
-    let u = number_from(image, here + node::STAMP_TIME);
+    let stamped = stamped_before(image, here, begin);
     tick(image);
-    if t != 1 {
-        image[at + processor::TAG] = tag::READ_NEXT;
-        return Answer::Moved;
-    }
-    if begin <= u {
-        image[at + processor::TAG] = tag::READ_NEXT;
-        return Answer::Moved;
-    }
-    image[at + processor::TAG] = tag::SET_MARK;
+    image[at + processor::TAG] = if stamped {
+        tag::SET_MARK
+    } else {
+        tag::READ_NEXT
+    };
     Answer::Moved
 }
 
@@ -99,27 +94,16 @@ pub fn set_mark(image: &mut [u8], base: usize, p: usize, relaxed: bool) -> Answe
     let here = base + NODE_BYTES * (a as usize);
     let m = image[here + node::MARK];
     if m != node::UNMARKED {
-        let back = read_tag(relaxed);
         tick(image);
-        image[at + processor::TAG] = back;
+        image[at + processor::TAG] = read_tag(relaxed);
         return Answer::Moved;
     }
-    let due = number_from(image, here + node::DUE);
-    let ticket = number_from(image, here + node::TICKET);
-    let item = number_from(image, here + node::ITEM);
-    let h = (p as u8) + 1;
+    let entry = entry_at(image, here);
     tick(image);
-    image[here + node::MARK] = h;
+    image[here + node::MARK] = p as u8 + 1;
     image[at + processor::OWN] = a;
     image[at + processor::TAG] = tag::REMOVAL_SEARCH;
     image[at + processor::PLACE] = 0;
     image[at + processor::LEVEL] = l;
-    Answer::Did(
-        Deed::Marked,
-        Entry {
-            due: due,
-            item: item,
-            ticket: ticket,
-        },
-    )
+    Answer::Did(Deed::Marked, entry)
 }

@@ -22,12 +22,13 @@ use Rattle.rules.specs.Decide.{moved, answers}
 use Rattle.image.specs.Puts.{puts, four, clears, rests}
 use Rattle.image.specs.Image.{queue_in}
 use Rattle.image_parts.specs.Given.{Stepped}
+use Rattle.image_parts.specs.Reads.{entry_in}
 use Rattle.image_parts.specs.Ready.{Placed, Owned}
-use Rattle.image_parts.proofs.Pieces.{moves, put_forward, put_lock, put_holder, put_stamp, put_idle}
+use Rattle.image_parts.proofs.Pieces.{moves, put_forward, put_lock, put_stamp, put_idle}
 use Rattle.image.proofs.Sizes.{sized_in}
 use Rattle.image_parts.proofs.Readings.{mine, onward, arm, clock_is, levels_is, clears_below}
 use Rattle.image_parts.proofs.Readings.{own_is, next_is, height_is, up_is, mine_is, own_low}
-use Rattle.image_parts.proofs.Readings.{entry_in, entry_is, fits_below}
+use Rattle.image_parts.proofs.Readings.{entry_is, fits_below}
 
 -- I1
 module _ (b : List ℕ) (base p : ℕ) (r : Placed b base p 6) (after : List ℕ) (answer : Answer) where
@@ -140,26 +141,7 @@ module _ (b : List ℕ) (base p : ℕ) (r : Placed b base p 8) (after : List ℕ
       (put_lock (node_at q (mine b p 6)) (mine b p 7 - 1) 0 [] k<
       ((sized_in b).locks_long (mine b p 6) (omega (arith, r.node_low)))) refl after e answer f
 
--- I4 and I5
-module _ (b : List ℕ) (base p : ℕ) (r : Owned b base p 9) (after : List ℕ) (answer : Answer) where
-  pub frees_node :
-      after ≡ puts
-      (puts (puts b 0 (four 3 (number32 b 3 + 1))) (base + 41 * mine b p 4) ((16, 0) ∷ []))
-      (7 + 26 * p) ((5, 10) ∷ []) →
-      answer ≡ ans.Moved →
-      Stepped b p after answer
-  unfolding processor_image
-  frees_node e f =
-      let q = queue_in b in
-      let c = processor_at q p in
-      let s = step_view_of q c (place 0 1) in
-      arm b base p 9 r.sound r.start r.nodes_high r.processors_high r.low r.few
-      r.early r.tagged (stage.Insert ins.FreeNode) refl refl
-      (moved s (eff.FreeNode (mine b p 4)) (stage.Insert ins.Stamp))
-      (ap (λ (x : ℕ). moved s (eff.FreeNode x) (stage.Insert ins.Stamp)) (mine_is b base p 9 r))
-      ((16, 0) ∷ []) ((5, 10) ∷ []) (own_low b base p 9 r) (omega arith, tt) (omega arith, tt)
-      (put_holder (node_at q (mine b p 4)) 0) refl after e answer f
-
+-- I5
 module _ (b : List ℕ) (base p : ℕ) (r : Owned b base p 10) (after : List ℕ) (answer : Answer) where
   pub stamps :
       after ≡ puts

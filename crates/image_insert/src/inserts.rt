@@ -1,5 +1,5 @@
-// The stages of an Insert after its Lock-seek, in place: each reads what this stage reads, and
-// stores what it changes.
+// The stages of an Insert after its Lock-seek, in place, but for I4, which a removal has too
+// (image_walks): each reads what this stage reads, and stores what it changes.
 ghost use Rattle.record.specs.declared.stages.Insert.TheVariants as ins;
 ghost use Rattle.image.specs.Tags.{anywhere, insert_tag};
 ghost use Rattle.image_parts.specs.Given.{Stepped};
@@ -8,7 +8,8 @@ ghost use Rattle.image_parts.specs.Ready.{Placed, Owned};
 use image::layout::{HEADER, NODE_BYTES, PROCESSOR_BYTES};
 use image::numbers::{clear, number_from, put_number, tick};
 use image::{header, node, processor, tag};
-use rules::{Answer, Deed, Entry};
+use image_parts::reads::entry_at;
+use rules::{Answer, Deed};
 
 // I1.
 pub fn copy(image: &mut [u8], base: usize, p: usize) -> Answer
@@ -43,7 +44,7 @@ pub fn link(image: &mut [u8], base: usize, p: usize) -> Answer
     Answer::Moved
 }
 
-// I3.
+// I3. It goes up, to the height of its own node; L6 goes down, and so is a function of its own.
 pub fn free_level(image: &mut [u8], base: usize, p: usize) -> Answer
     requires { Placed image.old base p (insert_tag (ins.FreeLevel anywhere)) }
     ensures { Stepped image.old p image.new result }
@@ -71,19 +72,6 @@ pub fn free_level(image: &mut [u8], base: usize, p: usize) -> Answer
     Answer::Moved
 }
 
-// I4.
-pub fn free_node(image: &mut [u8], base: usize, p: usize) -> Answer
-    requires { Owned image.old base p (insert_tag ins.FreeNode) }
-    ensures { Stepped image.old p image.new result }
-{
-    let at = HEADER + PROCESSOR_BYTES * p;
-    let own = image[at + processor::OWN];
-    tick(image);
-    image[base + NODE_BYTES * (own as usize) + node::NODE_LOCK] = 0;
-    image[at + processor::TAG] = tag::STAMP;
-    Answer::Moved
-}
-
 // I5.
 pub fn stamp(image: &mut [u8], base: usize, p: usize) -> Answer
     requires { Owned image.old base p (insert_tag ins.Stamp) }
@@ -93,20 +81,11 @@ pub fn stamp(image: &mut [u8], base: usize, p: usize) -> Answer
     let own = image[at + processor::OWN];
     let l = image[header::LEVEL_COUNT] as usize;
     let here = base + NODE_BYTES * (own as usize);
-    let due = number_from(image, here + node::DUE);
-    let ticket = number_from(image, here + node::TICKET);
-    let item = number_from(image, here + node::ITEM);
+    let entry = entry_at(image, here);
     let t = number_from(image, header::CLOCK) + 1;
     tick(image);
     image[here + node::STAMP] = node::STAMPED;
     put_number(image, here, node::STAMP_TIME, t);
     clear(image, at, l);
-    Answer::Did(
-        Deed::Inserted,
-        Entry {
-            due: due,
-            item: item,
-            ticket: ticket,
-        },
-    )
+    Answer::Did(Deed::Inserted, entry)
 }

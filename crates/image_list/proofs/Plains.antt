@@ -2,13 +2,12 @@
 use mathlib.Core.Path.{◌≡◌, refl, sym, ap, ◌∙◌}
 use mathlib.Core.Bool.{true, false}
 use mathlib.Core.List.{List, [], ◌∷◌, ◌++◌}
-use Prim.Native.Nat.{ℕ, zero, suc, ◌+◌, ◌*◌, ◌/◌, ◌≤◌, ◌<◌}
+use Prim.Native.Nat.{ℕ, zero, suc, ◌+◌, ◌*◌, ◌≤◌, ◌<◌}
 use native.Mathlib.Numerals.{add-one}
 use native.Mathlib.Omega.{arith}
-use lib.Dec.{ltb, eqb}
+use lib.Dec.{eqb}
 use lib.ListN.{length, length-set}
-use borrow.Author.Tests.{ltb-true, ltb-false, ne_eqb}
-use Rattle.laws.proofs.Booleans.{cond_cases}
+use borrow.Author.Tests.{ne_eqb}
 use Rattle.record.specs.declared.queues.Queue.{Queue}
 use Rattle.record.specs.Queues.{fresh_queue}
 use Rattle.rules.specs.declared.answers.Answer.{Answer}
@@ -20,7 +19,7 @@ use Rattle.rules.proofs.Demand3.{demand_three}
 use Rattle.rules.specs.declared.answers.PlainAnswer.{PlainAnswer}
 use Rattle.rules.specs.Answers.{plain_of}
 use Rattle.image_list.specs.Plain.{call_from, call_at, calls_to, record_to, put}
-use Rattle.image_list.specs.Plain.{written_to, smaller, turns}
+use Rattle.image_list.specs.Plain.{written_to, turns}
 use Rattle.image_list.specs.InPlace.{list_code, bytes_after_list, answers_after_list, ListAgrees}
 use Rattle.image.specs.Image.{image_of, queue_in, start_of, passes_of, Sound}
 use Rattle.image.specs.Numbers.{number32}
@@ -89,22 +88,6 @@ image_at q l n b s h = sym s.image ∙ ap image_of h
 pub put_length : (a b : List ℕ) (i clock n : ℕ) (t : PlainAnswer) → b ≡ put a i t clock → length a ≡ n →
     length b ≡ n
 put_length a b i clock n t e h = ap length e ∙ (simp length-set refl ∙ h)
-
--- how many calls are run
-smaller_left : (x y : ℕ) → smaller x y ≤ x
-smaller_left x y =
-    cond_cases (λ (z : ℕ). z ≤ x) (ltb x y) x y (λ h. omega arith) (λ h. ltb-false x y h)
-
-smaller_right : (x y : ℕ) → smaller x y ≤ y
-smaller_right x y =
-    cond_cases (λ (z : ℕ). z ≤ y) (ltb x y) x y (λ h. omega (arith, ltb-true x y h))
-    (λ h. omega arith)
-
-pub turns_calls : (e x y : ℕ) → e ≡ smaller (x / 5) (y / 5) → e * 5 ≤ x
-turns_calls e x y h = omega (arith, smaller_left (x / 5) (y / 5))
-
-pub turns_answers : (e x y : ℕ) → e ≡ smaller (x / 5) (y / 5) → e * 5 ≤ y
-turns_answers e x y h = omega (arith, smaller_right (x / 5) (y / 5))
 
 -- the whole list
 module _ (b l a : List ℕ) where

@@ -2,7 +2,7 @@
 -- height; of an answer its number, three values and the clock after the call. Kind 1 begins an
 -- Insert, kind 2 a Delete_Min, kind 4 a Relaxed one, kind 5 a Remove, whose ticket stands in the
 -- place of the item; 3 and every other kind is a step.
-use Rattle.std.specs.Prelude.{ℕ, zero, suc, ◌+◌, ◌*◌, ◌/◌, cond, List, [], ◌∷◌, ◌++◌, ltb, eqb, length, get_or, set}
+use Rattle.std.specs.Prelude.{ℕ, zero, suc, ◌+◌, ◌*◌, ◌/◌, cond, List, [], ◌∷◌, ◌++◌, eqb, length, get_or, set, min}
 use Rattle.record.specs.declared.queues.Queue.{Queue}
 use Rattle.rules.specs.declared.answers.PlainAnswer.{PlainAnswer}
 use Rattle.rules.specs.Answers.{plain_of}
@@ -52,9 +52,6 @@ written_to q l a (suc k) =
     put (written_to q l a k) (k * 5) (plain_of (called (record_to q l k) (call_at l k)).answer)
     (record_to q l (suc k)).clock
 
-abbrev pub smaller : ℕ → ℕ → ℕ
-smaller x y = cond (ltb x y) x y
-
 -- how many calls are run: those that both lists have five numbers for
 abbrev pub turns : List ℕ → List ℕ → ℕ
-turns l a = smaller (length l / 5) (length a / 5)
+turns l a = min (length l / 5) (length a / 5)

@@ -5,7 +5,6 @@ ghost use Rattle.image.specs.Image.{image_of, queue_in, start_of, Sound};
 ghost use Rattle.image_parts.specs.Given.{Called};
 ghost use Rattle.rules.specs.Answers.{plain_of};
 ghost use Rattle.image_list.specs.Plain.{call_from, put as put_of};
-ghost use Rattle.image_list.specs.Plain.{smaller as smaller_of};
 ghost use Rattle.image_list.specs.Plain.{record_to, written_to, turns};
 
 use image::header;
@@ -44,6 +43,7 @@ fn turn(image: &mut [u8], base: usize, calls: &[u32], i: usize) -> Answer
     step_from(image, base, p)
 }
 
+// One by one, since every call of a list comes here.
 fn put(answers: &mut [u32], i: usize, r: PlainAnswer, clock: u32)
     requires { i + 5 ≤ length answers.old }
     ensures { answers.new ≡ put_of answers.old i r clock }
@@ -67,12 +67,6 @@ fn put_answer(answers: &mut [u32], i: usize, a: Answer, clock: u32)
     }
 }
 
-fn smaller(x: usize, y: usize) -> usize
-    ensures { result ≡ smaller_of x y }
-{
-    if x < y { x } else { y }
-}
-
 // Every call of the list that both lists have five numbers for, one after the other.
 pub fn run_calls(image: &mut [u8], calls: &[u32], answers: &mut [u32])
     requires { Sound image.old }
@@ -84,13 +78,11 @@ pub fn run_calls(image: &mut [u8], calls: &[u32], answers: &mut [u32])
         ≡ written_to (queue_in image.old) calls.now answers.old
         (turns calls.now answers.old) }
 {
-    let end = smaller(calls.len() / 5, answers.len() / 5);
+    let end = (calls.len() / 5).min(answers.len() / 5);
     let base = HEADER + PROCESSOR_BYTES * (image[header::PROCESSOR_COUNT] as usize);
-    let mut i: usize = 0;
-    while i < end {
+    for i in 0..end {
         let from = i * 5;
         let r = turn(image, base, calls, from);
         put_answer(answers, from, r, number_from(image, header::CLOCK));
-        i = i + 1;
     }
 }

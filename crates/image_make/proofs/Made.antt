@@ -2,9 +2,13 @@
 -- Assumes nothing.
 use mathlib.Core.Path.{◌≡◌, refl, sym, ◌∙◌, ap}
 use mathlib.Core.List.{List, [], ◌∷◌, ◌++◌}
-use Prim.Native.Nat.{ℕ, ◌+◌, ◌*◌, ◌≤◌}
+use Prim.Native.Nat.{ℕ, zero, suc, ◌+◌, ◌-◌, ◌*◌, ◌≤◌}
+use native.Mathlib.Numerals.{add-one}
 use native.Mathlib.Omega.{arith}
-use lib.ListN.{length, set}
+use borrow.Rule.Slice.PartMut.{put_mid}
+use lib.ListN.{length, set, replicate}
+use lib.Seq.{sets}
+use Rattle.std.proofs.lemmas.List.{length-replicate, replicate_more}
 use Rattle.record.specs.declared.queues.Queue.{Queue}
 use Rattle.record.specs.Nodes.{fresh_node}
 use Rattle.record.specs.Queues.{fresh_processor, fresh_queue, node_at, processor_at}
@@ -19,22 +23,27 @@ use Rattle.image.proofs.Inverse.{read_write}
 use Rattle.image.proofs.Lengths.{length_node, length_processor, headed, length_front, length_image}
 use Rattle.image.proofs.Lists.{joined_next, none_joined}
 use Rattle.image.proofs.Parts.{joined_same}
-use Rattle.image.proofs.Places.{next, written_none, written_one, written_whole}
+use Rattle.image.proofs.Places.{next, written_none, written_whole}
+use Rattle.image.proofs.Runs.{put_mid-sets}
 use Rattle.image_parts.proofs.Arrays.{fresh_sized}
 use Rattle.image_parts.proofs.Reached.{processor_fresh, node_fresh, fresh_trim}
 use Rattle.image_make.specs.Fresh.{repeated, fresh_processors, fresh_nodes}
 
--- one more byte
-pub none_repeated : (b : List ℕ) (o v : ℕ) → b ≡ stored_at b o (repeated v 0)
-none_repeated b o v = rw (none_joined (λ (k : ℕ). v ∷ [])) (written_none b o)
+-- n bytes that were written at once
+repeated_is : (v n : ℕ) → replicate n v ≡ repeated v n
+unfolding joined
+repeated_is v zero = refl
+repeated_is v (suc n) =
+    ap (λ (k : ℕ). replicate k v) (sym (add-one n)) ∙ sym (replicate_more n v)
+    ∙ ap (λ (r : List ℕ). r ++ (v ∷ [])) (repeated_is v n)
 
-pub one_repeated :
-    (a l : List ℕ) (o k v : ℕ) → l ≡ stored_at a o (repeated v k) →
-    set l (o + k) v ≡ stored_at a o (repeated v (k + 1))
-one_repeated a l o k v h =
-    let z : 1 * k ≡ k = omega arith in
-    joined_next (λ (k : ℕ). v ∷ []) 1 (λ k. refl) o k a l (set l (o + k) v)
-    (written_one l (o + k) v ∙ ap (λ (i : ℕ). stored_at l (o + i) (v ∷ [])) (sym z)) h
+pub filled : (b ys : List ℕ) (o n k v : ℕ) → ys ≡ replicate k v → k ≡ n → o + n ≤ length b →
+    put_mid o (o + n - o) b ys ≡ stored_at b o (repeated v n)
+unfolding stored_at
+filled b ys o n k v is long high =
+    let e : o + length ys ≡ o + n = omega (arith, ap length is, length-replicate {A = ℕ} k v) in
+    put_mid-sets b ys o (o + n) e high
+    ∙ ap (sets b o) (is ∙ ap (λ (i : ℕ). replicate i v) long ∙ repeated_is v n)
 
 -- one more processor and one more node
 pub none_called : (b : List ℕ) → b ≡ stored_at b 7 (fresh_processors 0)

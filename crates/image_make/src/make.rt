@@ -18,11 +18,7 @@ fn repeat(b: &mut [u8], o: usize, n: usize, v: u8)
     requires { (o + n ≤ length b.old) × (length b.old ≤ max_image_length) }
     ensures { b.new ≡ stored_at b.old o (repeated v n) }
 {
-    let mut k: usize = 0;
-    while k < n {
-        b[o + k] = v;
-        k = k + 1;
-    }
+    b[o..o + n].fill(v);
 }
 
 // The sizes, and the clock at 0.
@@ -33,7 +29,7 @@ fn put_header(b: &mut [u8], p: u8, n: u8, l: u8)
     b[header::PROCESSOR_COUNT] = p;
     b[header::NODE_COUNT] = n;
     b[header::LEVEL_COUNT] = l;
-    repeat(b, 3, 4, 0);
+    repeat(b, header::CLOCK, 4, 0);
 }
 
 // The first n processors, idle.
@@ -41,10 +37,8 @@ fn put_processors(b: &mut [u8], n: usize)
     requires { (processor_start n ≤ length b.old) × (length b.old ≤ max_image_length) }
     ensures { b.new ≡ stored_at b.old header_bytes (fresh_processors n) }
 {
-    let mut p: usize = 0;
-    while p < n {
+    for p in 0..n {
         repeat(b, HEADER + PROCESSOR_BYTES * p, PROCESSOR_BYTES, 0);
-        p = p + 1;
     }
 }
 
@@ -64,10 +58,8 @@ fn put_nodes(b: &mut [u8], base: usize, n: usize, tail: u8)
     requires { (base + node_bytes * n ≤ length b.old) × (length b.old ≤ max_image_length) }
     ensures { b.new ≡ stored_at b.old base (fresh_nodes tail n) }
 {
-    let mut x: usize = 0;
-    while x < n {
+    for x in 0..n {
         put_node(b, base + NODE_BYTES * x, tail);
-        x = x + 1;
     }
 }
 

@@ -23,6 +23,6 @@ module _ (b : List ℕ) (s : Sound b) (x : ℕ) (low : x ≤ get_or b 1 0 + 1) w
   mark_is =
       sym (ap (λ (n : Node). n.mark) (node_is b (start_of b) refl (short b s) x (omega arith)))
 
-pub nodes_is : (b : List ℕ) → (queue_in b).nodeCount ≡ get_or b 1 0
+pub nodes_is : (b : List ℕ) → (queue_in b).node_count ≡ get_or b 1 0
 unfolding queue_in
 nodes_is b = refl

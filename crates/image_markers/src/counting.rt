@@ -13,14 +13,11 @@ pub fn used_count(image: &[u8]) -> u8
     ensures { (result ≡ used_count (queue_in image.now)) × (result ≤ max_nodes) }
 {
     let base = HEADER + PROCESSOR_BYTES * (image[header::PROCESSOR_COUNT] as usize);
-    let end = image[header::NODE_COUNT] as usize;
     let mut count: u8 = 0;
-    let mut i: usize = 0;
-    while i < end {
-        i = i + 1;
-        let o = base + NODE_BYTES * i;
+    for i in 0..image[header::NODE_COUNT] as usize {
+        let o = base + NODE_BYTES * (i + 1);
         if image[o + node::USE] == node::IN_USE {
-            count = count + 1;
+            count += 1;
         }
     }
     count

@@ -14,19 +14,16 @@ pub fn put_pairs(image: &[u8], area: &mut [u8])
     requires image_in_bounds { 2 * used_count (queue_in image.now) ≤ length area.old }
     ensures { area.new
         ≡ at_front
-        (pairs_to (queue_in image.now) (queue_in image.now).nodeCount)
+        (pairs_to (queue_in image.now) (queue_in image.now).node_count)
         area.old }
 {
     let base = HEADER + PROCESSOR_BYTES * (image[header::PROCESSOR_COUNT] as usize);
-    let end = image[header::NODE_COUNT] as usize;
     let mut at: usize = 0;
-    let mut i: usize = 0;
-    while i < end {
-        i = i + 1;
-        let o = base + NODE_BYTES * i;
+    for i in 0..image[header::NODE_COUNT] as usize {
+        let o = base + NODE_BYTES * (i + 1);
         if image[o + node::USE] == node::IN_USE {
-            put_pair(area, at, i as u8, image[o + node::MARK]);
-            at = at + 2;
+            put_pair(area, at, (i as u8) + 1, image[o + node::MARK]);
+            at += 2;
         }
     }
 }

@@ -27,7 +27,7 @@ fresh_sized P N L = record {
       λ i h. replicate_either (λ n. length n.forward ≡ 8) node_slots i (fresh_node (N + 1))
       (fresh_node 0) refl refl;
   locks_long =
-      λ i h. replicate_either (λ n. length n.levelLocks ≡ 8) node_slots i (fresh_node (N + 1))
+      λ i h. replicate_either (λ n. length n.level_locks ≡ 8) node_slots i (fresh_node (N + 1))
       (fresh_node 0) refl refl;
   saved_long =
       λ p h. replicate_either (λ c. length c.saved ≡ 8) max_processors p fresh_processor
@@ -48,18 +48,18 @@ forward_kept l tail h t (eff.Stamp x) n k = k
 forward_kept l tail h t (eff.Retire x) n k = k
 forward_kept l tail h t (eff.Fill x due item height) n k = length_below n.forward l tail ∙ k
 
-locks_kept : (l tail h t : ℕ) (e : Effect) (n : Node) → length n.levelLocks ≡ 8 →
-    length (changed l tail h t e n).levelLocks ≡ 8
+locks_kept : (l tail h t : ℕ) (e : Effect) (n : Node) → length n.level_locks ≡ 8 →
+    length (changed l tail h t e n).level_locks ≡ 8
 locks_kept l tail h t eff.Keep n k = k
-locks_kept l tail h t (eff.HoldLevel a) n k = length-set n.levelLocks (a.level - 1) h ∙ k
-locks_kept l tail h t (eff.FreeLevel a) n k = length-set n.levelLocks (a.level - 1) 0 ∙ k
+locks_kept l tail h t (eff.HoldLevel a) n k = length-set n.level_locks (a.level - 1) h ∙ k
+locks_kept l tail h t (eff.FreeLevel a) n k = length-set n.level_locks (a.level - 1) 0 ∙ k
 locks_kept l tail h t (eff.SetForward a x) n k = k
 locks_kept l tail h t (eff.HoldNode x) n k = k
 locks_kept l tail h t (eff.FreeNode x) n k = k
 locks_kept l tail h t (eff.Mark x) n k = k
 locks_kept l tail h t (eff.Stamp x) n k = k
 locks_kept l tail h t (eff.Retire x) n k = k
-locks_kept l tail h t (eff.Fill x due item height) n k = length_below n.levelLocks l 0 ∙ k
+locks_kept l tail h t (eff.Fill x due item height) n k = length_below n.level_locks l 0 ∙ k
 
 saved_kept : (l : ℕ) (saved : List ℕ) (k : ProcessorChange) → length saved ≡ 8 →
     length (saved_after l saved k) ≡ 8
@@ -80,20 +80,20 @@ slots_kept {A} P f l k n d step all i h =
 pub applied_sized : (q : Queue) → Sized q → (p : ℕ) (d : Decision) → Sized (applied q p d)
 applied_sized q S p d =
     let k = node_of d.effect in
-    let f = changed q.levelCount (q.nodeCount + 1) (p + 1) (q.clock + 1) d.effect in
-    let g : Processor → Processor = λ c. processor_after q.levelCount (q.clock + 1) c d in
+    let f = changed q.level_count (q.node_count + 1) (p + 1) (q.clock + 1) d.effect in
+    let g : Processor → Processor = λ c. processor_after q.level_count (q.clock + 1) c d in
     record {
       nodes_long = length-set q.nodes k (f (node_at q k)) ∙ S.nodes_long;
       processors_long = length-set q.processors p (g (processor_at q p)) ∙ S.processors_long;
       forward_long =
           slots_kept (λ n. length n.forward ≡ 8) f q.nodes k node_slots (fresh_node 0)
-          (forward_kept q.levelCount (q.nodeCount + 1) (p + 1) (q.clock + 1) d.effect)
+          (forward_kept q.level_count (q.node_count + 1) (p + 1) (q.clock + 1) d.effect)
           S.forward_long;
       locks_long =
-          slots_kept (λ n. length n.levelLocks ≡ 8) f q.nodes k node_slots (fresh_node 0)
-          (locks_kept q.levelCount (q.nodeCount + 1) (p + 1) (q.clock + 1) d.effect)
+          slots_kept (λ n. length n.level_locks ≡ 8) f q.nodes k node_slots (fresh_node 0)
+          (locks_kept q.level_count (q.node_count + 1) (p + 1) (q.clock + 1) d.effect)
           S.locks_long;
       saved_long =
           slots_kept (λ c. length c.saved ≡ 8) g q.processors p max_processors fresh_processor
-          (λ c h. saved_kept q.levelCount c.saved d.change h) S.saved_long;
+          (λ c h. saved_kept q.level_count c.saved d.change h) S.saved_long;
     }

@@ -1,12 +1,12 @@
 -- What an attempt at a lock gives after the clock ticks: the lock's byte is none of the clock's.
 -- Assumes nothing.
+use Rattle.std.specs.Prelude.{Option, ℕ}
 use mathlib.Core.Path.{◌≡◌, refl, sym, ◌∙◌, ap}
 use mathlib.Core.List.{List, [], ◌∷◌}
 use Prim.Native.Nat.{ℕ, ◌+◌, ◌≤◌}
 use native.Mathlib.Omega.{arith}
 use lib.ListN.{get_or, set}
 use lib.Seq.{get_or-set_other}
-use Rattle.rules.specs.declared.decisions.Attempt.{Attempt}
 use Rattle.rules.specs.Decide.{attempt}
 use Rattle.image.specs.Puts.{puts, four}
 use Rattle.image.proofs.Puts.{Below}
@@ -20,7 +20,7 @@ past_same b n x (e ∷ es) low h =
     ∙ get_or-set_other b (0 + e.0) x e.1 0 (λ same. omega (arith, low.0))
 
 -- the attempt r at the byte x of the bytes `one`, which came out as t
-pub tried : (b one : List ℕ) (n x : ℕ) (r t : Attempt) → 7 ≤ x → one ≡ puts b 0 (four 3 n) →
+pub tried : (b one : List ℕ) (n x : ℕ) (r t : Option ℕ) → 7 ≤ x → one ≡ puts b 0 (four 3 n) →
     r ≡ attempt (get_or one x 0) → r ≡ t → attempt (get_or b x 0) ≡ t
 tried b one n x r t h e f g =
     let low : Below 7 (four 3 n) = (omega arith, (omega arith, (omega arith, (omega arith, tt)))) in

@@ -19,19 +19,19 @@ use Rattle.image.proofs.Whole.{with_node, with_clock, put_node, put_processor, p
 use Rattle.image_parts.specs.Given.{Gives}
 
 -- an accepted call: the stores of the clock, of one node and of the processor
-module _ (b : List ℕ) (base p : ℕ) (s : Sound b) (start : base ≡ 7 + 26 * (queue_in b).processorCount)
-    (low : p < (queue_in b).processorCount) (d : Decision) (o : Outcome)
+module _ (b : List ℕ) (base p : ℕ) (s : Sound b) (start : base ≡ 7 + 26 * (queue_in b).processor_count)
+    (low : p < (queue_in b).processor_count) (d : Decision) (o : Outcome)
     (is : o ≡ accepted (queue_in b) p d) where
   pub gives :
-      (es fs : List (ℕ × ℕ)) → node_of d.effect < (queue_in b).nodeCount + 2 → Below 41 es →
+      (es fs : List (ℕ × ℕ)) → node_of d.effect < (queue_in b).node_count + 2 → Below 41 es →
       Below 26 fs →
       puts_in (node_image (node_at (queue_in b) (node_of d.effect))) es
       ≡ node_image
-      (changed (queue_in b).levelCount ((queue_in b).nodeCount + 1) (p + 1) ((queue_in b).clock + 1)
+      (changed (queue_in b).level_count ((queue_in b).node_count + 1) (p + 1) ((queue_in b).clock + 1)
       d.effect (node_at (queue_in b) (node_of d.effect))) →
       puts_in (processor_image (processor_at (queue_in b) p)) fs
       ≡ processor_image
-      (processor_after (queue_in b).levelCount ((queue_in b).clock + 1) (processor_at (queue_in b) p) d)
+      (processor_after (queue_in b).level_count ((queue_in b).clock + 1) (processor_at (queue_in b) p) d)
       →
       (after : List ℕ) →
       after ≡ puts
@@ -43,8 +43,8 @@ module _ (b : List ℕ) (base p : ℕ) (s : Sound b) (start : base ≡ 7 + 26 * 
       let q = queue_in b in
       let t = q.clock + 1 in
       let x = node_of d.effect in
-      let m = changed q.levelCount (q.nodeCount + 1) (p + 1) t d.effect (node_at q x) in
-      let c = processor_after q.levelCount t (processor_at q p) d in
+      let m = changed q.level_count (q.node_count + 1) (p + 1) t d.effect (node_at q x) in
+      let c = processor_after q.level_count t (processor_at q p) d in
       let S = sized_in b in
       let v = (valid_facts q s.passes).sizes in
       let e1 : puts b 0 (four 3 t) ≡ image_of (with_clock q t) =
@@ -53,12 +53,12 @@ module _ (b : List ℕ) (base p : ℕ) (s : Sound b) (start : base ≡ 7 + 26 * 
       ≡ image_of (with_node (with_clock q t) x m) =
       ap (λ (l : List ℕ). puts l (base + 41 * x) es) e1
       ∙ put_node (with_clock q t) es base x m start x<
-      (omega (arith, S.nodes_long, v.nodeCount.high)) es< node in
+      (omega (arith, S.nodes_long, v.node_count.high)) es< node in
       let e3 : puts (puts (puts b 0 (four 3 t)) (base + 41 * x) es) (7 + 26 * p) fs
       ≡ image_of (applied q p d) =
       ap (λ (l : List ℕ). puts l (7 + 26 * p) fs) e2
       ∙ put_processor (with_node (with_clock q t) x m) fs p c low
-      (omega (arith, S.processors_long, v.processorCount.high)) fs< processor in
+      (omega (arith, S.processors_long, v.processor_count.high)) fs< processor in
       record {
         bytes = e ∙ e3 ∙ ap (λ (u : Outcome). image_of u.queue) (sym is);
         answer = f ∙ ap (λ (u : Outcome). u.answer) (sym is);

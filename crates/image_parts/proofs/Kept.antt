@@ -7,6 +7,7 @@ use lib.Dec.{ltb, leb, eqb}
 use Rattle.laws.proofs.Booleans.{cond_elim}
 use Rattle.image.specs.OneToOne.{Sized}
 use Rattle.record.specs.declared.queues.Queue.{Queue}
+use Rattle.record.specs.declared.refusals.Refusal.{Refusal}
 use Rattle.record.specs.declared.stages.Place.{Place}
 use Rattle.record.specs.declared.stages.Insert.{Insert}
 use Rattle.record.specs.declared.stages.Insert.TheVariants as ins
@@ -84,10 +85,10 @@ removal_sought_lem j s (sght.Done a) = refl
 removal_answers : (j : Job) (s : StepView) (r : Removal) → Answers (removal_step j s r)
 removal_answers j s (rem.Search a) = removal_searched_lem j s a (search_step s a)
 removal_answers j s rem.HoldNode =
-    cond_elim (λ t. Answers (node_tried j s t)) (eqb s.ownNodeLock 0) _ _ refl refl
+    cond_elim (λ t. Answers (node_tried j s t)) (eqb s.own_node_lock 0) _ _ refl refl
 removal_answers j s (rem.Seek k) = removal_sought_lem j s (seek_step s k)
 removal_answers j s (rem.HoldOwn a) =
-    cond_elim (λ t. Answers (own_tried j s a t)) (eqb s.ownLock 0) _ _ refl refl
+    cond_elim (λ t. Answers (own_tried j s a t)) (eqb s.own_lock 0) _ _ refl refl
 removal_answers j s (rem.Unlink a) = refl
 removal_answers j s (rem.LeadBack a) = refl
 removal_answers j s (rem.FreeOwn a) = refl
@@ -97,13 +98,13 @@ removal_answers jobs.Deliver s rem.Retire = refl
 removal_answers jobs.TakeBack s rem.Retire = refl
 
 delete_answers : (s : StepView) (d : Delete) → Answers (delete_step s d)
-delete_answers s (del.ReadNext a) = cond_elim Answers s.nextIsTail _ _ refl refl
+delete_answers s (del.ReadNext a) = cond_elim Answers s.next_is_tail _ _ refl refl
 delete_answers s (del.TestStamp a) = cond_elim Answers s.stamped _ _ refl refl
 delete_answers s (del.SetMark a) = cond_elim Answers s.marked _ _ refl refl
 
 relaxed_answers : (s : StepView) (d : Relaxed) → Answers (relaxed_step s d)
 relaxed_answers s (rlx.ReadNext a) =
-    cond_elim Answers s.nextIsTail _ _ refl
+    cond_elim Answers s.next_is_tail _ _ refl
     (cond_elim Answers (eqb s.next 0) _ _ refl refl)
 relaxed_answers s (rlx.SetMark a) = cond_elim Answers s.marked _ _ refl refl
 
@@ -116,8 +117,8 @@ remove_searched_lem s w a (srch.Done b) = refl
 remove_answers : (s : StepView) (w : Wanted) (x : Remove) → Answers (remove_step s w x)
 remove_answers s w (rmv.Search a) = remove_searched_lem s w a (search_step s a)
 remove_answers s w (rmv.ReadNext a) =
-    cond_elim Answers s.nextBeforeKey _ _ refl
-    (cond_elim Answers s.nextHasKey _ _ refl refl)
+    cond_elim Answers s.next_before_key _ _ refl
+    (cond_elim Answers s.next_has_key _ _ refl refl)
 remove_answers s w (rmv.TestStamp a) = cond_elim Answers s.stamped _ _ refl refl
 remove_answers s w (rmv.SetMark a) = cond_elim Answers s.marked _ _ refl refl
 
@@ -130,7 +131,7 @@ decision_answers s (stage.Remove w x) = remove_answers s w x
 decision_answers s (stage.Removal j r) = removal_answers j s r
 
 module _ (q : Queue) (S : Sized q) where
-  kept_refused : (n : ℕ) → Kept q (refused q n)
+  kept_refused : (n : Refusal) → Kept q (refused q n)
   kept_refused n = record { sized = S; stays = λ h. refl }
 
   kept_accepted : (p : ℕ) (d : Decision) → Answers d → Kept q (accepted q p d)

@@ -2,7 +2,6 @@ pub mod Arrays
 pub mod Attempts
 pub mod Kept
 pub mod Pieces
-pub mod Order
 pub mod Given
 pub mod Readings
 pub mod Sounds

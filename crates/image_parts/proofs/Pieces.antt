@@ -28,8 +28,8 @@ eight_set l k v h =
 abbrev pub leveled : Node → List ℕ → List ℕ → Node
 leveled n forward locks = record {
   forward = forward;
-  levelLocks = locks;
-  nodeLock = n.nodeLock;
+  level_locks = locks;
+  node_lock = n.node_lock;
   mark = n.mark;
   stamp = n.stamp;
   due = n.due;
@@ -42,22 +42,22 @@ leveled n forward locks = record {
 -- a forward number and a level lock, of the level k + 1, and then what else is stored
 module _ (n : Node) (k v : ℕ) (es : List (ℕ × ℕ)) (low : k < 8) where
   pub put_forward : length n.forward ≡ 8 → puts_in (node_image n) ((k, v) ∷ es)
-      ≡ puts_in (node_image (leveled n (set n.forward k v) n.levelLocks)) es
+      ≡ puts_in (node_image (leveled n (set n.forward k v) n.level_locks)) es
   unfolding node_image
   put_forward long =
       ap (λ (r : List ℕ). puts_in r es)
       (set-append_left (eight n.forward 0) (drop 8 (node_image n)) k v low
       ∙ ap (λ (r : List ℕ). r ++ drop 8 (node_image n)) (eight_set n.forward k v long))
 
-  pub put_lock : length n.levelLocks ≡ 8 → puts_in (node_image n) ((8 + k, v) ∷ es)
-      ≡ puts_in (node_image (leveled n n.forward (set n.levelLocks k v))) es
+  pub put_lock : length n.level_locks ≡ 8 → puts_in (node_image n) ((8 + k, v) ∷ es)
+      ≡ puts_in (node_image (leveled n n.forward (set n.level_locks k v))) es
   unfolding node_image
   put_lock long =
       ap (λ (r : List ℕ). puts_in r es)
       (set_after (eight n.forward 0) (drop 8 (node_image n)) (8 + k) k v refl
       ∙ ap (λ (r : List ℕ). eight n.forward 0 ++ r)
-      (set-append_left (eight n.levelLocks 0) (drop 16 (node_image n)) k v low
-      ∙ ap (λ (r : List ℕ). r ++ drop 16 (node_image n)) (eight_set n.levelLocks k v long)))
+      (set-append_left (eight n.level_locks 0) (drop 16 (node_image n)) k v low
+      ∙ ap (λ (r : List ℕ). r ++ drop 16 (node_image n)) (eight_set n.level_locks k v long)))
 
 -- a processor with another stage and other saved nodes
 abbrev pub moves : Processor → Stage → List ℕ → Processor

@@ -27,7 +27,6 @@ use Rattle.image.specs.Tags.{Code, code, job_of, stage_of}
 use Rattle.image.specs.Numbers.{number32}
 use Rattle.image.specs.Pieces.{node_image, processor_image}
 use Rattle.rules.specs.declared.answers.Answer.{Answer}
-use Rattle.rules.specs.declared.answers.Entry.{Entry}
 use Rattle.rules.specs.declared.decisions.Decision.{Decision}
 use Rattle.rules.specs.declared.calls.Call.TheVariants as call
 use Rattle.rules.specs.Calls.{called_valid, entry_of, reading_place, key_for, at_key, next_of}
@@ -37,6 +36,7 @@ use Rattle.rules.specs.Decide.{decide}
 use Rattle.image.specs.Puts.{puts, puts_in, four, piece, clears, rests}
 use Rattle.image.specs.Image.{start_of, queue_in, Sound}
 use Rattle.image_parts.specs.Given.{Stepped}
+use Rattle.image_parts.specs.Reads.{entry_in}
 use Rattle.image.proofs.Puts.{Below}
 use Rattle.image.proofs.Fields.{number, node_is, processor_is, eight_at, number_at}
 use Rattle.image_parts.specs.Ready.{next_in, key_in, Placed, Owned}
@@ -44,15 +44,15 @@ use Rattle.image_parts.proofs.Pieces.{moves}
 use Rattle.rules.proofs.Inner.{step_accepted}
 use Rattle.image_parts.proofs.Given.{gives}
 
-head_is : (b : List ℕ) (base : ℕ) → base ≡ start_of b → base ≡ 7 + 26 * (queue_in b).processorCount
+head_is : (b : List ℕ) (base : ℕ) → base ≡ start_of b → base ≡ 7 + 26 * (queue_in b).processor_count
 unfolding queue_in
 head_is b base h = h
 
-tail_is : (b : List ℕ) (x : ℕ) → x < get_or b 1 0 + 2 → x < (queue_in b).nodeCount + 2
+tail_is : (b : List ℕ) (x : ℕ) → x < get_or b 1 0 + 2 → x < (queue_in b).node_count + 2
 unfolding queue_in
 tail_is b x h = h
 
-low_is : (b : List ℕ) (p : ℕ) → p < get_or b 0 0 → p < (queue_in b).processorCount
+low_is : (b : List ℕ) (p : ℕ) → p < get_or b 0 0 → p < (queue_in b).processor_count
 unfolding queue_in
 low_is b p h = h
 
@@ -89,7 +89,7 @@ abbrev pub onward : List ℕ → ℕ → ℕ → ℕ
 onward b base p = get_or b (base + 41 * mine b p 6 + (mine b p 7 - 1)) 0
 
 module _ (b : List ℕ) (base : ℕ) (start : base ≡ start_of b) (short : get_or b 1 0 ≤ 200) where
-  pub key_is : (x : ℕ) → x ≤ get_or b 1 0 + 1 → key_of (queue_in b).nodeCount x (node_at (queue_in b) x)
+  pub key_is : (x : ℕ) → x ≤ get_or b 1 0 + 1 → key_of (queue_in b).node_count x (node_at (queue_in b) x)
       ≡ key_in b base x
   unfolding queue_in
   key_is x h =
@@ -128,11 +128,11 @@ module _ (b : List ℕ) (base p tag : ℕ) (r : Placed b base p tag) where
       r.level_low r.level_high
 
   pub before_is :
-      (step_view_of (queue_in b) (processor_at (queue_in b) p) (place (mine b p 6) (mine b p 7))).nextBeforeKey
+      (step_view_of (queue_in b) (processor_at (queue_in b) p) (place (mine b p 6) (mine b p 7))).next_before_key
       ≡ key_before (key_in b base (onward b base p)) (key_in b base (mine b p 4))
   before_is =
       let q = queue_in b in
-      let k : ℕ → Key = λ y. key_of q.nodeCount y (node_at q y) in
+      let k : ℕ → Key = λ y. key_of q.node_count y (node_at q y) in
       ap (key_before (k (next_of q (place (mine b p 6) (mine b p 7)))))
       (own_key (processor_at q p).stage (k (processor_at q p).own) r.owns)
       ∙ ap (λ (y : ℕ). key_before (k y) (k (processor_at q p).own)) next_is
@@ -148,13 +148,13 @@ module _ (b : List ℕ) (base p : ℕ) (start : base ≡ start_of b) (short : ge
     (w : Wanted) (g : Remove) (is : (processor_at (queue_in b) p).stage ≡ stage.Remove w g)
     (a : Place) (y : ℕ) (next : next_of (queue_in b) a ≡ y) (high : y ≤ get_or b 1 0 + 1) where
   abbrev ahead_key : ℕ → Key
-  ahead_key x = key_of (queue_in b).nodeCount x (node_at (queue_in b) x)
+  ahead_key x = key_of (queue_in b).node_count x (node_at (queue_in b) x)
 
   ahead_is : ahead_key (next_of (queue_in b) a) ≡ key_in b base y
   ahead_is = ap ahead_key next ∙ key_is b base start short y high
 
   pub wanted_before :
-      (step_view_of (queue_in b) (processor_at (queue_in b) p) a).nextBeforeKey
+      (step_view_of (queue_in b) (processor_at (queue_in b) p) a).next_before_key
       ≡ key_before (key_in b base y) (entry_key w.due w.ticket)
   wanted_before =
       ap (λ (g : Stage). key_before (ahead_key (next_of (queue_in b) a))
@@ -162,7 +162,7 @@ module _ (b : List ℕ) (base p : ℕ) (start : base ≡ start_of b) (short : ge
       ∙ ap (λ (k : Key). key_before k (entry_key w.due w.ticket)) ahead_is
 
   pub wanted_there :
-      (step_view_of (queue_in b) (processor_at (queue_in b) p) a).nextHasKey
+      (step_view_of (queue_in b) (processor_at (queue_in b) p) a).next_has_key
       ≡ key_same (key_in b base y) (entry_key w.due w.ticket)
   wanted_there =
       ap (λ (g : Stage). at_key g (ahead_key (next_of (queue_in b) a))) is
@@ -183,12 +183,12 @@ module _ (b : List ℕ) (base p tag : ℕ) (s : Sound b) (start : base ≡ start
       (es fs : List (ℕ × ℕ)) → node_of d.effect < get_or b 1 0 + 2 → Below 41 es → Below 26 fs →
       puts_in (node_image (node_at (queue_in b) (node_of d.effect))) es
       ≡ node_image
-      (changed (queue_in b).levelCount ((queue_in b).nodeCount + 1) (p + 1) ((queue_in b).clock + 1)
+      (changed (queue_in b).level_count ((queue_in b).node_count + 1) (p + 1) ((queue_in b).clock + 1)
       d.effect (node_at (queue_in b) (node_of d.effect))) →
       puts_in (processor_image
       (moves (processor_at (queue_in b) p) g (processor_at (queue_in b) p).saved)) fs
       ≡ processor_image
-      (processor_after (queue_in b).levelCount ((queue_in b).clock + 1) (processor_at (queue_in b) p) d)
+      (processor_after (queue_in b).level_count ((queue_in b).clock + 1) (processor_at (queue_in b) p) d)
       →
       (after : List ℕ) →
       after ≡ puts
@@ -214,7 +214,7 @@ module _ (b : List ℕ) (base p tag : ℕ) (r : Placed b base p tag) where
       ≡ get_or b (base + 41 * mine b p 6 + (8 + (mine b p 7 - 1))) 0
   place_lock_is =
       let k = mine b p 7 - 1 in
-      ap (λ (n : Node). get_or n.levelLocks k 0)
+      ap (λ (n : Node). get_or n.level_locks k 0)
       (node_is b base r.start r.nodes_high (mine b p 6) (omega (arith, r.node_low)))
       ∙ eight_at (piece b (base + 41 * mine b p 6)) 8 k (omega (arith, r.level_low, r.level_high))
 
@@ -235,7 +235,7 @@ module _ (b : List ℕ) (base p tag : ℕ) (r : Placed b base p tag) where
       ∙ eight_at (piece b (7 + 26 * p)) 9 (mine b p 7) h)
 
 -- stages with no place
-pub levels_is : (b : List ℕ) → (queue_in b).levelCount ≡ get_or b 2 0
+pub levels_is : (b : List ℕ) → (queue_in b).level_count ≡ get_or b 2 0
 unfolding queue_in
 levels_is b = refl
 
@@ -274,10 +274,6 @@ module _ (b : List ℕ) (base p tag : ℕ) (r : Owned b base p tag) where
 
   pub own_low : mine b p 4 < get_or b 1 0 + 2
   own_low = omega (arith, r.own_high, r.nodes_high)
-
-abbrev pub entry_in : List ℕ → ℕ → Entry
-entry_in b o =
-    record { due = number32 b (o + 23); item = number32 b (o + 31); ticket = number32 b (o + 27) }
 
 pub entry_is : (b : List ℕ) (base : ℕ) → base ≡ start_of b → get_or b 1 0 ≤ 200 → (x : ℕ) →
     x < get_or b 1 0 + 2 → entry_of (node_at (queue_in b) x) ≡ entry_in b (base + 41 * x)

@@ -1,4 +1,5 @@
 -- Whether a processor is idle, by its bytes; and what a call is refused with. Assumes nothing.
+use Rattle.std.specs.Prelude.{Some, None}
 use mathlib.Core.Path.{◌≡◌, refl, sym, ◌∙◌, ap}
 use mathlib.Core.Bool.{Bool, true, false, cond}
 use mathlib.Core.List.{List}
@@ -9,6 +10,7 @@ use lib.Dec.{eqb, leb}
 use lib.ListN.{get_or}
 use borrow.Author.Tests.{le-leb, lt-leb, eqb-true, eqb-false}
 use Rattle.record.specs.declared.queues.Processor.{Processor}
+use Rattle.record.specs.declared.refusals.Refusal.TheVariants as refusal
 use Rattle.record.specs.declared.stages.Stage.TheVariants as stage
 use Rattle.record.specs.Queues.{processor_at}
 use Rattle.record.specs.Stages.{is_idle, wanted_of}
@@ -62,7 +64,7 @@ refusal_in_lem b s c = go (dec_lt (processor_of c) (get_or b 0 0))
     p = processor_of c
 
     many : get_or b 0 0 ≤ 16
-    many = (valid_facts (queue_in b) s.passes).sizes.processorCount.high
+    many = (valid_facts (queue_in b) s.passes).sizes.processor_count.high
 
     go : Dec (p < get_or b 0 0) →
         refusal_by c (number32 b 3) (get_or b 0 0) (get_or b 2 0) (idle_in b p) ≡ refusal_in b c
@@ -72,11 +74,8 @@ refusal_in_lem b s c = go (dec_lt (processor_of c) (get_or b 0 0))
         ap (refusal_by c (number32 b 3) (get_or b 0 0) (get_or b 2 0)) is
     go (no high) = rw (le-leb (get_or b 0 0) p (omega arith)) refl
 
-pub none_left : (n : ℕ) → n ≤ 0 → n ≡ 0
-none_left n h = omega arith
-
 -- what is known of a call that is not refused before a node is looked for
-module _ (b : List ℕ) (s : Sound b) (c : Call) (e : refusal_in b c ≡ 0) where
+module _ (b : List ℕ) (s : Sound b) (c : Call) (e : refusal_in b c ≡ None) where
   pub here : processor_of c < get_or b 0 0
   unfolding queue_in
   here = (early_allowed (queue_in b) c e).here
@@ -85,19 +84,19 @@ module _ (b : List ℕ) (s : Sound b) (c : Call) (e : refusal_in b c ≡ 0) wher
   unfolding queue_in
   ticks = (early_allowed (queue_in b) c e).ticks
 
-  pub turn : turn_refusal c (idle_in b (processor_of c)) ≡ 0
+  pub turn : turn_refusal c (idle_in b (processor_of c)) ≡ None
   unfolding queue_in
   turn =
-      let many : get_or b 0 0 ≤ 16 = (valid_facts (queue_in b) s.passes).sizes.processorCount.high in
+      let many : get_or b 0 0 ≤ 16 = (valid_facts (queue_in b) s.passes).sizes.processor_count.high in
       rw (lt-leb (get_or b 0 0) (processor_of c) here, sym (idle_is b (processor_of c) many here))
       (early_allowed (queue_in b) c e).turn
 
-  pub numbers_in : numbers_refusal c (get_or b 2 0) ≡ 0
+  pub numbers_in : numbers_refusal c (get_or b 2 0) ≡ None
   unfolding queue_in
   numbers_in = (early_allowed (queue_in b) c e).numbers
 
 -- a step is of a processor that has a stage
-pub step_allowed : (b : List ℕ) → Sound b → (p : ℕ) → refusal_in b (call.Step p) ≡ 0 →
+pub step_allowed : (b : List ℕ) → Sound b → (p : ℕ) → refusal_in b (call.Step p) ≡ None →
     (p < get_or b 0 0) × (number32 b 3 < 999999) × (1 ≤ get_or b (7 + 26 * p + 5) 0)
 step_allowed b s p e =
     let low = here b s (call.Step p) e in
@@ -107,8 +106,8 @@ step_allowed b s p e =
     (low, ticks b s (call.Step p) e, omega (arith, some))
 
 -- a begin is of an idle one
-pub begin_idle : (b : List ℕ) → Sound b → (c : Call) (e : refusal_in b c ≡ 0) →
-    turn_refusal c (idle_in b (processor_of c)) ≡ cond (idle_in b (processor_of c)) 0 33 →
+pub begin_idle : (b : List ℕ) → Sound b → (c : Call) (e : refusal_in b c ≡ None) →
+    turn_refusal c (idle_in b (processor_of c)) ≡ cond (idle_in b (processor_of c)) None (Some refusal.Busy) →
     get_or b (7 + 26 * processor_of c + 5) 0 ≡ 0
 begin_idle b s c e is =
     let low = here b s c e in

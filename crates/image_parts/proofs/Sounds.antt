@@ -1,4 +1,5 @@
 -- What a step may take for granted, from check 21; and the bytes after it. Assumes nothing.
+use Rattle.std.specs.Prelude.{Some, None}
 use mathlib.Core.Path.{◌≡◌, refl, sym, ◌∙◌, ap, subst}
 use mathlib.Core.Bool.{true}
 use mathlib.Core.List.{List}
@@ -10,6 +11,7 @@ use Rattle.record_check.specs.Check.{sizes_of, valid}
 use Rattle.record.specs.declared.nodes.Node.{Node}
 use Rattle.record.specs.declared.queues.Processor.{Processor}
 use Rattle.record.specs.declared.queues.Queue.{Queue}
+use Rattle.record.specs.declared.refusals.Refusal.{Refusal}
 use Rattle.record.specs.declared.stages.Place.{Place}
 use Rattle.record.specs.declared.stages.Seek.TheVariants as seek
 use Rattle.record.specs.declared.stages.Insert.TheVariants as ins
@@ -31,7 +33,7 @@ use Rattle.rules.specs.declared.answers.Answer.TheVariants as ans
 use Rattle.rules.specs.declared.answers.Outcome.{Outcome}
 use Rattle.rules.specs.Answers.{refused}
 use Rattle.rules.specs.declared.calls.Call.{Call}
-use Rattle.rules.specs.Calls.{taken, node_refusal, first_of, refusal_of, called_valid}
+use Rattle.rules.specs.Calls.{taken, node_refusal, called_valid}
 use Rattle.rules.proofs.ValidFacts.{ValidWanted, ValidCarried, ValidQueue, valid_facts}
 use Rattle.rules.proofs.Allowed.{first_told, first_none}
 use Rattle.rules.proofs.Inner.{call_inner, call_told}
@@ -58,15 +60,15 @@ module _ (b : List ℕ) (base p tag : ℕ) (s : Sound b) (start : base ≡ start
 
   many : get_or b 0 0 ≤ 16
   unfolding queue_in
-  many = facts.sizes.processorCount.high
+  many = facts.sizes.processor_count.high
 
   short : get_or b 1 0 ≤ 200
   unfolding queue_in
-  short = facts.sizes.nodeCount.high
+  short = facts.sizes.node_count.high
 
   few : get_or b 2 0 ≤ 8
   unfolding queue_in
-  few = facts.sizes.levelCount.high
+  few = facts.sizes.level_count.high
 
   long : length b ≡ base + 41 * (get_or b 1 0 + 2)
   long = s.long ∙ ap (λ (k : ℕ). k + 41 * (get_or b 1 0 + 2)) (sym start)
@@ -212,8 +214,8 @@ module _ (b : List ℕ) (base p tag : ℕ) (s : Sound b) (start : base ≡ start
 -- the record that a call gives: its image is read as it, and it passes check 21
 pub trim_after : (q u : Queue) → SameOutside q u → Trim q → Trim u
 trim_after q u o t =
-    let p = o.processorCount in
-    let n = o.nodeCount in
+    let p = o.processor_count in
+    let n = o.node_count in
     record {
       processors_high = omega (arith, t.processors_high);
       nodes_high = omega (arith, t.nodes_high);
@@ -229,7 +231,7 @@ module _ (b : List ℕ) (s : Sound b) (c : Turn) (u : Queue) (is : u ≡ after (
   back_after =
       let q = queue_in b in
       let v = (valid_facts q s.passes).sizes in
-      let t = trim_in b v.processorCount.high v.nodeCount.high in
+      let t = trim_in b v.processor_count.high v.node_count.high in
       read_write u (rw is (sized_after q (sized_in b) c))
       (rw is (trim_after q (after q c) (untouched q c) t))
 
@@ -255,7 +257,7 @@ pub call_is : (b : List ℕ) → Sound b → (c : Call) → (called_valid (queue
 call_is b s c = ap (λ (o : Outcome). o.queue) (sym (call_inner (queue_in b) c s.passes))
 
 -- a refused call
-pub refuses : (b : List ℕ) → Sound b → (o : Outcome) (n : ℕ) (r : Answer) → o
+pub refuses : (b : List ℕ) → Sound b → (o : Outcome) (n : Refusal) (r : Answer) → o
     ≡ refused (queue_in b) n → r ≡ ans.Refused n → Gives o b r
 refuses b s o n r e f = record {
   bytes = sym s.image ∙ ap (λ (u : Outcome). image_of u.queue) (sym e);
@@ -269,24 +271,23 @@ module _ (b : List ℕ) (s : Sound b) (c : Call) where
   kept_sound after r g = (g, sound_after b s (calls c) _ (call_is b s c) after r g)
 
   -- refused before a node is looked for, and for want of one
-  pub refused_early : (n : ℕ) → n ≡ refusal_in b c → 0 < n → (r : Answer) → r ≡ ans.Refused n →
-      Called b c b r
-  refused_early n e h r f =
-      let more = node_refusal c (taken (queue_in b) c) in
-      let at : refusal_of (queue_in b) c ≡ n =
-      ap (λ (m : ℕ). first_of m more) (sym e) ∙ first_told n more h in
-      kept_sound b r (refuses b s _ n r (call_told (queue_in b) c n at h) f)
+  pub refused_early :
+      (n : Refusal) → refusal_in b c ≡ Some n → (r : Answer) → r ≡ ans.Refused n → Called b c b r
+  refused_early n e r f =
+      let at = first_told (refusal_in b c) (node_refusal c (taken (queue_in b) c)) n e in
+      kept_sound b r (refuses b s _ n r (call_told (queue_in b) c n at) f)
 
-  pub refused_late : refusal_in b c ≡ 0 → (n : ℕ) → node_refusal c (taken (queue_in b) c) ≡ n → 0 < n →
+  pub refused_late :
+      refusal_in b c ≡ None → (n : Refusal) → node_refusal c (taken (queue_in b) c) ≡ Some n →
       (r : Answer) → r ≡ ans.Refused n → Called b c b r
-  refused_late e n g h r f =
+  refused_late e n g r f =
       let at = first_none (refusal_in b c) (node_refusal c (taken (queue_in b) c)) e ∙ g in
-      kept_sound b r (refuses b s _ n r (call_told (queue_in b) c n at h) f)
+      kept_sound b r (refuses b s _ n r (call_told (queue_in b) c n at) f)
 
 module _ (b : List ℕ) (p : ℕ) (s : Sound b) (r : Answer) where
   pub processors_high : get_or b 0 0 ≤ 16
   unfolding queue_in
-  processors_high = (valid_facts (queue_in b) s.passes).sizes.processorCount.high
+  processors_high = (valid_facts (queue_in b) s.passes).sizes.processor_count.high
 
 -- a stage's tag is at most 32
 tag_low : (g : Stage) → (stage_code g).tag ≤ 32

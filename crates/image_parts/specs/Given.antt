@@ -1,5 +1,6 @@
 -- What a call in place leaves and gives, on the bytes of a record that passes check 21.
-use Rattle.std.specs.Prelude.{◌≡◌, List, Bool, false, cond, ℕ, leb, eqb, get_or}
+use Rattle.std.specs.Prelude.{◌≡◌, List, Bool, false, cond, ℕ, leb, eqb, get_or, Option}
+use Rattle.record.specs.declared.refusals.Refusal.{Refusal}
 use Rattle.rules.specs.declared.answers.Answer.{Answer}
 use Rattle.rules.specs.declared.answers.Outcome.{Outcome}
 use Rattle.rules.specs.declared.calls.Call.{Call}
@@ -17,10 +18,10 @@ pub record Gives (o : Outcome) (after : List ℕ) (r : Answer) : Type 0 where
 abbrev pub idle_in : List ℕ → ℕ → Bool
 idle_in b p = cond (leb (get_or b 0 0) p) false (eqb (tag_in b p) 0)
 
--- what a call on these bytes is refused with before a node is looked for, or 0
-abbrev pub refusal_in : List ℕ → Call → ℕ
+-- what a call on these bytes is refused with before a node is looked for, if it is
+abbrev pub refusal_in : List ℕ → Call → Option Refusal
 refusal_in b c =
-    refusal_by c (queue_in b).clock (queue_in b).processorCount (queue_in b).levelCount
+    refusal_by c (queue_in b).clock (queue_in b).processor_count (queue_in b).level_count
     (idle_at (queue_in b) (processor_of c))
 
 -- after a call: what it leaves passes again

@@ -1,3 +1,4 @@
 pub mod Given
 pub mod Locks
+pub mod Reads
 pub mod Ready

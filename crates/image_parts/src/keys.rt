@@ -8,7 +8,8 @@ ghost use Rattle.record.specs.Limits.{max_nodes, max_processors};
 use image::layout::NODE_BYTES;
 use image::numbers::number_from;
 use image::{header, node};
-use record::levels::both;
+use record::Wanted;
+use record::keys::Rank;
 
 // Whether node x's key is before that of node y, which is an entry's.
 pub fn before(b: &[u8], base: usize, x: u8, y: u8) -> bool
@@ -35,50 +36,53 @@ pub fn before(b: &[u8], base: usize, x: u8, y: u8) -> bool
     number_from(b, s + node::TICKET) < number_from(b, t + node::TICKET)
 }
 
-// Node x's rank among the keys: 0 the head's, 1 an entry's, 2 the tail's.
-fn rank_of(b: &[u8], x: u8) -> u8
+// The rank of node x's key.
+fn rank_of(b: &[u8], x: u8) -> Rank
     requires { header_bytes ≤ length b.now }
     ensures { result ≡ (node_key (get_or b.now 1 0) x 0 0).rank }
 {
     let n = b[header::NODE_COUNT];
     if x == 0 {
-        0
+        Rank::Head
     } else if x - 1 == n {
-        2
+        Rank::Tail
     } else {
-        1
+        Rank::Entry
     }
 }
 
-// Whether node x's key is before that of an entry with this due minute and this ticket.
-pub fn before_key(b: &[u8], base: usize, x: u8, due: u32, ticket: u32) -> bool
+// Whether node x's key is before the key that a Remove carries.
+pub fn before_key(b: &[u8], base: usize, x: u8, w: Wanted) -> bool
     requires { (length b.now ≡ base + node_bytes * (get_or b.now 1 0 + 2))
         × (x ≤ get_or b.now 1 0 + 1) × (get_or b.now 1 0 ≤ max_nodes) × (header_bytes ≤ base)
         × (base ≤ processor_start max_processors) }
-    ensures { result ≡ key_before (key_in b.now base x) (entry_key due ticket) }
+    ensures { result ≡ key_before (key_in b.now base x) (entry_key w.due w.ticket) }
 {
-    let rank = rank_of(b, x);
-    if rank != 1 {
-        return rank == 0;
+    match rank_of(b, x) {
+        Rank::Head => true,
+        Rank::Tail => false,
+        Rank::Entry => {
+            let s = base + NODE_BYTES * (x as usize);
+            let d = number_from(b, s + node::DUE);
+            if d == w.due {
+                number_from(b, s + node::TICKET) < w.ticket
+            } else {
+                d < w.due
+            }
+        }
     }
-    let s = base + NODE_BYTES * (x as usize);
-    let d = number_from(b, s + node::DUE);
-    if d != due {
-        return d < due;
-    }
-    number_from(b, s + node::TICKET) < ticket
 }
 
 // Whether it is that key.
-pub fn has_key(b: &[u8], base: usize, x: u8, due: u32, ticket: u32) -> bool
+pub fn has_key(b: &[u8], base: usize, x: u8, w: Wanted) -> bool
     requires { (length b.now ≡ base + node_bytes * (get_or b.now 1 0 + 2))
         × (x ≤ get_or b.now 1 0 + 1) × (get_or b.now 1 0 ≤ max_nodes) × (header_bytes ≤ base)
         × (base ≤ processor_start max_processors) }
-    ensures { result ≡ key_same (key_in b.now base x) (entry_key due ticket) }
+    ensures { result ≡ key_same (key_in b.now base x) (entry_key w.due w.ticket) }
 {
     let rank = rank_of(b, x);
     let s = base + NODE_BYTES * (x as usize);
     let d = number_from(b, s + node::DUE);
     let t = number_from(b, s + node::TICKET);
-    both(rank == 1, both(d == due, t == ticket))
+    rank == Rank::Entry && d == w.due && t == w.ticket
 }

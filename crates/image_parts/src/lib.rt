@@ -3,4 +3,5 @@
 
 pub mod keys;
 pub mod locks;
+pub mod reads;
 pub mod refused;

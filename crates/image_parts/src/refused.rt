@@ -6,6 +6,7 @@ ghost use Rattle.image_parts.specs.Given.{idle_in, refusal_in};
 use image::layout::{HEADER, PROCESSOR_BYTES};
 use image::numbers::number_from;
 use image::{header, processor, tag};
+use record::Refusal;
 use rules::Call;
 use rules_refusals::{processor_of, refusal_of};
 
@@ -14,14 +15,12 @@ fn idle_at(b: &[u8], processor: u32) -> bool
     requires { Sound b.now }
     ensures { result ≡ idle_in b.now processor }
 {
-    if (b[header::PROCESSOR_COUNT] as u32) <= processor {
-        return false;
-    }
-    b[HEADER + PROCESSOR_BYTES * (processor as usize) + processor::TAG] == tag::IDLE
+    processor < b[header::PROCESSOR_COUNT] as u32
+        && b[HEADER + PROCESSOR_BYTES * (processor as usize) + processor::TAG] == tag::IDLE
 }
 
-// The refusal of a call before a node is looked for, or 0.
-pub fn refusal_at(b: &[u8], c: Call) -> u8
+// The refusal of a call before a node is looked for.
+pub fn refusal_at(b: &[u8], c: Call) -> Option<Refusal>
     requires { Sound b.now }
     ensures { result ≡ refusal_in b.now c }
 {

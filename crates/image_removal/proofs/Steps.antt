@@ -1,4 +1,5 @@
 -- What each stage of a removal stores is what the definition says. Assumes nothing.
+use Rattle.std.specs.Prelude.{Some, None}
 use mathlib.Core.Path.{◌≡◌, refl, sym, ◌∙◌, ap}
 use mathlib.Core.Bool.{Bool, true, false, cond}
 use mathlib.Core.List.{List, [], ◌∷◌, ◌++◌}
@@ -24,7 +25,6 @@ use Rattle.rules.specs.declared.answers.Answer.{Answer}
 use Rattle.rules.specs.declared.answers.Answer.TheVariants as ans
 use Rattle.rules.specs.declared.answers.Deed.TheVariants as deed
 use Rattle.rules.specs.declared.answers.Entry.{Entry}
-use Rattle.rules.specs.declared.decisions.Attempt.TheVariants as try
 use Rattle.rules.specs.declared.decisions.Effect.TheVariants as eff
 use Rattle.rules.specs.Calls.{step_view_of}
 use Rattle.rules.specs.Decide.{moved, waits, answers, removing, attempt, node_tried, own_tried}
@@ -32,6 +32,7 @@ use Rattle.rules.specs.Decide.{handing}
 use Rattle.image.specs.Puts.{puts, four, piece, clears, rests}
 use Rattle.image.specs.Image.{queue_in}
 use Rattle.image_parts.specs.Given.{Stepped}
+use Rattle.image_parts.specs.Reads.{entry_in}
 use Rattle.image.proofs.Fields.{node_is, processor_is, eight_at}
 use Rattle.image_parts.specs.Ready.{Placed, Owned}
 use Rattle.image_parts.proofs.Pieces.{moves, put_forward, put_lock, put_holder}
@@ -39,7 +40,7 @@ use Rattle.image_parts.proofs.Pieces.{put_retired, put_idle_job}
 use Rattle.image.proofs.Puts.{puts_append}
 use Rattle.image.proofs.Sizes.{sized_in}
 use Rattle.image_parts.proofs.Readings.{mine, job_at, arm, clock_is, levels_is, fits_below}
-use Rattle.image_parts.proofs.Readings.{ends_below, own_is, mine_is, own_low, entry_in, entry_is}
+use Rattle.image_parts.proofs.Readings.{ends_below, own_is, mine_is, own_low, entry_is}
 
 -- a stage of processor p's removal, whatever its job
 abbrev removal : List ℕ → ℕ → Removal → Stage
@@ -52,7 +53,7 @@ module _ (b : List ℕ) (base p tag : ℕ) (r : Placed b base p tag) where
   own_lock_is =
       let k = mine b p 7 - 1 in
       ap (λ (x : ℕ). lock_at (node_at (queue_in b) x) (mine b p 7)) (own_is b base p tag r)
-      ∙ ap (λ (n : Node). get_or n.levelLocks k 0)
+      ∙ ap (λ (n : Node). get_or n.level_locks k 0)
       (node_is b base r.start r.nodes_high (mine b p 4)
       (omega (arith, r.own_high, r.nodes_high)))
       ∙ eight_at (piece b (base + 41 * mine b p 4)) 8 k (omega (arith, r.level_low, r.level_high))
@@ -85,11 +86,11 @@ module _ (b : List ℕ) (base p tag : ℕ) (r : Owned b base p tag) where
       ∙ ap (λ (n : Node). n.height)
       (node_is b base r.start r.nodes_high (mine b p 4) (own_low b base p tag r))
 
-  holder_is : (node_at (queue_in b) (processor_at (queue_in b) p).own).nodeLock
+  holder_is : (node_at (queue_in b) (processor_at (queue_in b) p).own).node_lock
       ≡ get_or b (base + 41 * mine b p 4 + 16) 0
   holder_is =
-      ap (λ (x : ℕ). (node_at (queue_in b) x).nodeLock) (mine_is b base p tag r)
-      ∙ ap (λ (n : Node). n.nodeLock)
+      ap (λ (x : ℕ). (node_at (queue_in b) x).node_lock) (mine_is b base p tag r)
+      ∙ ap (λ (n : Node). n.node_lock)
       (node_is b base r.start r.nodes_high (mine b p 4) (own_low b base p tag r))
 
   top_is : saved_at (processor_at (queue_in b) p) (get_or b (base + 41 * mine b p 4 + 35) 0)
@@ -102,7 +103,7 @@ module _ (b : List ℕ) (base p tag : ℕ) (r : Owned b base p tag) where
 -- L1
 module _ (b : List ℕ) (base p : ℕ) (r : Owned b base p 15) (after : List ℕ) (answer : Answer) where
   pub holds_node_lock :
-      attempt (get_or b (base + 41 * mine b p 4 + 16) 0) ≡ try.Taken →
+      attempt (get_or b (base + 41 * mine b p 4 + 16) 0) ≡ None →
       after ≡ puts
       (puts (puts b 0 (four 3 (number32 b 3 + 1))) (base + 41 * mine b p 4) ((16, p + 1) ∷ []))
       (7 + 26 * p)
@@ -132,7 +133,7 @@ module _ (b : List ℕ) (base p : ℕ) (r : Owned b base p 15) (after : List ℕ
       (put_holder (node_at q (mine b p 4)) (p + 1)) (refl) after e answer f
 
   pub node_waits :
-      (x : ℕ) → attempt (get_or b (base + 41 * mine b p 4 + 16) 0) ≡ try.HeldBy x →
+      (x : ℕ) → attempt (get_or b (base + 41 * mine b p 4 + 16) 0) ≡ Some x →
       after ≡ puts (puts b 0 (four 3 (number32 b 3 + 1))) (7 + 26 * p) ([]) →
       answer ≡ ans.Waits x →
       Stepped b p after answer
@@ -151,7 +152,7 @@ module _ (b : List ℕ) (base p : ℕ) (r : Owned b base p 15) (after : List ℕ
 -- L2
 module _ (b : List ℕ) (base p : ℕ) (r : Placed b base p 20) (after : List ℕ) (answer : Answer) where
   pub holds_own_lock :
-      attempt (get_or b (base + 41 * mine b p 4 + (8 + (mine b p 7 - 1))) 0) ≡ try.Taken →
+      attempt (get_or b (base + 41 * mine b p 4 + (8 + (mine b p 7 - 1))) 0) ≡ None →
       after ≡ puts
       (puts (puts b 0 (four 3 (number32 b 3 + 1))) (base + 41 * mine b p 4)
       ((8 + (mine b p 7 - 1), p + 1) ∷ [])) (7 + 26 * p) ((5, 21) ∷ []) →
@@ -178,7 +179,7 @@ module _ (b : List ℕ) (base p : ℕ) (r : Placed b base p 20) (after : List �
 
   pub own_waits :
       (x : ℕ) →
-      attempt (get_or b (base + 41 * mine b p 4 + (8 + (mine b p 7 - 1))) 0) ≡ try.HeldBy x →
+      attempt (get_or b (base + 41 * mine b p 4 + (8 + (mine b p 7 - 1))) 0) ≡ Some x →
       after ≡ puts (puts b 0 (four 3 (number32 b 3 + 1))) (7 + 26 * p) ([]) →
       answer ≡ ans.Waits x →
       Stepped b p after answer
@@ -332,26 +333,6 @@ module _ (b : List ℕ) (base p : ℕ) (r : Placed b base p 24) (after : List �
       (put_lock (node_at q (mine b p 6)) (mine b p 7 - 1) 0 [] k<
       ((sized_in b).locks_long (mine b p 6) (omega (arith, r.node_low)))) (refl) after e answer
       f
-
--- L7
-module _ (b : List ℕ) (base p : ℕ) (r : Owned b base p 25) (after : List ℕ) (answer : Answer) where
-  pub frees_node :
-      after ≡ puts
-      (puts (puts b 0 (four 3 (number32 b 3 + 1))) (base + 41 * mine b p 4) ((16, 0) ∷ []))
-      (7 + 26 * p) ((5, 26) ∷ []) →
-      answer ≡ ans.Moved →
-      Stepped b p after answer
-  unfolding processor_image
-  frees_node e f =
-      let q = queue_in b in
-      let c = processor_at q p in
-      let s = step_view_of q c (place 0 1) in
-      arm b base p 25 r.sound r.start r.nodes_high r.processors_high r.low
-      r.few r.early r.tagged (removal b p (rem.FreeNode)) refl refl
-      (moved s (eff.FreeNode (mine b p 4)) (removal b p (rem.Retire)))
-      (rw (mine_is b base p 25 r) refl)
-      ((16, 0) ∷ []) ((5, 26) ∷ []) (own_low b base p 25 r) (omega arith, tt) (omega arith, tt)
-      (put_holder (node_at q (mine b p 4)) 0) (refl) after e answer f
 
 -- L8: what it tells, by the job's number
 told : (n : ℕ) (e : Entry) →

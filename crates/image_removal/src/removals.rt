@@ -1,4 +1,5 @@
-// The removal of a marked node, in place, but for its Search and its Lock-seek.
+// The removal of a marked node, in place, but for its Search, its Lock-seek and L7, which an Insert
+// has too (image_walks).
 ghost use Rattle.std.specs.Prelude.{◌≡◌, cond, eqb};
 ghost use Rattle.record.specs.declared.stages.Removal.TheVariants as rem;
 ghost use Rattle.rules.specs.declared.answers.Deed.TheVariants as deed;
@@ -10,7 +11,8 @@ use image::layout::{HEADER, NODE_BYTES, PROCESSOR_BYTES};
 use image::numbers::{clear, number_from, put_number, tick};
 use image::{header, node, processor, tag};
 use image_parts::locks::try_lock;
-use rules::{Answer, Attempt, Deed, Entry};
+use image_parts::reads::entry_at;
+use rules::{Answer, Deed};
 
 // L1.
 pub fn hold_node(image: &mut [u8], base: usize, p: usize) -> Answer
@@ -24,13 +26,13 @@ pub fn hold_node(image: &mut [u8], base: usize, p: usize) -> Answer
     let top = image[at + (processor::SAVED + ((height as usize) - 1))];
     tick(image);
     match try_lock(image, here + node::NODE_LOCK, p) {
-        Attempt::Taken => {
+        None => {
             image[at + processor::TAG] = tag::REMOVAL_SEEK;
             image[at + processor::PLACE] = top;
             image[at + processor::LEVEL] = height;
             Answer::Moved
         }
-        Attempt::HeldBy(node_holder) => Answer::Waits(node_holder),
+        Some(node_holder) => Answer::Waits(node_holder),
     }
 }
 
@@ -46,11 +48,11 @@ pub fn hold_own(image: &mut [u8], base: usize, p: usize) -> Answer
     let lock = base + NODE_BYTES * (own as usize) + (node::LEVEL_LOCKS + k);
     tick(image);
     match try_lock(image, lock, p) {
-        Attempt::Taken => {
+        None => {
             image[at + processor::TAG] = tag::UNLINK;
             Answer::Moved
         }
-        Attempt::HeldBy(level_holder) => Answer::Waits(level_holder),
+        Some(level_holder) => Answer::Waits(level_holder),
     }
 }
 
@@ -102,7 +104,7 @@ pub fn free_own(image: &mut [u8], base: usize, p: usize) -> Answer
     Answer::Moved
 }
 
-// L6.
+// L6. It goes down, to level 1; I3 goes up, and so is a function of its own.
 pub fn free_level(image: &mut [u8], base: usize, p: usize) -> Answer
     requires { Placed image.old base p (removal_tag (rem.FreeLevel anywhere)) }
     ensures { Stepped image.old p image.new result }
@@ -128,20 +130,7 @@ pub fn free_level(image: &mut [u8], base: usize, p: usize) -> Answer
     Answer::Moved
 }
 
-// L7.
-pub fn free_node(image: &mut [u8], base: usize, p: usize) -> Answer
-    requires { Owned image.old base p (removal_tag rem.FreeNode) }
-    ensures { Stepped image.old p image.new result }
-{
-    let at = HEADER + PROCESSOR_BYTES * p;
-    let own = image[at + processor::OWN];
-    tick(image);
-    image[base + NODE_BYTES * (own as usize) + node::NODE_LOCK] = 0;
-    image[at + processor::TAG] = tag::RETIRE;
-    Answer::Moved
-}
-
-// What L8 tells, by the job's number.
+// What L8 tells, by the job's number. No `From`: the byte and `Deed` are both of other crates.
 fn deed_of(job: u8) -> Deed
     ensures { result ≡ cond (eqb job 0) deed.HandedOut deed.TakenBack }
 {
@@ -162,21 +151,12 @@ pub fn retire(image: &mut [u8], base: usize, p: usize) -> Answer
     let done = deed_of(image[at + processor::JOB]);
     let l = image[header::LEVEL_COUNT] as usize;
     let here = base + NODE_BYTES * (own as usize);
-    let due = number_from(image, here + node::DUE);
-    let ticket = number_from(image, here + node::TICKET);
-    let item = number_from(image, here + node::ITEM);
+    let entry = entry_at(image, here);
     let t = number_from(image, header::CLOCK) + 1;
     tick(image);
     image[here + node::USE] = node::RETIRED;
     put_number(image, here, node::USE_TIME, t);
     clear(image, at, l);
     image[at + processor::JOB] = 0;
-    Answer::Did(
-        done,
-        Entry {
-            due: due,
-            item: item,
-            ticket: ticket,
-        },
-    )
+    Answer::Did(done, entry)
 }

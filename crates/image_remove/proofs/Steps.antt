@@ -1,13 +1,13 @@
 -- What each stage of a Remove before its mark stores is what the definition says (02, W5). Assumes
 -- nothing.
 use mathlib.Core.Path.{◌≡◌, refl, sym, ◌∙◌, ap}
-use mathlib.Core.Bool.{Bool, true, false, cond}
+use mathlib.Core.Bool.{Bool, true, false}
 use mathlib.Core.List.{List, [], ◌∷◌, ◌++◌}
 use Prim.Native.Nat.{ℕ, ◌+◌, ◌*◌, ◌-◌, ◌≤◌, ◌<◌}
 use native.Mathlib.Omega.{arith}
-use lib.Dec.{ltb, leb, eqb}
+use lib.Dec.{leb}
 use lib.ListN.{length, get_or, set}
-use borrow.Author.Tests.{eq-eqb, ne_eqb, lt-ltb, le-ltb, le-leb, lt-leb}
+use borrow.Author.Tests.{lt-ltb, le-leb, lt-leb}
 use Rattle.record.specs.declared.queues.Processor.{Processor}
 use Rattle.record.specs.declared.stages.Job.TheVariants as jobs
 use Rattle.record.specs.declared.stages.Place.{Place}
@@ -17,6 +17,7 @@ use Rattle.record.specs.declared.stages.Remove.TheVariants as rmv
 use Rattle.record.specs.declared.stages.Stage.TheVariants as stage
 use Rattle.record.specs.declared.stages.Wanted.{Wanted}
 use Rattle.record.specs.Keys.{entry_key, key_before, key_same}
+use Rattle.record.specs.Nodes.{stamped_before}
 use Rattle.record.specs.Queues.{node_at, processor_at}
 use Rattle.record.specs.Stages.{place, wanted_of}
 use Rattle.rules.specs.declared.answers.Answer.{Answer}
@@ -38,11 +39,12 @@ use Rattle.image.specs.Tags.{stage_code, stage_of}
 use Rattle.image.proofs.Puts.{Below, puts_append}
 use Rattle.image.proofs.Sizes.{sized_in}
 use Rattle.image_parts.specs.Given.{Stepped}
+use Rattle.image_parts.specs.Reads.{entry_in, stamp_in}
 use Rattle.image_parts.specs.Ready.{next_in, key_in, Seeking}
 use Rattle.image_parts.proofs.Pieces.{moves, put_saved, put_idle_key, put_mark}
 use Rattle.image_parts.proofs.Readings.{mine, code_in, onward, stage_is, next_from, wanted_before}
 use Rattle.image_parts.proofs.Readings.{wanted_there, arm, levels_is, fits_below, ends_below}
-use Rattle.image_parts.proofs.Readings.{entry_in, entry_is}
+use Rattle.image_parts.proofs.Readings.{entry_is}
 use Rattle.image_parts.proofs.Walks.{stamped_is, marked_is}
 
 -- what a Remove carries: its place, and its key
@@ -66,29 +68,29 @@ module _ (see : Place → StepView) (w : Wanted) (a : Place) where
   abbrev first : StepView
   first = see (place a.node 1)
 
-  search_goes : (see a).nextBeforeKey ≡ true → decides (rmv.Search a)
+  search_goes : (see a).next_before_key ≡ true → decides (rmv.Search a)
       ≡ moved (see a) eff.Keep (stage.Remove w (rmv.Search (place (see a).next a.level)))
   search_goes h = rw h refl
 
-  search_falls : (see a).nextBeforeKey ≡ false → leb a.level 1 ≡ false → decides (rmv.Search a)
+  search_falls : (see a).next_before_key ≡ false → leb a.level 1 ≡ false → decides (rmv.Search a)
       ≡ saving (see a) a (stage.Remove w (rmv.Search (place a.node (a.level - 1))))
   search_falls h l = rw (h, l) refl
 
-  search_ends : (see a).nextBeforeKey ≡ false → leb a.level 1 ≡ true → decides (rmv.Search a)
+  search_ends : (see a).next_before_key ≡ false → leb a.level 1 ≡ true → decides (rmv.Search a)
       ≡ saving (see a) a (stage.Remove w (rmv.ReadNext a))
   search_ends h l = rw (h, l) refl
 
-  read_goes : first.nextBeforeKey ≡ true → decides (rmv.ReadNext a)
+  read_goes : first.next_before_key ≡ true → decides (rmv.ReadNext a)
       ≡ moved first eff.Keep (stage.Remove w (rmv.ReadNext (place first.next 1)))
   read_goes h = rw h refl
 
   read_finds :
-      first.nextBeforeKey ≡ false → first.nextHasKey ≡ true → decides (rmv.ReadNext a)
+      first.next_before_key ≡ false → first.next_has_key ≡ true → decides (rmv.ReadNext a)
       ≡ moved first eff.Keep (stage.Remove w (rmv.TestStamp (place first.next 1)))
   read_finds h k = rw (h, k) refl
 
   read_misses :
-      first.nextBeforeKey ≡ false → first.nextHasKey ≡ false →
+      first.next_before_key ≡ false → first.next_has_key ≡ false →
       decides (rmv.ReadNext a) ≡ missing w
   read_misses h k = rw (h, k) refl
 
@@ -183,7 +185,7 @@ module _ (b : List ℕ) (base p tag : ℕ) (r : Seeking b base p tag) (g : Remov
         r.walked.node_low low high
 
     before_at :
-        (view (place (mine b p 6) i)).nextBeforeKey
+        (view (place (mine b p 6) i)).next_before_key
         ≡ key_before (key_in b base (next_in b base (mine b p 6) i))
         (entry_key (wanted_due_in b p) (wanted_ticket_in b p))
     before_at =
@@ -191,7 +193,7 @@ module _ (b : List ℕ) (base p tag : ℕ) (r : Seeking b base p tag) (g : Remov
         (place (mine b p 6) i) (next_in b base (mine b p 6) i) next_at leads
 
     there_at :
-        (view (place (mine b p 6) i)).nextHasKey
+        (view (place (mine b p 6) i)).next_has_key
         ≡ key_same (key_in b base (next_in b base (mine b p 6) i))
         (entry_key (wanted_due_in b p) (wanted_ticket_in b p))
     there_at =
@@ -204,13 +206,13 @@ module _ (b : List ℕ) (base p tag : ℕ) (r : Seeking b base p tag) (g : Remov
         (es fs : List (ℕ × ℕ)) → node_of d.effect < get_or b 1 0 + 2 → Below 41 es → Below 26 fs →
         puts_in (node_image (node_at (queue_in b) (node_of d.effect))) es
         ≡ node_image
-        (changed (queue_in b).levelCount ((queue_in b).nodeCount + 1) (p + 1) ((queue_in b).clock + 1)
+        (changed (queue_in b).level_count ((queue_in b).node_count + 1) (p + 1) ((queue_in b).clock + 1)
         d.effect (node_at (queue_in b) (node_of d.effect))) →
         puts_in (processor_image
         (moves (processor_at (queue_in b) p) (stage.Remove (wanted b p) g)
         (processor_at (queue_in b) p).saved)) fs
         ≡ processor_image
-        (processor_after (queue_in b).levelCount ((queue_in b).clock + 1) (processor_at (queue_in b) p)
+        (processor_after (queue_in b).level_count ((queue_in b).clock + 1) (processor_at (queue_in b) p)
         d) →
         after ≡ puts
         (puts (puts b 0 (four 3 (number32 b 3 + 1))) (base + 41 * node_of d.effect) es)
@@ -266,7 +268,7 @@ module _ (b : List ℕ) (base p : ℕ) (r : Seeking b base p 29) (after : List �
     abbrev x : ℕ
     x = onward b base p
 
-    searched : (view b base p 29 r (rmv.Search (at b p)) refl (at b p)).nextBeforeKey
+    searched : (view b base p 29 r (rmv.Search (at b p)) refl (at b p)).next_before_key
         ≡ earlier b base p x
     searched =
         before_at b base p 29 r (rmv.Search (at b p)) refl (mine b p 7) r.level_low
@@ -342,13 +344,13 @@ module _ (b : List ℕ) (base p : ℕ) (r : Seeking b base p 30) (after : List �
     abbrev level1 : Place
     level1 = place (mine b p 6) 1
 
-    read_before : (view b base p 30 r (rmv.ReadNext (at b p)) refl level1).nextBeforeKey
+    read_before : (view b base p 30 r (rmv.ReadNext (at b p)) refl level1).next_before_key
         ≡ earlier b base p y
     read_before =
         before_at b base p 30 r (rmv.ReadNext (at b p)) refl 1 (omega arith) (omega arith)
         r.first_low
 
-    read_there : (view b base p 30 r (rmv.ReadNext (at b p)) refl level1).nextHasKey
+    read_there : (view b base p 30 r (rmv.ReadNext (at b p)) refl level1).next_has_key
         ≡ same b base p y
     read_there =
         there_at b base p 30 r (rmv.ReadNext (at b p)) refl 1 (omega arith) (omega arith)
@@ -412,17 +414,11 @@ module _ (b : List ℕ) (base p : ℕ) (r : Seeking b base p 30) (after : List �
 -- the stamp
 module _ (b : List ℕ) (base p : ℕ) (r : Seeking b base p 31) (after : List ℕ) (answer : Answer)
   where
-    abbrev stamp_at : ℕ
-    stamp_at = base + 41 * mine b p 6 + 18
+    abbrev stamped : Bool
+    stamped = stamped_before (stamp_in b (base + 41 * mine b p 6)) (number32 b (7 + 26 * p + 0))
 
-    abbrev time_at : ℕ
-    time_at = base + 41 * mine b p 6 + 19
-
-    stamp_lost :
-        cond (eqb (get_or b stamp_at 0) 1)
-        (ltb (number32 b time_at) (number32 b (7 + 26 * p + 0))) false ≡ false →
-        answer ≡ ans.NotThere (wanted b p) →
-        after ≡ lost b p →
+    pub stamp_lost :
+        stamped ≡ false → answer ≡ ans.NotThere (wanted b p) → after ≡ lost b p →
         Stepped b p after answer
     stamp_lost h f e =
         let g = rmv.TestStamp (at b p) in
@@ -430,25 +426,12 @@ module _ (b : List ℕ) (base p : ℕ) (r : Seeking b base p 31) (after : List �
         (stamp_misses (view b base p 31 r g refl) (wanted b p) (at b p)
         (stamped_is b base p 31 r.walked ∙ h)) after answer f e
 
-    pub stamp_none :
-        (get_or b stamp_at 0 ≡ 1 → ⊥) → answer ≡ ans.NotThere (wanted b p) →
-        after ≡ lost b p →
-        Stepped b p after answer
-    stamp_none h = stamp_lost (rw (ne_eqb _ _ h) refl)
-
-    pub stamp_late :
-        get_or b stamp_at 0 ≡ 1 → number32 b (7 + 26 * p + 0) ≤ number32 b time_at →
-        answer ≡ ans.NotThere (wanted b p) →
-        after ≡ lost b p →
-        Stepped b p after answer
-    stamp_late h l = stamp_lost (rw (eq-eqb _ _ h, le-ltb _ _ l) refl)
-
-    pub stamp_early :
-        get_or b stamp_at 0 ≡ 1 → number32 b time_at < number32 b (7 + 26 * p + 0) →
+    pub stamp_found :
+        stamped ≡ true →
         after ≡ puts (puts b 0 (four 3 (number32 b 3 + 1))) (7 + 26 * p) ((5, 32) ∷ []) →
         answer ≡ ans.Moved →
         Stepped b p after answer
-    stamp_early h l e f =
+    stamp_found h e f =
         let g = rmv.TestStamp (at b p) in
         let c = processor_at (queue_in b) p in
         let w = wanted b p in
@@ -456,8 +439,7 @@ module _ (b : List ℕ) (base p : ℕ) (r : Seeking b base p 31) (after : List �
         let fs : List (ℕ × ℕ) = (5, 32) ∷ [] in
         steps b base p 31 r g refl
         (moved (see (place (mine b p 6) 1)) eff.Keep (stage.Remove w (rmv.SetMark (at b p))))
-        (stamp_passes see w (at b p)
-        (stamped_is b base p 31 r.walked ∙ rw (eq-eqb _ _ h, lt-ltb _ _ l) refl))
+        (stamp_passes see w (at b p) (stamped_is b base p 31 r.walked ∙ h))
         after answer [] fs (omega arith) tt (fits_below 26 fs refl) refl
         (stamp_leaves c w (at b p)) e f
 

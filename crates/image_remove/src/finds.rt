@@ -17,8 +17,8 @@ use image::layout::{HEADER, NODE_BYTES, PROCESSOR_BYTES};
 use image::numbers::{clear, number_from, put_wanted, tick};
 use image::{header, node, processor, tag};
 use image_parts::keys::{before_key, has_key};
-use record::Wanted;
-use rules::{Answer, Deed, Entry};
+use image_parts::reads::{entry_at, stamped_before, wanted_at};
+use rules::{Answer, Deed};
 
 // What processor p wants is not there: it is idle again, and the answer tells the key.
 fn not_there(image: &mut [u8], p: usize) -> Answer
@@ -33,18 +33,14 @@ fn not_there(image: &mut [u8], p: usize) -> Answer
 {
     let start = HEADER + PROCESSOR_BYTES * p;
     let l = image[header::LEVEL_COUNT] as usize;
-    let due = number_from(image, start + processor::WANTED_DUE);
-    let ticket = number_from(image, start + processor::WANTED_TICKET);
+    let wanted = wanted_at(image, start);
     tick(image);
     clear(image, start, l);
     put_wanted(image, start, 0, 0);
-    Answer::NotThere(Wanted {
-        due: due,
-        ticket: ticket,
-    })
+    Answer::NotThere(wanted)
 }
 
-// Search.
+// Search, by the key that is carried; those of image_walks have an own node with a key.
 pub fn search(image: &mut [u8], base: usize, p: usize) -> Answer
     requires { Seeking image.old base p (remove_tag (rmv.Search anywhere)) }
     ensures { Stepped image.old p image.new result }
@@ -54,9 +50,8 @@ pub fn search(image: &mut [u8], base: usize, p: usize) -> Answer
     let i = image[at + processor::LEVEL];
     let k = (i as usize) - 1;
     let x = image[base + NODE_BYTES * (a as usize) + k];
-    let due = number_from(image, at + processor::WANTED_DUE);
-    let ticket = number_from(image, at + processor::WANTED_TICKET);
-    let ahead = before_key(image, base, x, due, ticket);
+    let wanted = wanted_at(image, at);
+    let ahead = before_key(image, base, x, wanted);
     tick(image);
     if ahead {
         image[at + processor::PLACE] = x;
@@ -79,15 +74,14 @@ pub fn read_next(image: &mut [u8], base: usize, p: usize) -> Answer
     let at = HEADER + PROCESSOR_BYTES * p;
     let a = image[at + processor::PLACE];
     let x = image[base + NODE_BYTES * (a as usize) + node::FORWARD];
-    let due = number_from(image, at + processor::WANTED_DUE);
-    let ticket = number_from(image, at + processor::WANTED_TICKET);
-    if before_key(image, base, x, due, ticket) {
+    let wanted = wanted_at(image, at);
+    if before_key(image, base, x, wanted) {
         tick(image);
         image[at + processor::PLACE] = x;
         image[at + processor::LEVEL] = 1;
         return Answer::Moved;
     }
-    if has_key(image, base, x, due, ticket) {
+    if has_key(image, base, x, wanted) {
         tick(image);
         image[at + processor::TAG] = tag::REMOVE_TEST_STAMP;
         image[at + processor::PLACE] = x;
@@ -106,12 +100,7 @@ pub fn test_stamp(image: &mut [u8], base: usize, p: usize) -> Answer
     let a = image[at + processor::PLACE];
     let here = base + NODE_BYTES * (a as usize);
     let begin = number_from(image, at + processor::BEGIN);
-    let t = image[here + node::STAMP];
-    let u = number_from(image, here + node::STAMP_TIME);
-    if t != 1 {
-        return not_there(image, p);
-    }
-    if begin <= u {
+    if !stamped_before(image, here, begin) {
         return not_there(image, p);
     }
     tick(image);
@@ -133,24 +122,14 @@ pub fn set_mark(image: &mut [u8], base: usize, p: usize) -> Answer
     if m != node::UNMARKED {
         return not_there(image, p);
     }
-    let due = number_from(image, here + node::DUE);
-    let ticket = number_from(image, here + node::TICKET);
-    let item = number_from(image, here + node::ITEM);
-    let h = (p as u8) + 1;
+    let entry = entry_at(image, here);
     tick(image);
-    image[here + node::MARK] = h;
+    image[here + node::MARK] = p as u8 + 1;
     image[at + processor::OWN] = a;
     image[at + processor::TAG] = tag::REMOVAL_SEARCH;
     image[at + processor::PLACE] = 0;
     image[at + processor::LEVEL] = l;
     image[at + processor::JOB] = processor::TAKE_BACK;
     put_wanted(image, at, 0, 0);
-    Answer::Did(
-        Deed::Marked,
-        Entry {
-            due: due,
-            item: item,
-            ticket: ticket,
-        },
-    )
+    Answer::Did(Deed::Marked, entry)
 }

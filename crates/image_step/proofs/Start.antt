@@ -21,4 +21,4 @@ start_after b s c l r g =
     let is = call_is b s c in
     let u = queue_after_lem b s (calls c) (called_valid (queue_in b) c) is l r g.0 ∙ is in
     ap processor_start
-    (sym (ap (λ (q : Queue). q.processorCount) u ∙ (untouched (queue_in b) (calls c)).processorCount))
+    (sym (ap (λ (q : Queue). q.processor_count) u ∙ (untouched (queue_in b) (calls c)).processor_count))

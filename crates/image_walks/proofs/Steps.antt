@@ -1,4 +1,5 @@
 -- What each stage of a walk stores is what the definition says. Assumes nothing.
+use Rattle.std.specs.Prelude.{Some, None}
 use mathlib.Core.Path.{◌≡◌, refl, sym, ◌∙◌, ap}
 use mathlib.Core.Bool.{Bool, true, false}
 use mathlib.Core.List.{List, [], ◌∷◌}
@@ -6,25 +7,28 @@ use Prim.Native.Nat.{ℕ, ◌+◌, ◌*◌, ◌-◌, ◌≤◌, ◌<◌}
 use native.Mathlib.Omega.{arith}
 use lib.ListN.{get_or}
 use borrow.Author.Tests.{le-leb, lt-leb}
+use Rattle.record.specs.declared.stages.Insert.TheVariants as ins
+use Rattle.record.specs.declared.stages.Removal.TheVariants as rem
 use Rattle.record.specs.declared.stages.Seek.TheVariants as seek
+use Rattle.record.specs.declared.stages.Stage.TheVariants as stage
 use Rattle.record.specs.Keys.{key_before}
 use Rattle.record.specs.Queues.{node_at, processor_at}
 use Rattle.record.specs.Stages.{place}
 use Rattle.rules.specs.declared.answers.Answer.{Answer}
 use Rattle.rules.specs.declared.answers.Answer.TheVariants as ans
-use Rattle.rules.specs.declared.decisions.Attempt.TheVariants as try
 use Rattle.rules.specs.declared.decisions.Effect.TheVariants as eff
 use Rattle.rules.specs.Calls.{step_view_of}
-use Rattle.rules.specs.Decide.{moved, waits, saving, attempt}
+use Rattle.rules.specs.Decide.{moved, waits, saving, attempt, removing}
 use Rattle.image.specs.Image.{queue_in}
 use Rattle.image.specs.Numbers.{number32}
+use Rattle.image.specs.Pieces.{processor_image}
 use Rattle.image.specs.Puts.{puts, four}
 use Rattle.image.proofs.Sizes.{sized_in}
 use Rattle.image_parts.specs.Given.{Stepped}
-use Rattle.image_parts.specs.Ready.{key_in, Placed}
-use Rattle.image_parts.proofs.Pieces.{put_lock}
+use Rattle.image_parts.specs.Ready.{key_in, Placed, Owned}
+use Rattle.image_parts.proofs.Pieces.{put_lock, put_holder}
 use Rattle.image_parts.proofs.Readings.{mine, job_at, onward, arm, next_is, before_is}
-use Rattle.image_parts.proofs.Readings.{place_lock_is}
+use Rattle.image_parts.proofs.Readings.{place_lock_is, mine_is, own_low}
 use Rattle.image_walks.specs.Walks.{search_tag, seek_tag}
 use Rattle.image_walks.proofs.Tags.{
   searching,
@@ -217,7 +221,7 @@ module _ (w : Bool) (b : List ℕ) (base p : ℕ) (r : Placed b base p (seek_tag
 module _ (w : Bool) (b : List ℕ) (base p : ℕ) (r : Placed b base p (seek_tag w + 1))
     (after : List ℕ) (answer : Answer) where
   pub takes :
-      attempt (get_or b (base + 41 * mine b p 6 + (8 + (mine b p 7 - 1))) 0) ≡ try.Taken →
+      attempt (get_or b (base + 41 * mine b p 6 + (8 + (mine b p 7 - 1))) 0) ≡ None →
       after ≡ puts
       (puts (puts b 0 (four 3 (number32 b 3 + 1))) (base + 41 * mine b p 6)
       ((8 + (mine b p 7 - 1), p + 1) ∷ [])) (7 + 26 * p) ((5, seek_tag w + 2) ∷ []) →
@@ -245,7 +249,7 @@ module _ (w : Bool) (b : List ℕ) (base p : ℕ) (r : Placed b base p (seek_tag
 
   pub take_waits :
       (x : ℕ) →
-      attempt (get_or b (base + 41 * mine b p 6 + (8 + (mine b p 7 - 1))) 0) ≡ try.HeldBy x →
+      attempt (get_or b (base + 41 * mine b p 6 + (8 + (mine b p 7 - 1))) 0) ≡ Some x →
       after ≡ puts (puts b 0 (four 3 (number32 b 3 + 1))) (7 + 26 * p) [] →
       answer ≡ ans.Waits x →
       Stepped b p after answer
@@ -348,3 +352,43 @@ module _ (w : Bool) (b : List ℕ) (base p : ℕ) (r : Placed b base p (seek_tag
       (put_lock (node_at q (mine b p 6)) (mine b p 7 - 1) 0 [] k<
       ((sized_in b).locks_long (mine b p 6) (omega (arith, r.node_low, r.nodes_high))))
       (takes_again c a j w (mine b p 8)) after e answer f
+
+-- I4
+module _ (b : List ℕ) (base p : ℕ) (r : Owned b base p 9) (after : List ℕ) (answer : Answer) where
+  pub insert_frees :
+      after ≡ puts
+      (puts (puts b 0 (four 3 (number32 b 3 + 1))) (base + 41 * mine b p 4) ((16, 0) ∷ []))
+      (7 + 26 * p) ((5, 10) ∷ []) →
+      answer ≡ ans.Moved →
+      Stepped b p after answer
+  unfolding processor_image
+  insert_frees e f =
+      let q = queue_in b in
+      let c = processor_at q p in
+      let s = step_view_of q c (place 0 1) in
+      arm b base p 9 r.sound r.start r.nodes_high r.processors_high r.low r.few
+      r.early r.tagged (stage.Insert ins.FreeNode) refl refl
+      (moved s (eff.FreeNode (mine b p 4)) (stage.Insert ins.Stamp))
+      (ap (λ (x : ℕ). moved s (eff.FreeNode x) (stage.Insert ins.Stamp)) (mine_is b base p 9 r))
+      ((16, 0) ∷ []) ((5, 10) ∷ []) (own_low b base p 9 r) (omega arith, tt) (omega arith, tt)
+      (put_holder (node_at q (mine b p 4)) 0) refl after e answer f
+
+-- L7
+module _ (b : List ℕ) (base p : ℕ) (r : Owned b base p 25) (after : List ℕ) (answer : Answer) where
+  pub removal_frees :
+      after ≡ puts
+      (puts (puts b 0 (four 3 (number32 b 3 + 1))) (base + 41 * mine b p 4) ((16, 0) ∷ []))
+      (7 + 26 * p) ((5, 26) ∷ []) →
+      answer ≡ ans.Moved →
+      Stepped b p after answer
+  unfolding processor_image
+  removal_frees e f =
+      let q = queue_in b in
+      let c = processor_at q p in
+      let s = step_view_of q c (place 0 1) in
+      arm b base p 25 r.sound r.start r.nodes_high r.processors_high r.low
+      r.few r.early r.tagged (removing (job_at b p) rem.FreeNode) refl refl
+      (moved s (eff.FreeNode (mine b p 4)) (removing (job_at b p) rem.Retire))
+      (rw (mine_is b base p 25 r) refl)
+      ((16, 0) ∷ []) ((5, 26) ∷ []) (own_low b base p 25 r) (omega arith, tt) (omega arith, tt)
+      (put_holder (node_at q (mine b p 4)) 0) (refl) after e answer f

@@ -1,5 +1,6 @@
 -- The walks' stages by their tags, what they decide, and their bytes: for an Insert and for a
 -- removal alike. Assumes nothing.
+use Rattle.std.specs.Prelude.{Option, ℕ, Some, None}
 use mathlib.Core.Path.{◌≡◌, refl, ap}
 use mathlib.Core.Bool.{Bool, true, false}
 use mathlib.Core.List.{List, [], ◌∷◌}
@@ -16,8 +17,6 @@ use Rattle.record.specs.declared.stages.Job.{Job}
 use Rattle.record.specs.declared.stages.Stage.{Stage}
 use Rattle.record.specs.declared.stages.Stage.TheVariants as stage
 use Rattle.record.specs.Stages.{place, is_idle}
-use Rattle.rules.specs.declared.decisions.Attempt.{Attempt}
-use Rattle.rules.specs.declared.decisions.Attempt.TheVariants as try
 use Rattle.rules.specs.declared.decisions.Effect.TheVariants as eff
 use Rattle.rules.specs.declared.decisions.StepView.{StepView}
 use Rattle.rules.specs.Calls.{reading_place}
@@ -89,65 +88,65 @@ seek_busy j false k = refl
 -- what they decide, of what is seen at a place
 module _ (see : Place → StepView) (a : Place) (j : Job) where
   pub search_goes :
-      (w : Bool) → (see a).nextBeforeKey ≡ true →
+      (w : Bool) → (see a).next_before_key ≡ true →
       decide (see (reading_place (searching j w a))) (searching j w a)
       ≡ moved (see a) eff.Keep (searching j w (place (see a).next a.level))
   search_goes true h = rw h refl
   search_goes false h = rw h refl
 
   pub search_falls :
-      (w : Bool) → (see a).nextBeforeKey ≡ false → leb a.level 1 ≡ false →
+      (w : Bool) → (see a).next_before_key ≡ false → leb a.level 1 ≡ false →
       decide (see (reading_place (searching j w a))) (searching j w a)
       ≡ saving (see a) a (searching j w (place a.node (a.level - 1)))
   search_falls true h l = rw (h, l) refl
   search_falls false h l = rw (h, l) refl
 
   pub search_ends :
-      (w : Bool) → (see a).nextBeforeKey ≡ false → leb a.level 1 ≡ true →
+      (w : Bool) → (see a).next_before_key ≡ false → leb a.level 1 ≡ true →
       decide (see (reading_place (searching j w a))) (searching j w a)
       ≡ saving (see a) a (after j w a)
   search_ends true h l = rw (h, l) refl
   search_ends false h l = rw (h, l) refl
 
   pub approach_goes :
-      (w : Bool) → (see a).nextBeforeKey ≡ true →
+      (w : Bool) → (see a).next_before_key ≡ true →
       decide (see (reading_place (seeking j w (seek.Approach a)))) (seeking j w (seek.Approach a))
       ≡ moved (see a) eff.Keep (seeking j w (seek.Approach (place (see a).next a.level)))
   approach_goes true h = rw h refl
   approach_goes false h = rw h refl
 
   pub approach_ends :
-      (w : Bool) → (see a).nextBeforeKey ≡ false →
+      (w : Bool) → (see a).next_before_key ≡ false →
       decide (see (reading_place (seeking j w (seek.Approach a)))) (seeking j w (seek.Approach a))
       ≡ moved (see a) eff.Keep (seeking j w (seek.Take a))
   approach_ends true h = rw h refl
   approach_ends false h = rw h refl
 
   pub take_goes :
-      (w : Bool) → attempt (see a).placeLock ≡ try.Taken →
+      (w : Bool) → attempt (see a).place_lock ≡ None →
       decide (see (reading_place (seeking j w (seek.Take a)))) (seeking j w (seek.Take a))
       ≡ moved (see a) (eff.HoldLevel a) (seeking j w (seek.Confirm a))
   take_goes true h =
-      ap (λ (t : Attempt). removal_sought j (see a) (place_tried a t)) h
-  take_goes false h = ap (λ (t : Attempt). insert_sought (see a) (place_tried a t)) h
+      ap (λ (t : Option ℕ). removal_sought j (see a) (place_tried a t)) h
+  take_goes false h = ap (λ (t : Option ℕ). insert_sought (see a) (place_tried a t)) h
 
   pub take_stays :
-      (w : Bool) (x : ℕ) → attempt (see a).placeLock ≡ try.HeldBy x →
+      (w : Bool) (x : ℕ) → attempt (see a).place_lock ≡ Some x →
       decide (see (reading_place (seeking j w (seek.Take a)))) (seeking j w (seek.Take a))
       ≡ waits (see a) (seeking j w (seek.Take a)) x
   take_stays true x h =
-      ap (λ (t : Attempt). removal_sought j (see a) (place_tried a t)) h
-  take_stays false x h = ap (λ (t : Attempt). insert_sought (see a) (place_tried a t)) h
+      ap (λ (t : Option ℕ). removal_sought j (see a) (place_tried a t)) h
+  take_stays false x h = ap (λ (t : Option ℕ). insert_sought (see a) (place_tried a t)) h
 
   pub confirm_goes :
-      (w : Bool) → (see a).nextBeforeKey ≡ true →
+      (w : Bool) → (see a).next_before_key ≡ true →
       decide (see (reading_place (seeking j w (seek.Confirm a)))) (seeking j w (seek.Confirm a))
       ≡ moved (see a) eff.Keep (seeking j w (seek.Release a (see a).next))
   confirm_goes true h = rw h refl
   confirm_goes false h = rw h refl
 
   pub confirm_ends :
-      (w : Bool) → (see a).nextBeforeKey ≡ false →
+      (w : Bool) → (see a).next_before_key ≡ false →
       decide (see (reading_place (seeking j w (seek.Confirm a)))) (seeking j w (seek.Confirm a))
       ≡ moved (see a) eff.Keep (sought j w a)
   confirm_ends true h = rw h refl

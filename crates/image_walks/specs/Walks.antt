@@ -1,4 +1,5 @@
--- The Search and the Lock-seek of an Insert and of a removal, by their tags.
+-- The Search, the Lock-seek and the stage that frees the node, of an Insert and of a removal, by
+-- their tags.
 use Rattle.std.specs.Prelude.{Bool, true, false, ℕ}
 use Rattle.record.specs.declared.stages.Insert.TheVariants as ins
 use Rattle.record.specs.declared.stages.Removal.TheVariants as rem
@@ -14,3 +15,8 @@ search_tag false = insert_tag (ins.Search anywhere)
 abbrev pub seek_tag : Bool → ℕ
 seek_tag true = removal_tag (rem.Seek (seek.Approach anywhere))
 seek_tag false = insert_tag (ins.Seek (seek.Approach anywhere))
+
+-- the tag of I4 and of L7
+abbrev pub free_node_tag : Bool → ℕ
+free_node_tag true = removal_tag rem.FreeNode
+free_node_tag false = insert_tag ins.FreeNode

@@ -1,4 +1,4 @@
-// The walks that an Insert and a removal have in common, in place.
+// The stages that an Insert and a removal have in common, in place.
 #![tactic(auto)]
 
 pub mod walks;

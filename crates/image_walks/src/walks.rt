@@ -1,16 +1,17 @@
 // A function for each stage: it reads what this stage reads, and stores what it changes. `removal`
-// tells whose walk it is.
+// tells whose walk it is. There is no struct of the own node, the place and the level that all read
+// at once, since several stages need only some of them.
 ghost use Rattle.std.specs.Prelude.{◌≡◌, ◌+◌, ◌≤◌};
 ghost use Rattle.image_parts.specs.Given.{Stepped};
-ghost use Rattle.image_parts.specs.Ready.{Placed};
-ghost use Rattle.image_walks.specs.Walks.{search_tag, seek_tag};
+ghost use Rattle.image_parts.specs.Ready.{Owned, Placed};
+ghost use Rattle.image_walks.specs.Walks.{free_node_tag, search_tag, seek_tag};
 
 use image::layout::{HEADER, NODE_BYTES, PROCESSOR_BYTES};
 use image::numbers::tick;
 use image::{node, processor, tag};
 use image_parts::keys::before;
 use image_parts::locks::try_lock;
-use rules::{Answer, Attempt};
+use rules::Answer;
 
 // The tag of G1; G2, G3 and G4 have the next ones.
 fn seek_tag(removal: bool) -> u8
@@ -34,12 +35,12 @@ pub fn search(image: &mut [u8], base: usize, p: usize, removal: bool) -> Answer
     let i = image[at + processor::LEVEL];
     let k = (i as usize) - 1;
     let x = image[base + NODE_BYTES * (a as usize) + k];
-    if before(image, base, x, own) {
-        tick(image);
+    let ahead = before(image, base, x, own);
+    tick(image);
+    if ahead {
         image[at + processor::PLACE] = x;
         return Answer::Moved;
     }
-    tick(image);
     image[at + (processor::SAVED + k)] = a;
     if 1 < i {
         image[at + processor::LEVEL] = i - 1;
@@ -67,12 +68,12 @@ pub fn approach(image: &mut [u8], base: usize, p: usize, removal: bool) -> Answe
     let k = (i as usize) - 1;
     let x = image[base + NODE_BYTES * (a as usize) + k];
     let first = seek_tag(removal);
-    if before(image, base, x, own) {
-        tick(image);
+    let ahead = before(image, base, x, own);
+    tick(image);
+    if ahead {
         image[at + processor::PLACE] = x;
         return Answer::Moved;
     }
-    tick(image);
     image[at + processor::TAG] = first + 1;
     Answer::Moved
 }
@@ -90,11 +91,11 @@ pub fn take(image: &mut [u8], base: usize, p: usize, removal: bool) -> Answer
     let first = seek_tag(removal);
     tick(image);
     match try_lock(image, lock, p) {
-        Attempt::Taken => {
+        None => {
             image[at + processor::TAG] = first + 2;
             Answer::Moved
         }
-        Attempt::HeldBy(h) => Answer::Waits(h),
+        Some(h) => Answer::Waits(h),
     }
 }
 
@@ -110,13 +111,13 @@ pub fn confirm(image: &mut [u8], base: usize, p: usize, removal: bool) -> Answer
     let k = (i as usize) - 1;
     let x = image[base + NODE_BYTES * (a as usize) + k];
     let first = seek_tag(removal);
-    if before(image, base, x, own) {
-        tick(image);
+    let ahead = before(image, base, x, own);
+    tick(image);
+    if ahead {
         image[at + processor::TAG] = first + 3;
         image[at + processor::AHEAD] = x;
         return Answer::Moved;
     }
-    tick(image);
     image[at + processor::TAG] = first + 4;
     Answer::Moved
 }
@@ -137,5 +138,18 @@ pub fn release(image: &mut [u8], base: usize, p: usize, removal: bool) -> Answer
     image[at + processor::TAG] = first + 1;
     image[at + processor::PLACE] = x;
     image[at + processor::AHEAD] = 0;
+    Answer::Moved
+}
+
+// I4 and L7.
+pub fn free_node(image: &mut [u8], base: usize, p: usize, removal: bool) -> Answer
+    requires { Owned image.old base p (free_node_tag removal) }
+    ensures { Stepped image.old p image.new result }
+{
+    let at = HEADER + PROCESSOR_BYTES * p;
+    let own = image[at + processor::OWN];
+    tick(image);
+    image[base + NODE_BYTES * (own as usize) + node::NODE_LOCK] = 0;
+    image[at + processor::TAG] = if removal { tag::RETIRE } else { tag::STAMP };
     Answer::Moved
 }

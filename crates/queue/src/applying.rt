@@ -9,22 +9,17 @@ use rules::Decision;
 
 // The record after processor p's decision: one node, the processor and the clock change.
 pub fn applied(mut q: Queue, p: u32, d: Decision) -> Queue
-    requires clock_lt_max_number { (q.clock < max_number) × (q.nodeCount ≤ max_nodes) }
+    requires clock_lt_max_number { (q.clock < max_number) × (q.node_count ≤ max_nodes) }
     requires p_lt_max_processors { (p < max_processors) × (node_of d.effect < node_slots) }
     ensures { result ≡ applied_of q p d }
 {
-    let k = p as usize;
     let h = (p + 1) as u8;
     let t = q.clock + 1;
-    let tail = q.nodeCount + 1;
-    let c = q.processors[k];
-    let e = d.effect;
-    let w = node_of(e) as usize;
-    let n = q.nodes[w];
-    let m = changed(q.levelCount, tail, h, t, e, n);
-    let after = processor_after(q.levelCount, t, c, d);
-    q.nodes[w] = m;
-    q.processors[k] = after;
+    let tail = q.node_count + 1;
+    let k = p as usize;
+    let w = node_of(d.effect) as usize;
+    q.nodes[w] = changed(q.level_count, tail, h, t, d.effect, q.nodes[w]);
+    q.processors[k] = processor_after(q.level_count, t, q.processors[k], d);
     q.clock = t;
     q
 }

@@ -1,20 +1,30 @@
 // The calls, on any record and with any numbers: check 21 and then the inner form, which a caller
 // that keeps the record calls itself, since it pays for no scan. The refusals stand in the order of
 // document 01's table, with document 02's 38 and 39: 21; 31, 32; 33 or 34; of an Insert 35, 39, 36,
-// 37; of a Remove 38. A refused call gives its number and the record as it came.
+// 37; of a Remove 38. A refused call gives its refusal and the record as it came.
 ghost use Rattle.std.specs.Prelude.{◌≡◌, true};
 ghost use Rattle.record_check.specs.Check.{valid as valid_of};
-ghost use Rattle.rules.specs.Answers.{reported};
+ghost use Rattle.rules.specs.Answers.{refused as refused_of, reported};
 ghost use Rattle.rules.specs.Calls.{called_valid, called, begin_insert, begin_delete_min};
 ghost use Rattle.rules.specs.Calls.{begin_relaxed, begin_remove, step as step_of};
 
 use crate::applying::applied;
 use crate::deciding::decision_of;
 use crate::reading::{idle_at, taken};
-use record::Queue;
+use record::{Queue, Refusal};
 use record_check::valid;
 use rules::{Answer, Call, Outcome};
 use rules_refusals::{node_refusal, processor_of, refusal_of};
+
+// A refused call gives the record as it came.
+fn refused(queue: Queue, refusal: Refusal) -> Outcome
+    ensures { result ≡ refused_of queue refusal }
+{
+    Outcome {
+        queue,
+        answer: Answer::Refused(refusal),
+    }
+}
 
 // A call on a record that passes check 21.
 pub fn call_valid(q: Queue, c: Call) -> Outcome
@@ -23,27 +33,21 @@ pub fn call_valid(q: Queue, c: Call) -> Outcome
 {
     let p = processor_of(c);
     let idle = idle_at(q, p);
-    let refusal = refusal_of(c, q.clock, q.processorCount, q.levelCount, idle);
-    if 0 < refusal {
-        return Outcome {
-            queue: q,
-            answer: Answer::Refused(refusal),
-        };
+    let early = refusal_of(c, q.clock, q.processor_count, q.level_count, idle);
+    if let Some(refusal) = early {
+        return refused(q, refusal);
     }
-    let x = taken(q, c);
-    let missing = node_refusal(c, x);
-    if 0 < missing {
-        return Outcome {
-            queue: q,
-            answer: Answer::Refused(missing),
-        };
+    // 0 for no node, as `taken` and `node_refusal` of rules/specs/Calls have it
+    let x = taken(q, c).unwrap_or(0);
+    let late = node_refusal(c, x);
+    if let Some(missing) = late {
+        return refused(q, missing);
     }
     let d = decision_of(q, c, x);
-    let answer = d.answer;
     let after = applied(q, p, d);
     Outcome {
         queue: after,
-        answer: answer,
+        answer: d.answer,
     }
 }
 
@@ -51,13 +55,11 @@ pub fn call_valid(q: Queue, c: Call) -> Outcome
 pub fn call(q: Queue, c: Call) -> Outcome
     ensures { result ≡ called q c }
 {
-    if !valid(q) {
-        return Outcome {
-            queue: q,
-            answer: Answer::Refused(21),
-        };
+    if valid(q) {
+        call_valid(q, c)
+    } else {
+        refused(q, Refusal::Invalid)
     }
-    call_valid(q, c)
 }
 
 // The begin of an Insert by a processor: due minute, item and height are any numbers.

@@ -2,21 +2,13 @@
 -- Assumes nothing.
 use mathlib.Core.Path.{◌≡◌}
 use mathlib.Core.Bool.{true}
-use mathlib.Core.List.{map}
 use Prim.Native.Nat.{ℕ, ◌≤◌, ◌<◌}
 use native.Mathlib.Omega.{arith}
-use lib.ListN.{length}
-use Rattle.laws.proofs.Arrays.{unmapped}
-use Rattle.record.specs.declared.nodes.Node.{Node}
-use Rattle.record.specs.declared.queues.Processor.{Processor}
 use Rattle.record.specs.declared.queues.Queue.{Queue}
 use Rattle.record_check.specs.Check.{sizes_of, valid}
-use Rattle.record.specs.Limits.{node_slots, max_processors, max_nodes, max_levels}
+use Rattle.record.specs.Limits.{node_slots, max_processors, max_nodes}
 use Rattle.record.specs.Queues.{processor_at}
-use Rattle.record.specs.contracts.nodes.Node as node_type
-use Rattle.record.specs.contracts.queues.Processor as processor_type
 use Rattle.rules.specs.declared.calls.Call.{Call}
-use Rattle.rules.specs.declared.calls.Call.TheVariants as call
 use Rattle.rules.specs.Calls.{reading_place, next_of, decision_of}
 use Rattle.rules.specs.Effects.{node_of}
 use Rattle.rules.proofs.ValidFacts.{ValidProcessor, ValidPlace, valid_facts}
@@ -24,28 +16,21 @@ use Rattle.rules.proofs.ValidDecisions.{step_view_valid, reading_valid, decides_
 use Rattle.rules.proofs.Allowed.{Allowed}
 use Rattle.rules.proofs.Untouched.{node_high}
 
--- the lengths of the two arrays, from what is known of a record that is a parameter
-pub nodes_long : (q : Queue) → length (map (node_type.the_field).into q.nodes) ≡ node_slots → length q.nodes ≡ node_slots
-nodes_long q h = unmapped Node (node_type.the_field).row.Denot (node_type.the_field).into q.nodes node_slots h
+pub nodes_high : (q : Queue) → valid q ≡ true → q.node_count ≤ max_nodes
+nodes_high q v = (valid_facts q v).sizes.node_count.high
 
-pub processors_long : (q : Queue) → length (map (processor_type.the_field).into q.processors) ≡ max_processors → length q.processors ≡ max_processors
-processors_long q h = unmapped Processor (processor_type.the_field).row.Denot (processor_type.the_field).into q.processors max_processors h
+pub processors_high : (q : Queue) → valid q ≡ true → q.processor_count ≤ max_processors
+processors_high q v = (valid_facts q v).sizes.processor_count.high
 
-pub nodes_high : (q : Queue) → valid q ≡ true → q.nodeCount ≤ max_nodes
-nodes_high q v = (valid_facts q v).sizes.nodeCount.high
-
-pub processors_high : (q : Queue) → valid q ≡ true → q.processorCount ≤ max_processors
-processors_high q v = (valid_facts q v).sizes.processorCount.high
-
-pub processor_low : (q : Queue) (p : ℕ) → valid q ≡ true → p < q.processorCount → p < max_processors
+pub processor_low : (q : Queue) (p : ℕ) → valid q ≡ true → p < q.processor_count → p < max_processors
 processor_low q p v h = omega (arith, processors_high q v)
 
-module _ (q : Queue) (p : ℕ) (v : valid q ≡ true) (h : p < q.processorCount) where
+module _ (q : Queue) (p : ℕ) (v : valid q ≡ true) (h : p < q.processor_count) where
   processor : ValidProcessor (sizes_of q) (processor_at q p)
   processor = (valid_facts q v).processors p h
 
   placed : ValidPlace (sizes_of q) (reading_place (processor_at q p).stage)
-  placed = reading_valid (sizes_of q) (valid_facts q v).sizes.levelCount.low (processor_at q p).stage (processor_at q p).own processor.carries
+  placed = reading_valid (sizes_of q) (valid_facts q v).sizes.level_count.low (processor_at q p).stage (processor_at q p).own processor.carries
 
   pub place_low : (reading_place (processor_at q p).stage).node < node_slots
   place_low = omega (arith, placed.node, nodes_high q v)
@@ -66,11 +51,3 @@ module _ (q : Queue) (v : valid q ≡ true) where
       let d = decides_valid q c A (valid_facts q v) in
       let n = node_high (sizes_of q) (decision_of q c).effect d.effect in
       omega (arith, n, nodes_high q v)
-
-  -- the height of an Insert
-  pub height_high :
-      (p due item height : ℕ) → Allowed q (call.Insert p due item height) → height ≤ max_levels
-  height_high p due item height A =
-      let Q = valid_facts q v in
-      let d = decides_valid q (call.Insert p due item height) A Q in
-      omega (arith, d.effect.height.high, Q.sizes.levelCount.high)

@@ -11,16 +11,10 @@ use rules::{Answer, Decision, Effect, ProcessorChange};
 pub fn insert_begins(levels: u8, t: u32, x: u8, due: u32, item: u32, height: u8) -> Decision
     ensures { result ≡ insert_begins levels t x due item height }
 {
-    let from = Place {
-        node: 0,
-        level: levels,
-    };
     Decision {
         effect: Effect::Fill(x, due, item, height),
-        stage: Stage::Insert(Insert::Search(from)),
         own: x,
-        change: ProcessorChange::Begin,
-        answer: Answer::Began(t),
+        ..walk_begins(t, Stage::Insert(Insert::Search(at(0, levels))))
     }
 }
 
@@ -56,6 +50,5 @@ pub fn relaxed_begins(t: u32) -> Decision
 pub fn remove_begins(levels: u8, t: u32, w: Wanted) -> Decision
     ensures { result ≡ remove_begins levels t w }
 {
-    let from = at(0, levels);
-    walk_begins(t, Stage::Remove(w, Remove::Search(from)))
+    walk_begins(t, Stage::Remove(w, Remove::Search(at(0, levels))))
 }

@@ -4,22 +4,22 @@ ghost use Rattle.std.specs.Prelude.{◌≡◌};
 ghost use Rattle.rules.specs.Decide.{remove_searched, missing as missing_of, remove_on, remove_stamp};
 ghost use Rattle.rules.specs.Decide.{remove_mark, remove_step};
 
-use crate::search::search_step;
+use crate::search::{search_step, searching};
 use crate::walk::marking;
 use record::stages::at;
 use record::{Job, Place, Remove, Stage, Wanted};
-use rules::moves::{answers, moved, saving};
+use rules::moves::{answers, moved};
 use rules::{Answer, Decision, Effect, Searched, StepView};
 
 // After the Search it reads on from the last place.
 fn remove_searched(s: StepView, w: Wanted, a: Place, f: Searched) -> Decision
     ensures { result ≡ remove_searched s w a f }
 {
-    match f {
-        Searched::Ahead(b) => moved(s, Effect::Keep, Stage::Remove(w, Remove::Search(b))),
-        Searched::Down(b) => saving(s, a, Stage::Remove(w, Remove::Search(b))),
-        Searched::Done(b) => saving(s, a, Stage::Remove(w, Remove::ReadNext(b))),
-    }
+    let next = match f {
+        Searched::Ahead(b) | Searched::Down(b) => Remove::Search(b),
+        Searched::Done(b) => Remove::ReadNext(b),
+    };
+    searching(s, a, f, Stage::Remove(w, next))
 }
 
 // What it wants is not there.
@@ -34,10 +34,9 @@ fn remove_on(s: StepView, w: Wanted) -> Decision
     ensures { result ≡ remove_on s w }
 {
     let b = at(s.next, 1);
-    if s.nextBeforeKey {
-        return moved(s, Effect::Keep, Stage::Remove(w, Remove::ReadNext(b)));
-    }
-    if s.nextHasKey {
+    if s.next_before_key {
+        moved(s, Effect::Keep, Stage::Remove(w, Remove::ReadNext(b)))
+    } else if s.next_has_key {
         moved(s, Effect::Keep, Stage::Remove(w, Remove::TestStamp(b)))
     } else {
         missing(w)
@@ -70,10 +69,7 @@ pub fn remove_step(s: StepView, w: Wanted, g: Remove) -> Decision
     ensures { result ≡ remove_step s w g }
 {
     match g {
-        Remove::Search(a) => {
-            let f = search_step(s, a);
-            remove_searched(s, w, a, f)
-        }
+        Remove::Search(a) => remove_searched(s, w, a, search_step(s, a)),
         Remove::ReadNext(_) => remove_on(s, w),
         Remove::TestStamp(a) => remove_stamp(s, w, a),
         Remove::SetMark(a) => remove_mark(s, w, a),

@@ -14,9 +14,10 @@ use rules::{Answer, Decision, Deed, Effect, ProcessorChange, StepView};
 
 // W1 of any walk: on to the next node of level 1, with the stage `on`, or EMPTY at the end.
 fn on_or_empty(s: StepView, on: Stage) -> Decision
-    ensures { result ≡ cond s.nextIsTail (answers_of eff.Keep ans.Empty) (moved_of s eff.Keep on) }
+    ensures { result
+        ≡ cond s.next_is_tail (answers_of eff.Keep ans.Empty) (moved_of s eff.Keep on) }
 {
-    if s.nextIsTail {
+    if s.next_is_tail {
         answers(Effect::Keep, Answer::Empty)
     } else {
         moved(s, Effect::Keep, on)
@@ -27,19 +28,19 @@ fn on_or_empty(s: StepView, on: Stage) -> Decision
 fn walk_on(s: StepView) -> Decision
     ensures { result ≡ walk_on s }
 {
-    let b = at(s.next, 1);
-    on_or_empty(s, Stage::Delete(Delete::TestStamp(b)))
+    on_or_empty(s, Stage::Delete(Delete::TestStamp(at(s.next, 1))))
 }
 
 // W2: a node whose stamp is older than the operation may be marked; any other is walked past.
 fn stamp_test(s: StepView, a: Place) -> Decision
     ensures { result ≡ stamp_test s a }
 {
-    if s.stamped {
-        moved(s, Effect::Keep, Stage::Delete(Delete::SetMark(a)))
+    let on = if s.stamped {
+        Delete::SetMark(a)
     } else {
-        moved(s, Effect::Keep, Stage::Delete(Delete::ReadNext(a)))
-    }
+        Delete::ReadNext(a)
+    };
+    moved(s, Effect::Keep, Stage::Delete(on))
 }
 
 // W3 where the mark was not set: the node is the operation's own from here on, and its removal, for
@@ -47,14 +48,12 @@ fn stamp_test(s: StepView, a: Place) -> Decision
 pub fn marking(s: StepView, job: Job, a: Place) -> Decision
     ensures { result ≡ marking_of job s a }
 {
-    let e = s.placeEntry;
-    let b = at(0, s.levelCount);
     Decision {
         effect: Effect::Mark(a.node),
-        stage: removing(job, Removal::Search(b)),
+        stage: removing(job, Removal::Search(at(0, s.level_count))),
         own: a.node,
         change: ProcessorChange::Keep,
-        answer: Answer::Did(Deed::Marked, e),
+        answer: Answer::Did(Deed::Marked, s.place_entry),
     }
 }
 
@@ -85,11 +84,12 @@ fn relaxed_on(s: StepView) -> Decision
     ensures { result ≡ relaxed_on s }
 {
     let b = at(s.next, 1);
-    if s.next == 0 {
-        on_or_empty(s, Stage::Relaxed(Relaxed::ReadNext(b)))
+    let on = if s.next == 0 {
+        Relaxed::ReadNext(b)
     } else {
-        on_or_empty(s, Stage::Relaxed(Relaxed::SetMark(b)))
-    }
+        Relaxed::SetMark(b)
+    };
+    on_or_empty(s, Stage::Relaxed(on))
 }
 
 pub fn relaxed_step(s: StepView, g: Relaxed) -> Decision

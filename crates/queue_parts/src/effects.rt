@@ -13,15 +13,9 @@ pub fn node_of(e: Effect) -> u8
 {
     match e {
         Effect::Keep => 0,
-        Effect::HoldLevel(a) => a.node,
-        Effect::FreeLevel(a) => a.node,
-        Effect::SetForward(a, _) => a.node,
-        Effect::HoldNode(x) => x,
-        Effect::FreeNode(x) => x,
-        Effect::Mark(x) => x,
-        Effect::Stamp(x) => x,
-        Effect::Retire(x) => x,
-        Effect::Fill(x, _, _, _) => x,
+        Effect::HoldLevel(a) | Effect::FreeLevel(a) | Effect::SetForward(a, _) => a.node,
+        Effect::HoldNode(x) | Effect::FreeNode(x) => x,
+        Effect::Mark(x) | Effect::Stamp(x) | Effect::Retire(x) | Effect::Fill(x, _, _, _) => x,
     }
 }
 
@@ -49,8 +43,7 @@ fn begin_after(t: u32, begin: u32, k: ProcessorChange) -> u32
     ensures { result ≡ begin_after t begin k }
 {
     match k {
-        ProcessorChange::Keep => begin,
-        ProcessorChange::Save(_) => begin,
+        ProcessorChange::Keep | ProcessorChange::Save(_) => begin,
         ProcessorChange::Clear => 0,
         ProcessorChange::Begin => t,
     }
@@ -61,25 +54,19 @@ fn saved_after(levels: u8, saved: [u8; 8], k: ProcessorChange) -> [u8; 8]
     ensures { result ≡ saved_after levels saved k }
 {
     match k {
-        ProcessorChange::Keep => saved,
+        ProcessorChange::Keep | ProcessorChange::Begin => saved,
         ProcessorChange::Save(a) => with_number(saved, slot(a.level), a.node),
         ProcessorChange::Clear => with_levels(saved, levels, 0),
-        ProcessorChange::Begin => saved,
     }
 }
 
 pub fn processor_after(levels: u8, t: u32, c: Processor, d: Decision) -> Processor
     ensures { result ≡ processor_after levels t c d }
 {
-    let change = d.change;
-    let stage = d.stage;
-    let saved = c.saved;
-    let begin = begin_after(t, c.begin, change);
-    let kept = saved_after(levels, saved, change);
     Processor {
-        begin: begin,
+        begin: begin_after(t, c.begin, d.change),
         own: d.own,
-        stage: stage,
-        saved: kept,
+        stage: d.stage,
+        saved: saved_after(levels, c.saved, d.change),
     }
 }

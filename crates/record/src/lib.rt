@@ -9,11 +9,13 @@ pub mod levels;
 pub mod limits;
 pub mod nodes;
 pub mod queues;
+pub mod refusals;
 pub mod stages;
 
-pub use keys::Key;
-pub use nodes::{Node, Stamp, Use};
+pub use keys::{Key, Rank};
+pub use nodes::{Node, Use};
 pub use queues::{Processor, Queue};
+pub use refusals::Refusal;
 pub use stages::{
     Carried, Delete, Insert, Job, Place, Relaxed, Removal, Remove, Seek, Stage, Wanted,
 };

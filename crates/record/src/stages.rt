@@ -122,32 +122,19 @@ impl Wanted {
 pub fn at(node: u8, level: u8) -> Place
     ensures { result ≡ place node level }
 {
-    Place {
-        node: node,
-        level: level,
-    }
+    Place { node, level }
 }
 
 pub fn wanting(due: u32, ticket: u32) -> Wanted
     ensures { result ≡ record { due = due; ticket = ticket } }
 {
-    Wanted {
-        due: due,
-        ticket: ticket,
-    }
+    Wanted { due, ticket }
 }
 
 pub fn is_idle(g: Stage) -> bool
     ensures { result ≡ is_idle g }
 {
-    match g {
-        Stage::Idle => true,
-        Stage::Insert(_) => false,
-        Stage::Delete(_) => false,
-        Stage::Relaxed(_) => false,
-        Stage::Remove(_, _) => false,
-        Stage::Removal(_, _) => false,
-    }
+    matches!(g, Stage::Idle)
 }
 
 fn carrying(own: bool, a: Place) -> Carried
@@ -155,7 +142,7 @@ fn carrying(own: bool, a: Place) -> Carried
         { own = own; place = a; ahead = a.node; marking = false; wanted = none_wanted } }
 {
     Carried {
-        own: own,
+        own,
         place: a,
         ahead: a.node,
         marking: false,
@@ -169,11 +156,9 @@ fn seeking(w: Wanted, a: Place, marking: bool) -> Carried
         { own = false; place = a; ahead = a.node; marking = marking; wanted = w } }
 {
     Carried {
-        own: false,
-        place: a,
-        ahead: a.node,
-        marking: marking,
+        marking,
         wanted: w,
+        ..carrying(false, a)
     }
 }
 
@@ -181,15 +166,10 @@ fn seek_carried(g: Seek) -> Carried
     ensures { result ≡ carried_of (seek_row 0 g) }
 {
     match g {
-        Seek::Approach(a) => carrying(true, a),
-        Seek::Take(a) => carrying(true, a),
-        Seek::Confirm(a) => carrying(true, a),
+        Seek::Approach(a) | Seek::Take(a) | Seek::Confirm(a) => carrying(true, a),
         Seek::Release(a, b) => Carried {
-            own: true,
-            place: a,
             ahead: b,
-            marking: false,
-            wanted: Wanted::NONE,
+            ..carrying(true, a)
         },
     }
 }
@@ -198,13 +178,11 @@ fn insert_carried(g: Insert) -> Carried
     ensures { result ≡ carried_of (insert_row g) }
 {
     match g {
-        Insert::Search(a) => carrying(true, a),
         Insert::Seek(k) => seek_carried(k),
-        Insert::Copy(a) => carrying(true, a),
-        Insert::Link(a) => carrying(true, a),
-        Insert::FreeLevel(a) => carrying(true, a),
-        Insert::FreeNode => carrying(true, Place::HEAD),
-        Insert::Stamp => carrying(true, Place::HEAD),
+        Insert::Search(a) | Insert::Copy(a) | Insert::Link(a) | Insert::FreeLevel(a) => {
+            carrying(true, a)
+        }
+        Insert::FreeNode | Insert::Stamp => carrying(true, Place::HEAD),
     }
 }
 
@@ -212,16 +190,14 @@ fn removal_carried(g: Removal) -> Carried
     ensures { result ≡ carried_of (removal_row g) }
 {
     match g {
-        Removal::Search(a) => carrying(true, a),
-        Removal::HoldNode => carrying(true, Place::HEAD),
         Removal::Seek(k) => seek_carried(k),
-        Removal::HoldOwn(a) => carrying(true, a),
-        Removal::Unlink(a) => carrying(true, a),
-        Removal::LeadBack(a) => carrying(true, a),
-        Removal::FreeOwn(a) => carrying(true, a),
-        Removal::FreeLevel(a) => carrying(true, a),
-        Removal::FreeNode => carrying(true, Place::HEAD),
-        Removal::Retire => carrying(true, Place::HEAD),
+        Removal::Search(a)
+        | Removal::HoldOwn(a)
+        | Removal::Unlink(a)
+        | Removal::LeadBack(a)
+        | Removal::FreeOwn(a)
+        | Removal::FreeLevel(a) => carrying(true, a),
+        Removal::HoldNode | Removal::FreeNode | Removal::Retire => carrying(true, Place::HEAD),
     }
 }
 
@@ -229,8 +205,7 @@ fn delete_carried(g: Delete) -> Carried
     ensures { result ≡ carried_of (delete_row g) }
 {
     match g {
-        Delete::ReadNext(a) => carrying(false, a),
-        Delete::TestStamp(a) => carrying(false, a),
+        Delete::ReadNext(a) | Delete::TestStamp(a) => carrying(false, a),
         Delete::SetMark(a) => seeking(Wanted::NONE, a, true),
     }
 }
@@ -248,9 +223,7 @@ fn remove_carried(w: Wanted, g: Remove) -> Carried
     ensures { result ≡ carried_of (for_key w (remove_row g)) }
 {
     match g {
-        Remove::Search(a) => seeking(w, a, false),
-        Remove::ReadNext(a) => seeking(w, a, false),
-        Remove::TestStamp(a) => seeking(w, a, false),
+        Remove::Search(a) | Remove::ReadNext(a) | Remove::TestStamp(a) => seeking(w, a, false),
         Remove::SetMark(a) => seeking(w, a, true),
     }
 }
@@ -264,6 +237,6 @@ pub fn carried_by(g: Stage) -> Carried
         Stage::Delete(d) => delete_carried(d),
         Stage::Relaxed(x) => relaxed_carried(x),
         Stage::Remove(w, x) => remove_carried(w, x),
-        Stage::Removal(_j, r) => removal_carried(r),
+        Stage::Removal(_, r) => removal_carried(r),
     }
 }

@@ -1,47 +1,40 @@
 -- Sizes that are not refused are in their ranges, and make a fresh queue. Assumes nothing.
-use mathlib.Core.Path.{◌≡◌, refl}
-use mathlib.Core.Bool.{Bool, true, false, cond}
-use Prim.Native.Nat.{ℕ, ◌≤◌, ◌<◌}
-use native.Mathlib.Omega.{arith}
+use Rattle.std.specs.Prelude.{Result, Ok, Err, None, is_none}
+use Rattle.std.specs.Result.{result_err}
+use mathlib.Core.Path.{◌≡◌, refl, ap}
+use mathlib.Core.Bool.{Bool, true, false, cond, false≢true}
+use Prim.Native.Nat.{ℕ, ◌≤◌}
 use lib.Dec.{ltb}
 use borrow.Author.Tests.{ltb-false}
 use Rattle.laws.proofs.Booleans.{or_left, or_right}
 use Rattle.record.specs.declared.queues.Queue.{Queue}
+use Rattle.record.specs.declared.refusals.Refusal.{Refusal}
+use Rattle.record.specs.declared.refusals.Refusal.TheVariants as refusal
 use Rattle.record.specs.Limits.{max_processors, max_nodes, max_levels}
 use Rattle.record.specs.Queues.{fresh_queue}
-use Rattle.record_check.specs.declared.making.Made.{Made}
-use Rattle.record_check.specs.Making.{outside, not_made, made}
+use Rattle.record_check.specs.Making.{outside, made}
 
 -- of tests alone
-abbrev made_by : Bool → Bool → Bool → Queue → Made
+abbrev made_by : Bool → Bool → Bool → Queue → Result Queue Refusal
 made_by x y z q =
-    cond x (not_made 11)
-    (cond y (not_made 12) (cond z (not_made 13) (record { refusal = 0; queue = q })))
+    cond x (Err refusal.Processors) (cond y (Err refusal.Entries) (cond z (Err refusal.Levels) (Ok q)))
 
 pub record AllPass (x y z : Bool) : Type 0 where
   pub first : x ≡ false
   pub second : y ≡ false
   pub third : z ≡ false
 
-all_pass : (x y z : Bool) (q : Queue) → (made_by x y z q).refusal ≡ 0 → AllPass x y z
-all_pass true y z q h = absurd (omega arith)
-all_pass false true z q h = absurd (omega arith)
-all_pass false false true q h = absurd (omega arith)
+all_pass : (x y z : Bool) (q : Queue) → result_err (made_by x y z q) ≡ None → AllPass x y z
+all_pass true y z q h = absurd (false≢true (ap is_none h))
+all_pass false true z q h = absurd (false≢true (ap is_none h))
+all_pass false false true q h = absurd (false≢true (ap is_none h))
 all_pass false false false q h = record { first = refl; second = refl; third = refl }
 
-made_all : (x y z : Bool) (q : Queue) → (made_by x y z q).refusal ≡ 0 →
-    made_by x y z q ≡ record { refusal = 0; queue = q }
-made_all true y z q h = absurd (omega arith)
-made_all false true z q h = absurd (omega arith)
-made_all false false true q h = absurd (omega arith)
+made_all : (x y z : Bool) (q : Queue) → result_err (made_by x y z q) ≡ None → made_by x y z q ≡ Ok q
+made_all true y z q h = absurd (false≢true (ap is_none h))
+made_all false true z q h = absurd (false≢true (ap is_none h))
+made_all false false true q h = absurd (false≢true (ap is_none h))
 made_all false false false q h = refl
-
-made_none : (x y z : Bool) (q : Queue) → 0 < (made_by x y z q).refusal →
-    not_made (made_by x y z q).refusal ≡ made_by x y z q
-made_none true y z q h = refl
-made_none false true z q h = refl
-made_none false false true q h = refl
-made_none false false false q h = absurd (omega arith)
 
 pub within_range : (x top : ℕ) → outside x top ≡ false → (1 ≤ x) × (x ≤ top)
 within_range x top h =
@@ -57,7 +50,7 @@ pub record MadeSizes (p n l : ℕ) : Type 0 where
   pub levels_high : l ≤ max_levels
 
 module _ (p n l : ℕ) where
-  pub made_sizes : (made p n l).refusal ≡ 0 → MadeSizes p n l
+  pub made_sizes : result_err (made p n l) ≡ None → MadeSizes p n l
   made_sizes h =
       let t = all_pass (outside p max_processors) (outside n max_nodes) (outside l max_levels)
       (fresh_queue p n l) h in
@@ -73,13 +66,7 @@ module _ (p n l : ℕ) where
         levels_high = z.1;
       }
 
-  pub made_fresh : (made p n l).refusal ≡ 0 → made p n l
-      ≡ record { refusal = 0; queue = fresh_queue p n l }
+  pub made_fresh : result_err (made p n l) ≡ None → made p n l ≡ Ok (fresh_queue p n l)
   made_fresh =
       made_all (outside p max_processors) (outside n max_nodes) (outside l max_levels)
-      (fresh_queue p n l)
-
-  pub made_not : 0 < (made p n l).refusal → not_made (made p n l).refusal ≡ made p n l
-  made_not =
-      made_none (outside p max_processors) (outside n max_nodes) (outside l max_levels)
       (fresh_queue p n l)

@@ -13,12 +13,12 @@ use Rattle.record.specs.Queues.{node_at, processor_at}
 use Rattle.record_check.specs.Check.{within, sizes_of, sizes_valid, node_valid, processor_valid, valid}
 
 pub record SizeBounds (s : Sizes) : Type 0 where
-  pub processors_low : 1 ≤ s.processorCount
-  pub processors_high : s.processorCount ≤ max_processors
-  pub nodes_low : 1 ≤ s.nodeCount
-  pub nodes_high : s.nodeCount ≤ max_nodes
-  pub levels_low : 1 ≤ s.levelCount
-  pub levels_high : s.levelCount ≤ max_levels
+  pub processors_low : 1 ≤ s.processor_count
+  pub processors_high : s.processor_count ≤ max_processors
+  pub nodes_low : 1 ≤ s.node_count
+  pub nodes_high : s.node_count ≤ max_nodes
+  pub levels_low : 1 ≤ s.level_count
+  pub levels_high : s.level_count ≤ max_levels
   pub clock_high : s.clock ≤ max_number
 
 pub within_low : (x top : ℕ) → within x top ≡ true → 1 ≤ x
@@ -29,22 +29,22 @@ within_high x top h = leb-true x top (and_right (leb 1 x) (leb x top) h)
 
 pub sizes_bounds : (s : Sizes) → sizes_valid s ≡ true → SizeBounds s
 sizes_bounds s h =
-    let p = within s.processorCount max_processors in
-    let n = within s.nodeCount max_nodes in
-    let l = within s.levelCount max_levels in
+    let p = within s.processor_count max_processors in
+    let n = within s.node_count max_nodes in
+    let l = within s.level_count max_levels in
     let t = leb s.clock max_number in
     let hpnl = and_left (p && n && l) t h in
     let hpn = and_left (p && n) l hpnl in
-    let hp : within s.processorCount max_processors ≡ true = and_left p n hpn in
-    let hn : within s.nodeCount max_nodes ≡ true = and_right p n hpn in
-    let hl : within s.levelCount max_levels ≡ true = and_right (p && n) l hpnl in
+    let hp : within s.processor_count max_processors ≡ true = and_left p n hpn in
+    let hn : within s.node_count max_nodes ≡ true = and_right p n hpn in
+    let hl : within s.level_count max_levels ≡ true = and_right (p && n) l hpnl in
     record {
-      processors_low = within_low s.processorCount max_processors hp;
-      processors_high = within_high s.processorCount max_processors hp;
-      nodes_low = within_low s.nodeCount max_nodes hn;
-      nodes_high = within_high s.nodeCount max_nodes hn;
-      levels_low = within_low s.levelCount max_levels hl;
-      levels_high = within_high s.levelCount max_levels hl;
+      processors_low = within_low s.processor_count max_processors hp;
+      processors_high = within_high s.processor_count max_processors hp;
+      nodes_low = within_low s.node_count max_nodes hn;
+      nodes_high = within_high s.node_count max_nodes hn;
+      levels_low = within_low s.level_count max_levels hl;
+      levels_high = within_high s.level_count max_levels hl;
       clock_high = leb-true s.clock max_number (and_right (p && n && l) t h);
     }
 
@@ -56,16 +56,16 @@ abbrev pub processors_valid : Queue → ℕ → Bool
 processors_valid q p = every_below (λ c. processor_valid (sizes_of q) (processor_at q c)) p
 
 module _ (q : Queue) (h : valid q ≡ true) where
-  sized : (sizes_valid (sizes_of q) && nodes_valid q (q.nodeCount + 2)) ≡ true
-  sized = and_left (sizes_valid (sizes_of q) && nodes_valid q (q.nodeCount + 2)) (processors_valid q q.processorCount) h
+  sized : (sizes_valid (sizes_of q) && nodes_valid q (q.node_count + 2)) ≡ true
+  sized = and_left (sizes_valid (sizes_of q) && nodes_valid q (q.node_count + 2)) (processors_valid q q.processor_count) h
 
   pub valid_sizes : SizeBounds (sizes_of q)
-  valid_sizes = sizes_bounds (sizes_of q) (and_left (sizes_valid (sizes_of q)) (nodes_valid q (q.nodeCount + 2)) sized)
+  valid_sizes = sizes_bounds (sizes_of q) (and_left (sizes_valid (sizes_of q)) (nodes_valid q (q.node_count + 2)) sized)
 
 -- the code's order: the sizes first, then the nodes and the processors
 pub valid_refused : (q : Queue) → sizes_valid (sizes_of q) ≡ false → valid q ≡ false
-valid_refused q h = ap (λ (s : Bool). s && nodes_valid q (q.nodeCount + 2) && processors_valid q q.processorCount) h
+valid_refused q h = ap (λ (s : Bool). s && nodes_valid q (q.node_count + 2) && processors_valid q q.processor_count) h
 
 pub valid_rest :
-    (q : Queue) → sizes_valid (sizes_of q) ≡ true → valid q ≡ (nodes_valid q (q.nodeCount + 2) && processors_valid q q.processorCount)
-valid_rest q h = ap (λ (s : Bool). s && nodes_valid q (q.nodeCount + 2) && processors_valid q q.processorCount) h
+    (q : Queue) → sizes_valid (sizes_of q) ≡ true → valid q ≡ (nodes_valid q (q.node_count + 2) && processors_valid q q.processor_count)
+valid_rest q h = ap (λ (s : Bool). s && nodes_valid q (q.node_count + 2) && processors_valid q q.processor_count) h

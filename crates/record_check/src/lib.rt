@@ -7,5 +7,5 @@ pub mod counting;
 pub mod making;
 
 pub use check::{Sizes, valid};
-pub use counting::{Count, backlog};
-pub use making::{Made, make, making_refusal, outside};
+pub use counting::backlog;
+pub use making::{make, making_refusal, outside};

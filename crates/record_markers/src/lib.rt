@@ -4,4 +4,4 @@
 
 pub mod listing;
 
-pub use listing::{Listed, marker_byte, markers, put_pair};
+pub use listing::{marker_byte, markers, put_pair};

@@ -8,14 +8,8 @@ ghost use Rattle.record_markers.specs.Markers.{markers_of, area_after, reported_
 
 use record::nodes::Use;
 use record::queues::Queue;
+use record::refusals::Refusal;
 use record_check::valid;
-
-// What markers answers: how many nodes are in use, or a refusal.
-#[derive(Clone, Copy)]
-pub enum Listed {
-    Refused(u8),
-    Nodes(u8),
-}
 
 // The marker of a node that has no mark.
 const NO_MARKER: u8 = 255;
@@ -24,34 +18,25 @@ const NO_MARKER: u8 = 255;
 pub fn marker_byte(mark: u8) -> u8
     ensures { result ≡ marker_byte mark }
 {
-    if 0 < mark { mark - 1 } else { NO_MARKER }
+    mark.checked_sub(1).unwrap_or(NO_MARKER)
 }
 
 // Whether a node is in use, by its state.
 fn is_used(state: Use) -> bool
     ensures { result ≡ is_in_use state }
 {
-    match state {
-        Use::Never => false,
-        Use::InUse => true,
-        Use::Retired(_) => false,
-    }
+    matches!(state, Use::InUse)
 }
 
 // How many of the nodes 1 to N are in use.
 fn used_count(q: Queue) -> u8
-    requires { q.nodeCount ≤ max_nodes }
+    requires { q.node_count ≤ max_nodes }
     ensures { (result ≡ used_count q) × (result ≤ max_nodes) }
 {
-    let end = q.nodeCount as usize;
     let mut count: u8 = 0;
-    let mut i: usize = 0;
-    while i < end {
-        i = i + 1;
-        let n = q.nodes[i];
-        let state = n.state;
-        if is_used(state) {
-            count = count + 1;
+    for i in 0..q.node_count as usize {
+        if is_used(q.nodes[i + 1].state) {
+            count += 1;
         }
     }
     count
@@ -68,19 +53,16 @@ pub fn put_pair(area: &mut [u8], at: usize, x: u8, mark: u8)
 
 // The two bytes of each node of 1 to N that is in use, in node order, at the front of the area.
 fn put_pairs(q: Queue, area: &mut [u8])
-    requires { (q.nodeCount ≤ max_nodes) × (2 * used_count q ≤ length area.old) }
-    ensures { area.new ≡ at_front (pairs_to q q.nodeCount) area.old }
+    requires { (q.node_count ≤ max_nodes) × (2 * used_count q ≤ length area.old) }
+    ensures { area.new ≡ at_front (pairs_to q q.node_count) area.old }
 {
-    let last = q.nodeCount as usize;
     let mut at: usize = 0;
-    let mut x: usize = 0;
-    while x < last {
-        x = x + 1;
+    for k in 0..q.node_count as usize {
+        let x = k + 1;
         let n = q.nodes[x];
-        let state = n.state;
-        if is_used(state) {
+        if is_used(n.state) {
             put_pair(area, at, x as u8, n.mark);
-            at = at + 2;
+            at += 2;
         }
     }
 }
@@ -88,19 +70,18 @@ fn put_pairs(q: Queue, area: &mut [u8])
 // Fills the area with the number and the marker of each node in use, and gives how many nodes these
 // are; the rest of the area is as it was. 21 for a record that does not pass check 21, and then 43
 // for an area that is too short: a refusal leaves the area.
-pub fn markers(q: Queue, area: &mut [u8]) -> Listed
+pub fn markers(q: Queue, area: &mut [u8]) -> Result<u8, Refusal>
     ensures value { result ≡ markers_of q (length area.old) }
     ensures numbers { reported_markers result ≡ reported_markers (markers_of q (length area.old)) }
     ensures area_after { area.new ≡ area_after q area.old }
 {
     if !valid(q) {
-        return Listed::Refused(21);
+        return Err(Refusal::Invalid);
     }
     let count = used_count(q);
-    let need = count as usize * 2;
-    if area.len() < need {
-        return Listed::Refused(43);
+    if area.len() < count as usize * 2 {
+        return Err(Refusal::Room);
     }
     put_pairs(q, area);
-    Listed::Nodes(count)
+    Ok(count)
 }

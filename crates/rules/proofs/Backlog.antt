@@ -1,7 +1,8 @@
 -- Backlog's count is the book's: the nodes that it counts, and the book's entries that are answered
 -- and not marked, are paired off by their tickets. Assumes nothing.
+use Rattle.std.specs.Prelude.{Option, ℕ, Some, None, Result}
 use mathlib.Core.Path.{◌≡◌, refl, sym, ap, ◌∙◌}
-use mathlib.Core.Bool.{Bool, true, false, ◌&&◌, not, true≢false}
+use mathlib.Core.Bool.{Bool, true, false, ◌&&◌, not}
 use Prim.Native.Nat.{ℕ, ◌≤◌, ◌<◌}
 use native.Mathlib.Omega.{arith}
 use borrow.Author.Tests.{eq-eqb, ltb-false}
@@ -9,14 +10,12 @@ use Rattle.laws.specs.HowMany.{how_many}
 use Rattle.laws.proofs.Booleans.{cond_cases}
 use Rattle.laws.proofs.Counting.{and_left, and_right}
 use Rattle.laws.proofs.HowMany.{Passed, Paired, many_split, many_paired}
-use Rattle.record.specs.declared.nodes.Stamp.{Stamp}
-use Rattle.record.specs.declared.nodes.Stamp.TheVariants as stamp
+use Rattle.record.specs.declared.refusals.Refusal.{Refusal}
 use Rattle.record.specs.declared.nodes.Use.{Use}
 use Rattle.record.specs.declared.nodes.Use.TheVariants as use'
 use Rattle.record.specs.declared.queues.Queue.{Queue}
 use Rattle.record.specs.Nodes.{is_in_use, is_marked, is_stamped}
 use Rattle.record.specs.Queues.{node_at}
-use Rattle.record_check.specs.declared.counting.Count.{Count}
 use Rattle.record_check.specs.Backlog.{pending_at, backlog_of}
 use Rattle.record_check.specs.Check.{valid}
 use Rattle.rules.specs.Book.{BookEntry, Book, agrees, answered_in, pending_in, feed_backlog}
@@ -33,9 +32,9 @@ use Rattle.rules.proofs.View.{View}
 
 -- a node's use, stamp and mark, and the view's numbers for them
 pub use_number_lem : (u : Use) → is_in_use u ≡ true → use_number u ≡ 1
-use_number_lem use'.Never h = absurd (true≢false (sym h))
+use_number_lem use'.Never h = cc
 use_number_lem use'.InUse h = refl
-use_number_lem (use'.Retired t) h = absurd (true≢false (sym h))
+use_number_lem (use'.Retired t) h = cc
 
 pub number_use : (u : Use) → use_number u ≡ 1 → is_in_use u ≡ true
 number_use use'.Never h = absurd (omega arith)
@@ -43,20 +42,20 @@ number_use use'.InUse h = refl
 number_use (use'.Retired t) h = absurd (omega arith)
 
 stamp_number_lem :
-    (s : Stamp) (clock : ℕ) → clock < ever → ((t : ℕ) → s ≡ stamp.At t → t ≤ clock) →
+    (s : Option ℕ) (clock : ℕ) → clock < ever → ((t : ℕ) → s ≡ Some t → t ≤ clock) →
     is_stamped s ≡ true → stamp_number s < ever
-stamp_number_lem stamp.Unset clock low past h = absurd (true≢false (sym h))
-stamp_number_lem (stamp.At t) clock low past h = omega (arith, past t refl)
+stamp_number_lem None clock low past h = cc
+stamp_number_lem (Some t) clock low past h = omega (arith, past t refl)
 
-number_stamp : (s : Stamp) → stamp_number s < ever → is_stamped s ≡ true
-number_stamp stamp.Unset h = absurd (omega arith)
-number_stamp (stamp.At t) h = refl
+number_stamp : (s : Option ℕ) → stamp_number s < ever → is_stamped s ≡ true
+number_stamp None h = absurd (omega arith)
+number_stamp (Some t) h = refl
 
 mark_number : (m : ℕ) → not (is_marked m) ≡ true → m ≡ 0
 mark_number m h = go (is_marked m) refl h
   where
     go : (b : Bool) → is_marked m ≡ b → not b ≡ true → m ≡ 0
-    go true e n = absurd (true≢false (sym n))
+    go true e n = cc
     go false e n = omega (arith, ltb-false 0 m e)
 
 number_mark : (m : ℕ) → m ≡ 0 → not (is_marked m) ≡ true
@@ -71,7 +70,7 @@ module _ (q : Queue) (b : Book) (S : Sound q b) where
   abbrev Holds : ℕ → Type 0
   Holds x = Eligible v.us v.st v.mk v.nodes ever x
 
-  node_holds : valid q ≡ true → (x : ℕ) → Passed (pending_at q) q.nodeCount x → Holds x
+  node_holds : valid q ≡ true → (x : ℕ) → Passed (pending_at q) q.node_count x → Holds x
   node_holds ok x P =
       let n = node_at q x in
       let i = is_in_use n.state in
@@ -88,7 +87,7 @@ module _ (q : Queue) (b : Book) (S : Sound q b) where
         unmarked = mark_number n.mark (and_right s m r);
       }
 
-  holds_node_lock : (x : ℕ) → Holds x → Passed (pending_at q) q.nodeCount x
+  holds_node_lock : (x : ℕ) → Holds x → Passed (pending_at q) q.node_count x
   holds_node_lock x H =
       let n = node_at q x in
       let used = number_use n.state (sym (used_number q x H.low H.high) ∙ H.used) in
@@ -99,7 +98,7 @@ module _ (q : Queue) (b : Book) (S : Sound q b) where
         passes = rw (used, number_stamp n.stamp H.stamped, unmarked);
       }
 
-  paired : valid q ≡ true → Paired (pending_at q) (pending_in b) q.nodeCount b.count v.tick
+  paired : valid q ≡ true → Paired (pending_at q) (pending_in b) q.node_count b.count v.tick
   paired ok = record {
     passes = λ x X.
         let C = candidate_of_lem v S.until S.inv b S.rel ever x (node_holds ok x X) in
@@ -118,17 +117,17 @@ module _ (q : Queue) (b : Book) (S : Sound q b) where
 
   -- the count by the nodes is the count by the book
   count_same :
-      valid q ≡ true → how_many (pending_at q) q.nodeCount ≡ how_many (pending_in b) b.count
+      valid q ≡ true → how_many (pending_at q) q.node_count ≡ how_many (pending_in b) b.count
   count_same ok =
-      many_paired (pending_at q) (pending_in b) q.nodeCount b.count v.tick (paired ok)
+      many_paired (pending_at q) (pending_in b) q.node_count b.count v.tick (paired ok)
 
   -- so the book agrees with Backlog, and stays as it is
   pub backlog_agrees : feed_backlog b (backlog_of q) ≡ agrees b
   backlog_agrees =
-      cond_cases (λ (k : Count). feed_backlog b k ≡ agrees b) (valid q) _ _
+      cond_cases (λ (k : Result ℕ Refusal). feed_backlog b k ≡ agrees b) (valid q) _ _
       (λ ok. rw (eq-eqb _ (how_many (pending_in b) b.count) (count_same ok))) (λ _. refl)
 
-  pub backlog_pending : valid q ≡ true → Pending b (how_many (pending_at q) q.nodeCount)
+  pub backlog_pending : valid q ≡ true → Pending b (how_many (pending_at q) q.node_count)
   backlog_pending ok = record {
     entries = count_same ok;
     less = rw (count_same ok) (many_split (answered_in b) (λ t. (b.entry t).marked) b.count);

@@ -61,7 +61,7 @@ begin_ownless v u I room p idle c began two mine =
     core =
         let C = I.core in
         record {
-          levelCount = C.levelCount;
+          level_count = C.level_count;
           levels_high = C.levels_high;
           size = C.size;
           clock = room;
@@ -99,7 +99,7 @@ pub begin_walk : (v : View) (u : ℕ → ℕ → ℕ) (I : Inv v u) (room : v.cl
     (claim v p).kind ≡ 0 → (s : Stage) → info (v.ht 0) s ≡ walk_info 2 0 (place 0 1) →
     Inv (ticked v p (walker v p s)) u
 begin_walk v u I room p idle s is =
-    let G = head_readable v u I (v.clock + 1) last 1 I.core.levelCount (omega arith)
+    let G = head_readable v u I (v.clock + 1) last 1 I.core.level_count (omega arith)
     (omega arith) in
     begin_ownless v u I room p idle (walker v p s) refl (ap (λ (f : Info). f.kind) is)
     (subst (λ (f : Info). Busy (ticked v p (walker v p s)) u p (walker v p s) f) (sym is)
@@ -107,7 +107,7 @@ begin_walk v u I room p idle s is =
       begun = omega arith;
       begun_by = omega arith;
       low = omega arith;
-      high = I.core.levelCount;
+      high = I.core.level_count;
       place = G;
       read = G;
       saved = λ j f j≥ j≤. absurd (omega (arith, I.core.levels_high));
@@ -144,7 +144,7 @@ begin_find v u I room p idle w =
     (record {
       begun = omega arith;
       begun_by = omega arith;
-      low = I.core.levelCount;
+      low = I.core.level_count;
       high = omega arith;
       place = G;
       read = G;
@@ -154,7 +154,7 @@ begin_find v u I room p idle w =
       holds_node_lock = λ h. absurd (omega arith);
       near = near_none _ _ _ _ _ _;
       inserts = λ h. absurd (omega arith);
-      within = λ h. absurd (omega (arith, I.core.levelCount));
+      within = λ h. absurd (omega (arith, I.core.level_count));
       removes = λ h. absurd (omega arith);
       walks = λ h. record {
         ownless = refl;
@@ -217,7 +217,7 @@ module _ (v : View) (u : ℕ → ℕ → ℕ) (I : Inv v u) (room : v.clock + 1 
   core =
       let C = I.core in
       record {
-        levelCount = C.levelCount;
+        level_count = C.level_count;
         levels_high = C.levels_high;
         size = C.size;
         clock = room;
@@ -462,7 +462,7 @@ module _ (v : View) (u : ℕ → ℕ → ℕ) (I : Inv v u) (room : v.clock + 1 
       record {
         begun = omega arith;
         begun_by = omega arith;
-        low = I.core.levelCount;
+        low = I.core.level_count;
         high = omega arith;
         place = G;
         read = G;
@@ -481,7 +481,7 @@ module _ (v : View) (u : ℕ → ℕ → ℕ) (I : Inv v u) (room : v.clock + 1 
           linked = λ l j j≥ j≤. absurd (omega arith);
           off = λ l j lt. u_zero j;
         };
-        within = λ k. absurd (omega (arith, I.core.levelCount));
+        within = λ k. absurd (omega (arith, I.core.level_count));
         removes = λ k. absurd (omega arith);
         walks = λ k. absurd (omega arith);
       }

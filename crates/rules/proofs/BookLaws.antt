@@ -1,5 +1,6 @@
 -- Laws of the book alone: what an answer that agrees says, and that a mark, a hand-out and a taking
 -- back stay. Assumes nothing.
+use Rattle.std.specs.Prelude.{Result, Ok, Err}
 use mathlib.Core.Path.{◌≡◌, sym, subst}
 use mathlib.Core.Bool.{Bool, true, ◌&&◌, not}
 use mathlib.Core.List.{List, [], ◌∷◌}
@@ -8,13 +9,12 @@ use native.Mathlib.Omega.{arith}
 use native.Mathlib.Decide.{ℕ_discrete}
 use lib.Dec.{ltb, eqb}
 use borrow.Author.Tests.{eqb-true}
-use Rattle.record_check.specs.declared.counting.Count.{Count}
-use Rattle.record_check.specs.declared.counting.Count.TheVariants as count
 use Rattle.laws.specs.HowMany.{how_many}
 use Rattle.laws.specs.Update.{changed_at}
 use Rattle.laws.proofs.Booleans.{cond_cases}
 use Rattle.laws.proofs.Counting.{and_left, and_right}
 use Rattle.laws.proofs.Updating.{changed_same, changed_other}
+use Rattle.record.specs.declared.refusals.Refusal.{Refusal}
 use Rattle.record.specs.declared.queues.Queue.{Queue}
 use Rattle.record.specs.declared.stages.Job.{Job}
 use Rattle.record.specs.declared.stages.Job.TheVariants as jobs
@@ -35,8 +35,6 @@ use Rattle.rules.specs.Book.{feed_deed}
 use Rattle.rules.specs.Book.{feed_step, feed, then_feed, judged}
 use Rattle.rules.specs.Book.{pending_in, feed_backlog, held_in, deliverers_listed, feed_markers}
 use Rattle.rules.specs.declared.calls.Call.TheVariants as call
-use Rattle.record_markers.specs.declared.listing.Listed.{Listed}
-use Rattle.record_markers.specs.declared.listing.Listed.TheVariants as listing
 use Rattle.rules.specs.Runs.{Turn, calls, backlog, markers, after}
 use Rattle.rules.specs.Runs.{Reply, answered, counted, listed, reply}
 
@@ -190,7 +188,7 @@ module _ (flag : BookEntry → Bool) (t : ℕ) (answer_keeps : (l : BookEntry) (
     step_moves (unlinking job y) = same
 
     fed_begin : (begun : ℕ → Verdict) (a : Answer) → ((x : ℕ) → K (begun x)) → K (feed_begin b begun a)
-    fed_begin begun (ans.Refused n) h = S
+    fed_begin begun (ans.Refused r) h = S
     fed_begin begun (ans.Began x) h = h x
     fed_begin begun ans.Moved h = tt
     fed_begin begun (ans.Waits l) h = tt
@@ -217,7 +215,7 @@ module _ (flag : BookEntry → Bool) (t : ℕ) (answer_keeps : (l : BookEntry) (
     fed_deed p e deed.TakenBack = remove_takes_back p e (b.opened p)
 
     fed_step : (p : ℕ) (a : Answer) → K (feed_step b p a)
-    fed_step p (ans.Refused n) = S
+    fed_step p (ans.Refused r) = S
     fed_step p (ans.Began x) = tt
     fed_step p ans.Moved = step_moves (b.opened p)
     fed_step p (ans.Waits h) = step_moves (b.opened p)
@@ -225,14 +223,14 @@ module _ (flag : BookEntry → Bool) (t : ℕ) (answer_keeps : (l : BookEntry) (
     fed_step p (ans.NotThere w) = remove_misses p w (b.opened p)
     fed_step p (ans.Did d e) = fed_deed p e d
 
-    fed_backlog : (k : Count) → K (feed_backlog b k)
-    fed_backlog (count.Refused n) = S
-    fed_backlog (count.Pending k) =
+    fed_backlog : (k : Result ℕ Refusal) → K (feed_backlog b k)
+    fed_backlog (Err r) = S
+    fed_backlog (Ok k) =
         right_if (Stays flag t) (eqb k (how_many (pending_in b) b.count)) b (λ _. S)
 
-    fed_markers : (k : Listed) (area : List ℕ) → K (feed_markers b k area)
-    fed_markers (listing.Refused n) area = S
-    fed_markers (listing.Nodes k) area =
+    fed_markers : (k : Result ℕ Refusal) (area : List ℕ) → K (feed_markers b k area)
+    fed_markers (Err r) area = S
+    fed_markers (Ok k) area =
         right_if (Stays flag t) (eqb k (how_many (held_in b) b.count) && deliverers_listed b area k) b
         (λ _. S)
 

@@ -68,9 +68,9 @@ sought_quiet (sght.Waits k h) = Unit {0}
 sought_quiet (sght.Done a) = Unit {0}
 
 seek_quiet : (s : StepView) (k : Seek) → sought_quiet (seek_step s k)
-seek_quiet s (seek.Approach a) = cond_elim sought_quiet s.nextBeforeKey _ _ tt tt
-seek_quiet s (seek.Take a) = cond_elim (λ t. sought_quiet (place_tried a t)) (eqb s.placeLock 0) _ _ tt tt
-seek_quiet s (seek.Confirm a) = cond_elim sought_quiet s.nextBeforeKey _ _ tt tt
+seek_quiet s (seek.Approach a) = cond_elim sought_quiet s.next_before_key _ _ tt tt
+seek_quiet s (seek.Take a) = cond_elim (λ t. sought_quiet (place_tried a t)) (eqb s.place_lock 0) _ _ tt tt
+seek_quiet s (seek.Confirm a) = cond_elim sought_quiet s.next_before_key _ _ tt tt
 seek_quiet s (seek.Release a b) = tt
 
 kind_seek_insert : (h : ℕ) (k : Seek) → (info h (stage.Insert (ins.Seek k))).kind ≡ 1

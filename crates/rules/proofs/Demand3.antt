@@ -7,11 +7,14 @@ use Rattle.record.specs.declared.queues.Queue.{Queue}
 use Rattle.record.specs.Queues.{fresh_queue}
 use Rattle.rules.specs.Book.{Book, empty_book, agrees, feed, judged}
 use Rattle.rules.specs.Demand3.{InRange, Demand3, ReachedIsValid, OutsideIsUntouched}
+use Rattle.rules.specs.declared.answers.Answer.{Answer}
+use Rattle.rules.specs.declared.calls.Call.{Call}
 use Rattle.rules.specs.declared.calls.Call.TheVariants as call
-use Rattle.rules.specs.Runs.{Turn, calls, backlog, markers, after, reply, after_all}
+use Rattle.rules.specs.Calls.{called}
+use Rattle.rules.specs.Runs.{Turn, calls, backlog, markers, answered, after, reply, after_all}
 use Rattle.rules.proofs.Backlog.{backlog_agrees}
 use Rattle.rules.proofs.Markers.{markers_agrees}
-use Rattle.rules.proofs.Sound.{Sound, insert_agrees, delete_agrees, relaxed_agrees}
+use Rattle.rules.proofs.Sound.{Sound, Agrees, insert_agrees, delete_agrees, relaxed_agrees}
 use Rattle.rules.proofs.Sound.{remove_agrees, step_agrees}
 use Rattle.rules.proofs.Fresh.{fresh_sound}
 use Rattle.rules.proofs.Untouched.{untouched_all}
@@ -23,16 +26,20 @@ pub record Turned (q : Queue) (b : Book) (c : Turn) : Type 0 where
   pub fed : feed b c (reply q c) ≡ agrees book
   pub sound : Sound (after q c) book
 
+-- what agrees with the book of a call's outcome, of a turn
+of_outcome :
+    (q : Queue) (b : Book) (c : Call) → Agrees (λ (a : Answer). feed b (calls c) (answered a)) (called q c) →
+    Turned q b (calls c)
+of_outcome q b c A = record { book = A.book; fed = A.fed; sound = A.sound }
+
 pub turned_by : (q : Queue) (b : Book) → Sound q b → (c : Turn) → Turned q b c
-turned_by q b S (calls (call.Insert p due item height)) = let A = insert_agrees q b S p due item height in record { book = A.book; fed = A.fed; sound = A.sound }
-turned_by q b S (calls (call.DeleteMin p)) = let A = delete_agrees q b S p in record { book = A.book; fed = A.fed; sound = A.sound }
-turned_by q b S (calls (call.Relaxed p)) =
-    let A = relaxed_agrees q b S p in
-    record { book = A.book; fed = A.fed; sound = A.sound }
+turned_by q b S (calls (call.Insert p due item height)) =
+    of_outcome q b (call.Insert p due item height) (insert_agrees q b S p due item height)
+turned_by q b S (calls (call.DeleteMin p)) = of_outcome q b (call.DeleteMin p) (delete_agrees q b S p)
+turned_by q b S (calls (call.Relaxed p)) = of_outcome q b (call.Relaxed p) (relaxed_agrees q b S p)
 turned_by q b S (calls (call.Remove p due ticket)) =
-    let A = remove_agrees q b S p due ticket in
-    record { book = A.book; fed = A.fed; sound = A.sound }
-turned_by q b S (calls (call.Step p)) = let A = step_agrees q b S p in record { book = A.book; fed = A.fed; sound = A.sound }
+    of_outcome q b (call.Remove p due ticket) (remove_agrees q b S p due ticket)
+turned_by q b S (calls (call.Step p)) = of_outcome q b (call.Step p) (step_agrees q b S p)
 turned_by q b S backlog = record { book = b; fed = backlog_agrees q b S; sound = S }
 turned_by q b S (markers area) = record { book = b; fed = markers_agrees q b S area; sound = S }
 

@@ -49,7 +49,7 @@ module _ (v : View) (u : ℕ → ℕ → ℕ) (I : Inv v u) (room : v.clock + 1 
       let one : a.level ≡ 1 = omega (arith, B.low) in
       stand_to v u I room p s e refl refl (stage.Remove w (rmv.ReadNext a))
       (save_at (v.pr p).saved a.level a.node) 0 0 k 0 (place a.node 1) refl (omega arith)
-      I.core.levelCount (rw one at B.place) (seeks (B.walks refl).ownless a.node 1)
+      I.core.level_count (rw one at B.place) (seeks (B.walks refl).ownless a.node 1)
 
   module _ (a : Place) (e : (v.pr p).stage ≡ stage.Remove w (rmv.ReadNext a)) where
     B : Busy v u p (v.pr p) (info (v.ht (v.pr p).own) (stage.Remove w (rmv.ReadNext a)))
@@ -67,7 +67,7 @@ module _ (v : View) (u : ℕ → ℕ → ℕ) (I : Inv v u) (room : v.clock + 1 
     find_on lt =
         stand_to v u I room p (stage.Remove w (rmv.ReadNext a)) e refl refl
         (stage.Remove w (rmv.ReadNext (place next 1))) (v.pr p).saved 0 0 k 0 (place next 1) refl
-        (omega arith) I.core.levelCount
+        (omega arith) I.core.level_count
         (ahead v u I p a.node 1 k busy (omega arith) (omega arith) B.place lt)
         (seeks (B.walks refl).ownless next 1)
 
@@ -79,7 +79,7 @@ module _ (v : View) (u : ℕ → ℕ → ℕ) (I : Inv v u) (room : v.clock + 1 
         B.place.seen in
         stand_to v u I room p (stage.Remove w (rmv.ReadNext a)) e refl refl
         (stage.Remove w (rmv.TestStamp (place next 1))) (v.pr p).saved 0 0 last k (place next 1)
-        refl (omega arith) I.core.levelCount
+        refl (omega arith) I.core.level_count
         (record {
           below = below r.0 (ℕ_discrete next (tail v));
           seen = r.1;
@@ -144,7 +144,7 @@ module _ (v : View) (u : ℕ → ℕ → ℕ) (I : Inv v u) (room : v.clock + 1 
       let B = busy_at v u I p (stage.Remove w (rmv.TestStamp a)) e (omega arith) in
       stand_to v u I room p (stage.Remove w (rmv.TestStamp a)) e refl refl
       (stage.Remove w (rmv.SetMark a)) (v.pr p).saved 0 2 last k (place a.node 1) refl
-      (omega arith) I.core.levelCount B.place
+      (omega arith) I.core.level_count B.place
       (record {
         ownless = (B.walks refl).ownless;
         entry = λ l. not_head ((B.walks refl).named (omega arith)) (ℕ_discrete a.node 0);

@@ -88,10 +88,10 @@ data Then (v : View) (e : Effect) (p : ℕ) (l : Lock) : Type 0 where
   same : holder (effected v e p) l ≡ holder v l → (Frees e l → ⊥) → Then v e p l
 
 differ : (n i x : ℕ) → node n ≡ level x i → ⊥
-differ n i x e = let z : ◌≡◌ {A = ℕ} 0 1 = cc in omega arith
+differ n i x e = cc
 
 differ' : (n i x : ℕ) → level n i ≡ node x → ⊥
-differ' n i x e = let z : ◌≡◌ {A = ℕ} 0 1 = cc in omega arith
+differ' n i x e = cc
 
 then_of : (v : View) (e : Effect) (p : ℕ) (l : Lock) → Then v e p l
 then_of v eff.Keep p l = same refl (λ f. f)
@@ -228,11 +228,11 @@ remove_searched_lem h s w a (srch.Down b) = ownless_passes _ refl refl refl _ _ 
 remove_searched_lem h s w a (srch.Done b) = ownless_passes _ refl refl refl _ _ (λ l t. t)
 
 insert_seek : (h : ℕ) (s : StepView) (k : Seek) → Passes (info h (stage.Insert (ins.Seek k))) s.own (insert_sought s (seek_step s k))
-insert_seek h s (seek.Approach a) = cond_elim (λ r. Passes (info h (stage.Insert (ins.Seek (seek.Approach a)))) s.own (insert_sought s r)) s.nextBeforeKey
+insert_seek h s (seek.Approach a) = cond_elim (λ r. Passes (info h (stage.Insert (ins.Seek (seek.Approach a)))) s.own (insert_sought s r)) s.next_before_key
     (sght.Goes eff.Keep (seek.Approach (place s.next a.level))) (sght.Goes eff.Keep (seek.Take a)) (record { keeps = λ h l H. held_by (λ x e. absurd (omega arith)) (λ x e. absurd (omega arith)) (λ x e. inr (by_node refl e)) H; gains = (λ h l t. absurd t) }) (record { keeps = λ h l H. held_by (λ x e. absurd (omega arith)) (λ x e. absurd (omega arith)) (λ x e. inr (by_node refl e)) H; gains = (λ h l t. absurd t) })
-insert_seek h s (seek.Take a) = cond_elim (λ t. Passes (info h (stage.Insert (ins.Seek (seek.Take a)))) s.own (insert_sought s (place_tried a t))) (eqb s.placeLock 0)
+insert_seek h s (seek.Take a) = cond_elim (λ t. Passes (info h (stage.Insert (ins.Seek (seek.Take a)))) s.own (insert_sought s (place_tried a t))) (eqb s.place_lock 0)
     _ _ (record { keeps = λ h l H. held_by (λ x e. absurd (omega arith)) (λ x e. absurd (omega arith)) (λ x e. inr (by_node refl e)) H; gains = (λ h l t. by_place refl t) }) (record { keeps = λ h l H. held_by (λ x e. absurd (omega arith)) (λ x e. absurd (omega arith)) (λ x e. inr (by_node refl e)) H; gains = (λ h l t. absurd t) })
-insert_seek h s (seek.Confirm a) = cond_elim (λ r. Passes (info h (stage.Insert (ins.Seek (seek.Confirm a)))) s.own (insert_sought s r)) s.nextBeforeKey
+insert_seek h s (seek.Confirm a) = cond_elim (λ r. Passes (info h (stage.Insert (ins.Seek (seek.Confirm a)))) s.own (insert_sought s r)) s.next_before_key
     (sght.Goes eff.Keep (seek.Release a s.next)) (sght.Done a) (record { keeps = λ h l H. held_by (λ x e. inr (by_place refl e)) (λ x e. absurd (omega arith)) (λ x e. inr (by_node refl e)) H; gains = (λ h l t. absurd t) }) (record { keeps = λ h l H. held_by (λ x e. inr (by_place refl e)) (λ x e. absurd (omega arith)) (λ x e. inr (by_node refl e)) H; gains = (λ h l t. absurd t) })
 insert_seek h s (seek.Release a b) = (record { keeps = λ h l H. held_by (λ x e. inl e) (λ x e. absurd (omega arith)) (λ x e. inr (by_node refl e)) H; gains = (λ h l t. absurd t) })
 
@@ -240,15 +240,15 @@ removal_seek : (job : Job) (h : ℕ) (s : StepView) (k : Seek) →
     Passes (info h (stage.Removal job (rem.Seek k))) s.own (removal_sought job s (seek_step s k))
 removal_seek job h s (seek.Approach a) =
     cond_elim (λ r. Passes (info h (stage.Removal job (rem.Seek (seek.Approach a)))) s.own
-    (removal_sought job s r)) s.nextBeforeKey
+    (removal_sought job s r)) s.next_before_key
     (sght.Goes eff.Keep (seek.Approach (place s.next a.level))) (sght.Goes eff.Keep (seek.Take a)) (record { keeps = λ h l H. held_by (λ x e. absurd (omega arith)) (λ x e. absurd (omega arith)) (λ x e. inr (by_node refl e)) H; gains = (λ h l t. absurd t) }) (record { keeps = λ h l H. held_by (λ x e. absurd (omega arith)) (λ x e. absurd (omega arith)) (λ x e. inr (by_node refl e)) H; gains = (λ h l t. absurd t) })
 removal_seek job h s (seek.Take a) =
     cond_elim (λ t. Passes (info h (stage.Removal job (rem.Seek (seek.Take a)))) s.own
-    (removal_sought job s (place_tried a t))) (eqb s.placeLock 0)
+    (removal_sought job s (place_tried a t))) (eqb s.place_lock 0)
     _ _ (record { keeps = λ h l H. held_by (λ x e. absurd (omega arith)) (λ x e. absurd (omega arith)) (λ x e. inr (by_node refl e)) H; gains = (λ h l t. by_place refl t) }) (record { keeps = λ h l H. held_by (λ x e. absurd (omega arith)) (λ x e. absurd (omega arith)) (λ x e. inr (by_node refl e)) H; gains = (λ h l t. absurd t) })
 removal_seek job h s (seek.Confirm a) =
     cond_elim (λ r. Passes (info h (stage.Removal job (rem.Seek (seek.Confirm a)))) s.own
-    (removal_sought job s r)) s.nextBeforeKey
+    (removal_sought job s r)) s.next_before_key
     (sght.Goes eff.Keep (seek.Release a s.next)) (sght.Done a) (record { keeps = λ h l H. held_by (λ x e. inr (by_place refl e)) (λ x e. absurd (omega arith)) (λ x e. inr (by_node refl e)) H; gains = (λ h l t. absurd t) }) (record { keeps = λ h l H. held_by (λ x e. inr (by_place refl e)) (λ x e. absurd (omega arith)) (λ x e. inr (by_node refl e)) H; gains = (λ h l t. absurd t) })
 removal_seek job h s (seek.Release a b) = (record { keeps = λ h l H. held_by (λ x e. inl e) (λ x e. absurd (omega arith)) (λ x e. inr (by_node refl e)) H; gains = (λ h l t. absurd t) })
 

@@ -1,11 +1,12 @@
 -- A call on a record that passes check 21, its inner form, and one that does not pass. Assumes
 -- nothing.
+use Rattle.std.specs.Prelude.{Some, None}
 use mathlib.Core.Path.{◌≡◌, sym, ap, ◌∙◌}
 use mathlib.Core.Bool.{Bool, true, false, cond}
 use Prim.Native.Nat.{ℕ, ◌<◌}
-use native.Mathlib.Omega.{arith}
-use lib.Dec.{eqb}
-use borrow.Author.Tests.{lt-leb, eq-eqb, ne_eqb}
+use borrow.Author.Tests.{lt-leb}
+use Rattle.record.specs.declared.refusals.Refusal.{Refusal}
+use Rattle.record.specs.declared.refusals.Refusal.TheVariants as refusal
 use Rattle.record.specs.declared.queues.Queue.{Queue}
 use Rattle.record_check.specs.Check.{valid}
 use Rattle.record.specs.Limits.{max_number}
@@ -16,29 +17,24 @@ use Rattle.rules.specs.declared.calls.Call.{Call}
 use Rattle.rules.specs.declared.calls.Call.TheVariants as call
 use Rattle.rules.specs.Answers.{refused}
 use Rattle.rules.specs.Calls.{step_decision, decision_of, processor_of}
-use Rattle.rules.specs.Calls.{refusal_of, called_valid, called}
+use Rattle.rules.specs.Calls.{refusal_of, outcome_by, called_valid, called}
 use Rattle.rules.specs.Effects.{accepted}
 use Rattle.rules.specs.Runs.{calls}
 use Rattle.rules.proofs.Valid.{kept_valid}
 
 module _ (q : Queue) (c : Call) where
   pub call_inner : valid q ≡ true → called q c ≡ called_valid q c
-  call_inner v = ap (λ (b : Bool). cond b (called_valid q c) (refused q 21)) v
+  call_inner v = ap (λ (b : Bool). cond b (called_valid q c) (refused q refusal.Invalid)) v
 
-  pub call_refused : valid q ≡ false → called q c ≡ refused q 21
-  call_refused v = ap (λ (b : Bool). cond b (called_valid q c) (refused q 21)) v
+  pub call_refused : valid q ≡ false → called q c ≡ refused q refusal.Invalid
+  call_refused v = ap (λ (b : Bool). cond b (called_valid q c) (refused q refusal.Invalid)) v
 
-  pub call_accepted : refusal_of q c ≡ 0 → called_valid q c
+  pub call_accepted : refusal_of q c ≡ None → called_valid q c
       ≡ accepted q (processor_of c) (decision_of q c)
-  call_accepted e =
-      ap (λ (t : Bool). cond t (accepted q (processor_of c) (decision_of q c))
-      (refused q (refusal_of q c))) (eq-eqb (refusal_of q c) 0 e)
+  call_accepted e = ap (outcome_by q c) e
 
-  pub call_told : (n : ℕ) → refusal_of q c ≡ n → 0 < n → called_valid q c ≡ refused q n
-  call_told n e h =
-      let a = accepted q (processor_of c) (decision_of q c) in
-      ap (λ (m : ℕ). cond (eqb m 0) a (refused q m)) e
-      ∙ ap (λ (t : Bool). cond t a (refused q n)) (ne_eqb n 0 (λ z. omega arith))
+  pub call_told : (r : Refusal) → refusal_of q c ≡ Some r → called_valid q c ≡ refused q r
+  call_told r e = ap (outcome_by q c) e
 
   pub call_kept : (r : Outcome) → valid q ≡ true → r ≡ called_valid q c →
       (r ≡ called_valid q c) × (valid r.queue ≡ true)
@@ -47,7 +43,7 @@ module _ (q : Queue) (c : Call) where
     ap (λ (o : Outcome). valid o.queue) (e ∙ sym (call_inner v)) ∙ kept_valid q (calls c) v,
   )
 
-module _ (q : Queue) (p : ℕ) (ticks : q.clock < max_number) (here : p < q.processorCount) where
+module _ (q : Queue) (p : ℕ) (ticks : q.clock < max_number) (here : p < q.processor_count) where
   pub step_accepted : is_idle (processor_at q p).stage ≡ false → called_valid q (call.Step p)
       ≡ accepted q p (step_decision q (processor_at q p))
   step_accepted b = simp (lt-leb _ _ ticks, lt-leb _ _ here, b)

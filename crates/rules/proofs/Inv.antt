@@ -46,7 +46,7 @@ pub record Entered (until : ℕ → ℕ → ℕ) (us mk nl ht tick due : ℕ →
   pub full : us n ≡ 1 → mk n ≡ 0 → nl n ≡ 0 → (j : ℕ) → 1 ≤ j → j ≤ ht n → ever ≤ until n j
 
 pub record Core (v : View) (until : ℕ → ℕ → ℕ) : Type 0 where
-  pub levelCount : 1 ≤ v.top
+  pub level_count : 1 ≤ v.top
   pub levels_high : v.top ≤ 8
   pub size : v.nodes ≤ 200
   pub clock : v.clock < ever

@@ -1,7 +1,9 @@
 -- No rule looks at an item: what a step reads of a record with other items differs in the items
 -- alone, so that its decision and its effect do. Assumes nothing.
+use Rattle.std.proofs.lemmas.List.{map-set}
+use Rattle.std.specs.Prelude.{Option, ℕ, Some, None}
 use mathlib.Core.Path.{◌≡◌, refl, sym, ap, ◌∙◌, fun_ext}
-use mathlib.Core.Bool.{Bool, true, false, cond, ◌||◌, true≢false}
+use mathlib.Core.Bool.{Bool, true, false, cond, ◌||◌}
 use mathlib.Core.List.{List, [], ◌∷◌, map}
 use Prim.Native.Nat.{ℕ, zero, suc, ◌+◌, ◌≤◌, ◌<◌}
 use native.Mathlib.Decide.{dec_le, ℕ_discrete}
@@ -15,6 +17,7 @@ use Rattle.laws.specs.Every.{every_below}
 use Rattle.laws.specs.HowMany.{how_many}
 use Rattle.record_check.specs.Backlog.{holds_pending, pending_at, backlog_of}
 use Rattle.record_check.specs.Check.{valid, sizes_of, node_valid}
+use Rattle.record.specs.declared.refusals.Refusal.{Refusal}
 use Rattle.record.specs.declared.nodes.Node.{Node}
 use Rattle.record.specs.declared.queues.Processor.{Processor}
 use Rattle.record.specs.declared.queues.Queue.{Queue}
@@ -47,15 +50,12 @@ use Rattle.rules.specs.declared.decisions.Decision.{Decision}
 use Rattle.rules.specs.declared.decisions.Searched.{Searched}
 use Rattle.rules.specs.declared.decisions.Searched.TheVariants as srch
 use Rattle.rules.specs.declared.decisions.StepView.{StepView}
-use Rattle.rules.specs.declared.decisions.Attempt.{Attempt}
-use Rattle.rules.specs.declared.decisions.Attempt.TheVariants as try
 use Rattle.rules.specs.declared.decisions.Sought.{Sought}
 use Rattle.rules.specs.declared.decisions.Sought.TheVariants as sght
-use Rattle.rules.specs.Answers.{refused}
 use Rattle.rules.specs.declared.calls.Call.{Call}
 use Rattle.rules.specs.declared.calls.Call.TheVariants as call
 use Rattle.rules.specs.Calls.{step_view_of, next_of, reading_place, insert_decision, decision_of}
-use Rattle.rules.specs.Calls.{processor_of, refusal_of, called}
+use Rattle.rules.specs.Calls.{processor_of, refusal_of, outcome_by, called}
 use Rattle.rules.specs.Choice.{chosen}
 use Rattle.rules.specs.Decide.{decide, search_step, seek_step}
 use Rattle.rules.specs.Decide.{insert_searched, insert_sought, insert_step}
@@ -63,7 +63,6 @@ use Rattle.rules.specs.Decide.{removal_searched, removal_sought, removal_step, d
 use Rattle.rules.specs.Decide.{relaxed_step, remove_searched, remove_step}
 use Rattle.rules.specs.Decide.{attempt, place_tried, node_tried, own_tried}
 use Rattle.rules.specs.Effects.{changed, node_of, applied, accepted}
-use Rattle.rules.proofs.Slots.{map_set}
 use Rattle.rules.specs.Items.{Renaming, renamed_node, renamed, renamed_entry, renamed_answer}
 use Rattle.rules.specs.Items.{renamed_call, item_of}
 use Rattle.rules.specs.Items.{zero_for, CheckSeesNoItem, NoRuleSeesAnItem, ItemZeroGoesOn}
@@ -75,8 +74,8 @@ cond_pair :
     {A B : Type 0} (g : A → B) (s t : Bool) (x y : A) (u v : B) → s ≡ t → u ≡ g x → v ≡ g y →
     cond s u v ≡ g (cond t x y)
 cond_pair {A} {B} g true true x y u v e h k = h
-cond_pair {A} {B} g true false x y u v e h k = absurd (true≢false e)
-cond_pair {A} {B} g false true x y u v e h k = absurd (true≢false (sym e))
+cond_pair {A} {B} g true false x y u v e h k = cc
+cond_pair {A} {B} g false true x y u v e h k = cc
 cond_pair {A} {B} g false false x y u v e h k = k
 
 cond_image : {A B : Type 0} (g : A → B) (t : Bool) (x y : A) → cond t (g x) (g y) ≡ g (cond t x y)
@@ -90,22 +89,22 @@ module _ (f : ℕ → ℕ) where
   renamed_view s = record {
     own = s.own;
     height = s.height;
-    ownNodeLock = s.ownNodeLock;
+    own_node_lock = s.own_node_lock;
     next = s.next;
-    nextBeforeKey = s.nextBeforeKey;
-    nextHasKey = s.nextHasKey;
-    nextIsTail = s.nextIsTail;
-    placeLock = s.placeLock;
-    ownNext = s.ownNext;
-    ownLock = s.ownLock;
-    levelCount = s.levelCount;
+    next_before_key = s.next_before_key;
+    next_has_key = s.next_has_key;
+    next_is_tail = s.next_is_tail;
+    place_lock = s.place_lock;
+    own_next = s.own_next;
+    own_lock = s.own_lock;
+    level_count = s.level_count;
     marked = s.marked;
     stamped = s.stamped;
-    savedAbove = s.savedAbove;
-    savedBelow = s.savedBelow;
-    savedAtHeight = s.savedAtHeight;
-    placeEntry = renamed_entry f s.placeEntry;
-    ownEntry = renamed_entry f s.ownEntry;
+    saved_above = s.saved_above;
+    saved_below = s.saved_below;
+    saved_at_height = s.saved_at_height;
+    place_entry = renamed_entry f s.place_entry;
+    own_entry = renamed_entry f s.own_entry;
   }
 
   abbrev renamed_effect : Effect → Effect
@@ -138,14 +137,14 @@ module _ (f : ℕ → ℕ) where
   renamed_sought (sght.Done a) = sght.Done a
 
   -- what is decided
-  place_tried_lem : (a : Place) (t : Attempt) → place_tried a t ≡ renamed_sought (place_tried a t)
-  place_tried_lem a try.Taken = refl
-  place_tried_lem a (try.HeldBy h) = refl
+  place_tried_lem : (a : Place) (t : Option ℕ) → place_tried a t ≡ renamed_sought (place_tried a t)
+  place_tried_lem a None = refl
+  place_tried_lem a (Some h) = refl
 
   seeking : (s : StepView) (k : Seek) → seek_step (renamed_view s) k ≡ renamed_sought (seek_step s k)
-  seeking s (seek.Approach a) = cond_image renamed_sought s.nextBeforeKey _ _
-  seeking s (seek.Take a) = place_tried_lem a (attempt s.placeLock)
-  seeking s (seek.Confirm a) = cond_image renamed_sought s.nextBeforeKey _ _
+  seeking s (seek.Approach a) = cond_image renamed_sought s.next_before_key _ _
+  seeking s (seek.Take a) = place_tried_lem a (attempt s.place_lock)
+  seeking s (seek.Confirm a) = cond_image renamed_sought s.next_before_key _ _
   seeking s (seek.Release a b) = refl
 
   insert_searched_lem :
@@ -188,25 +187,25 @@ module _ (f : ℕ → ℕ) where
   removal_sought_lem job s (sght.Done a) = refl
 
   node_tried_lem :
-      (job : Job) (s : StepView) (t : Attempt) →
+      (job : Job) (s : StepView) (t : Option ℕ) →
       node_tried job (renamed_view s) t ≡ renamed_decision (node_tried job s t)
-  node_tried_lem job s try.Taken = refl
-  node_tried_lem job s (try.HeldBy h) = refl
+  node_tried_lem job s None = refl
+  node_tried_lem job s (Some h) = refl
 
   own_tried_lem :
-      (job : Job) (s : StepView) (a : Place) (t : Attempt) →
+      (job : Job) (s : StepView) (a : Place) (t : Option ℕ) →
       own_tried job (renamed_view s) a t ≡ renamed_decision (own_tried job s a t)
-  own_tried_lem job s a try.Taken = refl
-  own_tried_lem job s a (try.HeldBy h) = refl
+  own_tried_lem job s a None = refl
+  own_tried_lem job s a (Some h) = refl
 
   removal_decides :
       (job : Job) (s : StepView) (r : Removal) →
       removal_step job (renamed_view s) r ≡ renamed_decision (removal_step job s r)
   removal_decides job s (rem.Search a) = removal_searched_lem job s a (search_step s a)
-  removal_decides job s rem.HoldNode = node_tried_lem job s (attempt s.ownNodeLock)
+  removal_decides job s rem.HoldNode = node_tried_lem job s (attempt s.own_node_lock)
   removal_decides job s (rem.Seek k) =
       ap (removal_sought job (renamed_view s)) (seeking s k) ∙ removal_sought_lem job s (seek_step s k)
-  removal_decides job s (rem.HoldOwn a) = own_tried_lem job s a (attempt s.ownLock)
+  removal_decides job s (rem.HoldOwn a) = own_tried_lem job s a (attempt s.own_lock)
   removal_decides job s (rem.Unlink a) = refl
   removal_decides job s (rem.LeadBack a) = refl
   removal_decides job s (rem.FreeOwn a) = refl
@@ -217,7 +216,7 @@ module _ (f : ℕ → ℕ) where
 
   delete_decides :
       (s : StepView) (d : Delete) → delete_step (renamed_view s) d ≡ renamed_decision (delete_step s d)
-  delete_decides s (del.ReadNext a) = cond_image renamed_decision s.nextIsTail _ _
+  delete_decides s (del.ReadNext a) = cond_image renamed_decision s.next_is_tail _ _
   delete_decides s (del.TestStamp a) = cond_image renamed_decision s.stamped _ _
   delete_decides s (del.SetMark a) = cond_image renamed_decision s.marked _ _
 
@@ -225,7 +224,7 @@ module _ (f : ℕ → ℕ) where
       (s : StepView) (d : Relaxed) →
       relaxed_step (renamed_view s) d ≡ renamed_decision (relaxed_step s d)
   relaxed_decides s (rlx.ReadNext a) =
-      cond_pair renamed_decision s.nextIsTail s.nextIsTail _ _ _ _ refl refl
+      cond_pair renamed_decision s.next_is_tail s.next_is_tail _ _ _ _ refl refl
       (cond_image renamed_decision (eqb s.next 0) _ _)
   relaxed_decides s (rlx.SetMark a) = cond_image renamed_decision s.marked _ _
 
@@ -241,8 +240,8 @@ module _ (f : ℕ → ℕ) where
       remove_step (renamed_view s) w d ≡ renamed_decision (remove_step s w d)
   remove_decides s w (rmv.Search a) = remove_searched_lem s w a (search_step s a)
   remove_decides s w (rmv.ReadNext a) =
-      cond_pair renamed_decision s.nextBeforeKey s.nextBeforeKey _ _ _ _ refl refl
-      (cond_image renamed_decision s.nextHasKey _ _)
+      cond_pair renamed_decision s.next_before_key s.next_before_key _ _ _ _ refl refl
+      (cond_image renamed_decision s.next_has_key _ _)
   remove_decides s w (rmv.TestStamp a) = cond_image renamed_decision s.stamped _ _
   remove_decides s w (rmv.SetMark a) = cond_image renamed_decision s.marked _ _
 
@@ -319,8 +318,8 @@ module _ (f : ℕ → ℕ) where
     applies q p d =
         let e = d.effect in
         let x = node_of e in
-        let l = q.levelCount in
-        let tail = q.nodeCount + 1 in
+        let l = q.level_count in
+        let tail = q.node_count + 1 in
         let t = q.clock + 1 in
         let g = renamed_node f in
         let after = changed l tail (p + 1) t e (node_at q x) in
@@ -329,7 +328,7 @@ module _ (f : ℕ → ℕ) where
         ∙ changes l tail (p + 1) t e (node_at q x) in
         let nodes :
         (applied (renamed f q) p (renamed_decision d)).nodes ≡ map g (applied q p d).nodes =
-        rw (same_node e, new) (sym (map_set g q.nodes x after)) in
+        rw (same_node e, new) (sym (map-set g q.nodes x after)) in
         rw nodes refl
 
     valid_same : (q : Queue) → valid (renamed f q) ≡ valid q
@@ -341,10 +340,10 @@ module _ (f : ℕ → ℕ) where
         node_valid_lem x n = rw (in_range n.item) refl
 
         nodes :
-            every_below (λ x. node_valid (sizes_of q) x (node_at (renamed f q) x)) (q.nodeCount + 2)
-            ≡ every_below (λ x. node_valid (sizes_of q) x (node_at q x)) (q.nodeCount + 2)
+            every_below (λ x. node_valid (sizes_of q) x (node_at (renamed f q) x)) (q.node_count + 2)
+            ≡ every_below (λ x. node_valid (sizes_of q) x (node_at q x)) (q.node_count + 2)
         nodes =
-            every_same _ _ (q.nodeCount + 2)
+            every_same _ _ (q.node_count + 2)
             (λ x. ap (node_valid (sizes_of q) x) (node_read q x) ∙ node_valid_lem x (node_at q x))
 
     chosen_same : (q : Queue) → chosen (renamed f q) ≡ chosen q
@@ -414,25 +413,31 @@ module _ (f : ℕ → ℕ) where
     processor_same (call.Remove p due ticket) = refl
     processor_same (call.Step p) = refl
 
+    outcome_same :
+        (q : Queue) (c : Call) (r : Option Refusal) →
+        outcome_by (renamed f q) (renamed_call f c) r ≡ renamed_outcome (outcome_by q c r)
+    outcome_same q c None =
+        ap (λ (p : ℕ). accepted (renamed f q) p (decision_of (renamed f q) (renamed_call f c)))
+        (processor_same c)
+        ∙ accepts q (processor_of c) (decision_of q c) _ (decision_same q c)
+    outcome_same q c (Some r) = refl
+
     call_same :
         (q : Queue) (c : Call) → (f (item_of c) ≡ 0 → item_of c ≡ 0) →
         called (renamed f q) (renamed_call f c) ≡ renamed_outcome (called q c)
     call_same q c h =
-        let same = refusal_same q c h in
         cond_pair renamed_outcome _ (valid q) _ _ _ _ (valid_same q)
-        (cond_pair renamed_outcome _ (eqb (refusal_of q c) 0) _ _ _ _ (ap (λ (n : ℕ). eqb n 0) same)
-        (ap (λ (p : ℕ). accepted (renamed f q) p (decision_of (renamed f q) (renamed_call f c)))
-        (processor_same c) ∙ accepts q (processor_of c) (decision_of q c) _ (decision_same q c))
-        (ap (refused (renamed f q)) same)) refl
+        (ap (outcome_by (renamed f q) (renamed_call f c)) (refusal_same q c h)
+        ∙ outcome_same q c (refusal_of q c)) refl
 
     backlog_same : (q : Queue) → backlog_of (renamed f q) ≡ backlog_of q
-    backlog_same q = rw (valid_same q, pending_same q q.nodeCount) refl
+    backlog_same q = rw (valid_same q, pending_same q q.node_count) refl
 
     markers_same : (q : Queue) (room : ℕ) → markers_of (renamed f q) room ≡ markers_of q room
-    markers_same q room = rw (valid_same q, used_same q q.nodeCount) refl
+    markers_same q room = rw (valid_same q, used_same q q.node_count) refl
 
     area_same : (q : Queue) (area : List ℕ) → area_after (renamed f q) area ≡ area_after q area
-    area_same q area = rw (pairs_same q q.nodeCount, markers_same q (length area)) refl
+    area_same q area = rw (pairs_same q q.node_count, markers_same q (length area)) refl
 
 pub check_sees_no_item : CheckSeesNoItem
 check_sees_no_item f R q = valid_same f R q

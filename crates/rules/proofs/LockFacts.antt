@@ -120,7 +120,7 @@ module _ (q : Queue) (b : Book) (S : Sound q b) (p : ℕ) where
 
   -- the view's level lock is the record's
   lock_held : (n i : ℕ) → 1 ≤ i → v.lk n i ≡ suc p → holder_of q (level n i) ≡ suc p
-  lock_held n i i≥ e = level_pos (node_at q n).levelLocks i i≥ ∙ e
+  lock_held n i i≥ e = level_pos (node_at q n).level_locks i i≥ ∙ e
 
   claimed_held : (l : Lock) → Claims c l → holder_of q l ≡ suc p
   claimed_held l (of_place x) =
@@ -145,7 +145,7 @@ module _ (q : Queue) (b : Book) (S : Sound q b) (p : ℕ) where
 pub locks_agree : (q : Queue) (b : Book) → Sound q b → LocksAgree q
 locks_agree q b S = record {
   claimed_is_held = claimed_held q b S;
-  held_is_claimed = λ p n i i≥ e. holds_claims q b S p (level n i) (S.held p (level n i) (sym (level_pos (node_at q n).levelLocks i i≥) ∙ e));
+  held_is_claimed = λ p n i i≥ e. holds_claims q b S p (level n i) (S.held p (level n i) (sym (level_pos (node_at q n).level_locks i i≥) ∙ e));
   node_held_is_claimed = λ p n e. holds_claims q b S p (node n) (S.held p (node n) e);
 }
 

@@ -28,22 +28,22 @@ abbrev pub view_for : View → Pr → ℕ → (ℕ → Bool) → Place → StepV
 view_for v c k asks a = record {
   own = c.own;
   height = v.ht c.own;
-  ownNodeLock = v.nl c.own;
+  own_node_lock = v.nl c.own;
   next = v.fwd a.node a.level;
-  nextBeforeKey = ltb (key v (v.fwd a.node a.level)) k;
-  nextHasKey = asks (key v (v.fwd a.node a.level));
-  placeLock = v.lk a.node a.level;
-  ownNext = v.fwd c.own a.level;
-  ownLock = v.lk c.own a.level;
-  nextIsTail = eqb (v.fwd a.node a.level) (tail v);
-  levelCount = v.top;
+  next_before_key = ltb (key v (v.fwd a.node a.level)) k;
+  next_has_key = asks (key v (v.fwd a.node a.level));
+  place_lock = v.lk a.node a.level;
+  own_next = v.fwd c.own a.level;
+  own_lock = v.lk c.own a.level;
+  next_is_tail = eqb (v.fwd a.node a.level) (tail v);
+  level_count = v.top;
   marked = ltb 0 (v.mk a.node);
   stamped = ltb (v.st a.node) c.begin;
-  savedAbove = c.saved (a.level + 1);
-  savedBelow = c.saved (a.level - 1);
-  savedAtHeight = c.saved (v.ht c.own);
-  placeEntry = entry_at v a.node;
-  ownEntry = entry_at v c.own;
+  saved_above = c.saved (a.level + 1);
+  saved_below = c.saved (a.level - 1);
+  saved_at_height = c.saved (v.ht c.own);
+  place_entry = entry_at v a.node;
+  own_entry = entry_at v c.own;
 }
 
 abbrev pub view : View → Pr → ℕ → Place → StepView

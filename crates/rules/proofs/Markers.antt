@@ -1,8 +1,9 @@
 -- Markers agrees with the book: it tells of as many nodes as there are entries that are neither
 -- handed out nor taken back, and a processor stands there once while it has such an entry marked. A
 -- node in use is marked by the processor that removes it. Assumes nothing.
+use Rattle.std.specs.Prelude.{Result}
 use mathlib.Core.Path.{◌≡◌, refl, sym, ap, ◌∙◌}
-use mathlib.Core.Bool.{Bool, true, false, cond, ◌&&◌, not, true≢false}
+use mathlib.Core.Bool.{Bool, true, false, cond, ◌&&◌, not}
 use mathlib.Core.List.{List, ◌++◌, append_assoc}
 use Prim.Native.Nat.{ℕ, zero, suc, ◌+◌, ◌-◌, ◌*◌, ◌≤◌, ◌<◌}
 use native.Mathlib.Omega.{arith}
@@ -14,6 +15,7 @@ use Rattle.laws.specs.HowMany.{how_many}
 use Rattle.laws.proofs.Booleans.{cond_cases}
 use Rattle.laws.proofs.Counting.{and_left, and_right, every_of}
 use Rattle.laws.proofs.HowMany.{Passed, Paired, many_more, many_paired}
+use Rattle.record.specs.declared.refusals.Refusal.{Refusal}
 use Rattle.record.specs.declared.queues.Queue.{Queue}
 use Rattle.record.specs.declared.stages.Job.{Job}
 use Rattle.record.specs.declared.stages.Stage.{Stage}
@@ -22,7 +24,6 @@ use Rattle.record.specs.Limits.{max_processors}
 use Rattle.record.specs.Nodes.{is_marked}
 use Rattle.record.specs.Queues.{node_at}
 use Rattle.record_check.specs.Check.{valid}
-use Rattle.record_markers.specs.declared.listing.Listed.{Listed}
 use Rattle.record_markers.specs.Markers.{marker_byte, in_use_at, pair_at, pairs_to, used_count, markers_of}
 use Rattle.record_markers.specs.Markers.{area_by, area_after}
 use Rattle.record_markers.proofs.Pairs.{length_pairs}
@@ -43,15 +44,15 @@ use Rattle.rules.proofs.View.{View, info, claim}
 -- what a stage has open, and whether it is a remover's
 pub opens_delivering : (h : ℕ) (s : Stage) (T t x : ℕ) (job : Job) →
     opens s T t ≡ unlinking job x → ((info h s).kind ≡ 3) × (t ≡ x)
-opens_delivering h stage.Idle T t x job e = absurd (let z : ◌≡◌ {A = ℕ} 0 1 = cc in omega arith)
+opens_delivering h stage.Idle T t x job e = cc
 opens_delivering h (stage.Insert i) T t x job e =
-    absurd (let z : ◌≡◌ {A = ℕ} 0 1 = cc in omega arith)
+    cc
 opens_delivering h (stage.Delete d) T t x job e =
-    absurd (let z : ◌≡◌ {A = ℕ} 0 1 = cc in omega arith)
+    cc
 opens_delivering h (stage.Relaxed d) T t x job e =
-    absurd (let z : ◌≡◌ {A = ℕ} 0 1 = cc in omega arith)
+    cc
 opens_delivering h (stage.Remove w d) T t x job e =
-    absurd (let z : ◌≡◌ {A = ℕ} 0 1 = cc in omega arith)
+    cc
 opens_delivering h (stage.Removal j r) T t x job e = (removal_kind j h r, cc)
 
 pub opens_kind : (h : ℕ) (s : Stage) (T t : ℕ) → (info h s).kind ≡ 3 →
@@ -65,11 +66,11 @@ opens_kind h (stage.Removal job r) T t k = (job, refl)
 
 unlinking_kind : (h : ℕ) (s : Stage) (T t : ℕ) → is_unlinking (opens s T t) ≡ true →
     (info h s).kind ≡ 3
-unlinking_kind h stage.Idle T t e = absurd (true≢false (sym e))
-unlinking_kind h (stage.Insert i) T t e = absurd (true≢false (sym e))
-unlinking_kind h (stage.Delete d) T t e = absurd (true≢false (sym e))
-unlinking_kind h (stage.Relaxed d) T t e = absurd (true≢false (sym e))
-unlinking_kind h (stage.Remove w d) T t e = absurd (true≢false (sym e))
+unlinking_kind h stage.Idle T t e = cc
+unlinking_kind h (stage.Insert i) T t e = cc
+unlinking_kind h (stage.Delete d) T t e = cc
+unlinking_kind h (stage.Relaxed d) T t e = cc
+unlinking_kind h (stage.Remove w d) T t e = cc
 unlinking_kind h (stage.Removal job r) T t e = removal_kind job h r
 
 -- a processor's byte is that of its mark alone
@@ -136,7 +137,7 @@ module _ (q : Queue) (b : Book) (S : Sound q b) where
   v = view_of q
 
   abbrev N : ℕ
-  N = q.nodeCount
+  N = q.node_count
 
   used : (x : ℕ) → Passed (in_use_at q) N x → v.us x ≡ 1
   used x X = used_number q x X.low X.high ∙ use_number_lem (node_at q x).state X.passes
@@ -298,5 +299,5 @@ module _ (q : Queue) (b : Book) (S : Sound q b) where
       pairs : List ℕ
       pairs = pairs_to q N
 
-      Fed : Listed → Type 0
+      Fed : Result ℕ Refusal → Type 0
       Fed k = feed_markers b k (area_by pairs area k) ≡ agrees b

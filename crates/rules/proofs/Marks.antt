@@ -2,8 +2,10 @@
 -- processor p sets it where it was 0, or an Insert takes the node and clears it. And who set a mark
 -- is seen by no call: what a call reads, refuses and decides is the same on the record whose marks
 -- are all those of processor 0. Assumes nothing.
+use Rattle.std.proofs.lemmas.List.{map-set}
+use Rattle.std.specs.Prelude.{Result, Ok, Err, Option, Some, None}
 use mathlib.Core.Path.{◌≡◌, refl, sym, ap, ap₂, ◌∙◌, subst, fun_ext}
-use mathlib.Core.Bool.{Bool, true, false, cond, true≢false}
+use mathlib.Core.Bool.{Bool, true, false, cond}
 use mathlib.Core.List.{List, [], map, map-map}
 use Prim.Native.Nat.{ℕ, suc, ◌+◌, ◌*◌}
 use native.Mathlib.Omega.{arith}
@@ -12,13 +14,11 @@ use lib.ListN.{length, set, get_or-map}
 use borrow.Author.Tests.{ltb-true, ltb-false}
 use Rattle.laws.proofs.Booleans.{cond_cases, cond_elim}
 use Rattle.laws.specs.HowMany.{how_many}
-use Rattle.record_check.specs.declared.counting.Count.{Count}
-use Rattle.record_check.specs.declared.counting.Count.TheVariants as count
 use Rattle.record_check.specs.Backlog.{holds_pending, is_pending, pending_at, backlog_of}
 use Rattle.record_check.specs.Check.{valid}
-use Rattle.record_markers.specs.declared.listing.Listed.{Listed}
-use Rattle.record_markers.specs.declared.listing.Listed.TheVariants as listing
 use Rattle.record_markers.specs.Markers.{used_count, markers_of}
+use Rattle.record.specs.declared.refusals.Refusal.{Refusal}
+use Rattle.record.specs.declared.refusals.Refusal.TheVariants as refusal
 use Rattle.record.specs.declared.nodes.Node.{Node}
 use Rattle.record.specs.declared.nodes.Use.{Use}
 use Rattle.record.specs.declared.queues.Processor.{Processor}
@@ -56,7 +56,7 @@ use Rattle.rules.specs.declared.decisions.Sought.TheVariants as sght
 use Rattle.rules.specs.declared.decisions.StepView.{StepView}
 use Rattle.rules.specs.Answers.{refused}
 use Rattle.rules.specs.Calls.{reading_place, next_of, step_view_of, step_decision, insert_decision}
-use Rattle.rules.specs.Calls.{decision_of, processor_of, refusal_of, called_valid, called}
+use Rattle.rules.specs.Calls.{decision_of, processor_of, refusal_of, outcome_by, called_valid, called}
 use Rattle.rules.specs.Choice.{state_of, chosen}
 use Rattle.rules.specs.Decide.{decide, search_step, seek_step}
 use Rattle.rules.specs.Decide.{insert_searched, insert_sought, insert_step}
@@ -69,7 +69,7 @@ use Rattle.rules.specs.Marks.{anonymous_node, anonymous}
 use Rattle.rules.specs.Runs.{Turn, calls, backlog, markers, step_by, after}
 use Rattle.rules.specs.Runs.{answered, counted, listed}
 use Rattle.rules.proofs.Allowed.{of_call}
-use Rattle.rules.proofs.Slots.{set_either, map_set}
+use Rattle.rules.proofs.Slots.{set_either}
 
 -- what the mark of node x may be after the turn c
 data MarkAfter (q : Queue) (c : Turn) (x : ℕ) : ℕ → Type 0 where
@@ -109,9 +109,9 @@ module _ (q : Queue) where
   SoughtSpares (sght.Done a) = Unit {0}
 
   seek_spares : (s : StepView) (k : Seek) → SoughtSpares (seek_step s k)
-  seek_spares s (seek.Approach a) = cond_elim SoughtSpares s.nextBeforeKey _ _ tt tt
-  seek_spares s (seek.Take a) = cond_elim (λ t. SoughtSpares (place_tried a t)) (eqb s.placeLock 0) _ _ tt tt
-  seek_spares s (seek.Confirm a) = cond_elim SoughtSpares s.nextBeforeKey _ _ tt tt
+  seek_spares s (seek.Approach a) = cond_elim SoughtSpares s.next_before_key _ _ tt tt
+  seek_spares s (seek.Take a) = cond_elim (λ t. SoughtSpares (place_tried a t)) (eqb s.place_lock 0) _ _ tt tt
+  seek_spares s (seek.Confirm a) = cond_elim SoughtSpares s.next_before_key _ _ tt tt
   seek_spares s (seek.Release a b) = tt
 
   insert_searched_lem : (s : StepView) (a : Place) (r : Searched) → Sparing (insert_searched s a r)
@@ -148,10 +148,10 @@ module _ (q : Queue) where
   removal_spares : (job : Job) (s : StepView) (r : Removal) → Sparing (removal_step job s r)
   removal_spares job s (rem.Search a) = removal_searched_lem job s a (search_step s a)
   removal_spares job s rem.HoldNode =
-      cond_elim (λ t. Sparing (node_tried job s t)) (eqb s.ownNodeLock 0) _ _ tt tt
+      cond_elim (λ t. Sparing (node_tried job s t)) (eqb s.own_node_lock 0) _ _ tt tt
   removal_spares job s (rem.Seek k) = removal_sought_lem job s (seek_step s k) (seek_spares s k)
   removal_spares job s (rem.HoldOwn a) =
-      cond_elim (λ t. Sparing (own_tried job s a t)) (eqb s.ownLock 0) _ _ tt tt
+      cond_elim (λ t. Sparing (own_tried job s a t)) (eqb s.own_lock 0) _ _ tt tt
   removal_spares job s (rem.Unlink a) = tt
   removal_spares job s (rem.LeadBack a) = tt
   removal_spares job s (rem.FreeOwn a) = tt
@@ -164,7 +164,7 @@ module _ (q : Queue) where
   Tells s g = s.marked ≡ is_marked (node_at q (row_of g).place.node).mark
 
   delete_spares : (s : StepView) (d : Delete) → Tells s (stage.Delete d) → Sparing (delete_step s d)
-  delete_spares s (del.ReadNext a) m = cond_elim Sparing s.nextIsTail _ _ tt tt
+  delete_spares s (del.ReadNext a) m = cond_elim Sparing s.next_is_tail _ _ tt tt
   delete_spares s (del.TestStamp a) m = cond_elim Sparing s.stamped _ _ tt tt
   delete_spares s (del.SetMark a) m =
       cond_cases Sparing s.marked _ _ (λ _. tt)
@@ -173,7 +173,7 @@ module _ (q : Queue) where
   relaxed_spares :
       (s : StepView) (d : Relaxed) → Tells s (stage.Relaxed d) → Sparing (relaxed_step s d)
   relaxed_spares s (rlx.ReadNext a) m =
-      cond_elim Sparing s.nextIsTail _ _ tt (cond_elim Sparing (eqb s.next 0) _ _ tt tt)
+      cond_elim Sparing s.next_is_tail _ _ tt (cond_elim Sparing (eqb s.next 0) _ _ tt tt)
   relaxed_spares s (rlx.SetMark a) m =
       cond_cases Sparing s.marked _ _ (λ _. tt)
       (λ unset. no_mark (node_at q a.node).mark (sym m ∙ unset))
@@ -183,9 +183,9 @@ module _ (q : Queue) where
       Sparing (remove_step s w d)
   remove_spares s w (rmv.Search a) m =
       let P : Searched → Type 0 = λ o. Sparing (remove_searched s w a o) in
-      cond_elim P s.nextBeforeKey _ _ tt (cond_elim P (leb a.level 1) _ _ tt tt)
+      cond_elim P s.next_before_key _ _ tt (cond_elim P (leb a.level 1) _ _ tt tt)
   remove_spares s w (rmv.ReadNext a) m =
-      cond_elim Sparing s.nextBeforeKey _ _ tt (cond_elim Sparing s.nextHasKey _ _ tt tt)
+      cond_elim Sparing s.next_before_key _ _ tt (cond_elim Sparing s.next_has_key _ _ tt tt)
   remove_spares s w (rmv.TestStamp a) m = cond_elim Sparing s.stamped _ _ tt tt
   remove_spares s w (rmv.SetMark a) m =
       cond_cases Sparing s.marked _ _ (λ _. tt)
@@ -226,7 +226,7 @@ module _ (q : Queue) where
   Written c x =
       let e = (decision_of q c).effect in
       MarkAfter q (calls c) x
-      (changed q.levelCount (q.nodeCount + 1) (processor_of c + 1) (q.clock + 1) e
+      (changed q.level_count (q.node_count + 1) (processor_of c + 1) (q.clock + 1) e
       (node_at q (node_of e))).mark
 
   -- it is the node that the call writes
@@ -248,7 +248,7 @@ module _ (q : Queue) where
   written (call.Remove p due ticket) made = stays
   written (call.Step p) made =
       let c = processor_at q p in
-      step_marks p q.levelCount (q.nodeCount + 1) (q.clock + 1) (step_decision q c).effect
+      step_marks p q.level_count (q.node_count + 1) (q.clock + 1) (step_decision q c).effect
       (step_spares c)
 
   -- every turn, and every node
@@ -256,7 +256,7 @@ module _ (q : Queue) where
   mark_after (calls c) x =
       of_call
       (λ (o : Outcome). called q c ≡ o → MarkAfter q (calls c) x (node_at o.queue x).mark) q c
-      (λ n _. stays)
+      (λ r _. stays)
       (λ v A made.
       set_either (λ (n : Node). MarkAfter q (calls c) x n.mark) q.nodes _ x _ (fresh_node 0)
       (λ e. subst (Written c) (sym e) (written c made)) stays) refl
@@ -294,15 +294,6 @@ node_twice n = ap (λ (b : Bool). with_mark n (cond b 1 0)) (sym (still_marked (
 pending_node : (n : Node) → holds_pending n ≡ holds_pending (anonymous_node n)
 pending_node n = ap (is_pending n.state n.stamp) (sym (still_marked (is_marked n.mark)))
 
--- the image of a choice, from the images of its two cases
-cond_alike :
-    {A B : Type 0} (g : A → B) (s t : Bool) (x y u v : A) → s ≡ t → g x ≡ g u → g y ≡ g v →
-    g (cond s x y) ≡ g (cond t u v)
-cond_alike {A} {B} g true true x y u v e h k = h
-cond_alike {A} {B} g true false x y u v e h k = absurd (true≢false e)
-cond_alike {A} {B} g false true x y u v e h k = absurd (true≢false (sym e))
-cond_alike {A} {B} g false false x y u v e h k = k
-
 -- an effect on a node leaves it as on the anonymous one, but for who set the mark
 module _ (l tail h t : ℕ) (n : Node) where
   abbrev by : Effect → Node
@@ -325,9 +316,9 @@ module _ (l tail h t : ℕ) (n : Node) where
 -- the record with these nodes
 abbrev with_nodes : Queue → List Node → Queue
 with_nodes q l = record {
-  processorCount = q.processorCount;
-  nodeCount = q.nodeCount;
-  levelCount = q.levelCount;
+  processor_count = q.processor_count;
+  node_count = q.node_count;
+  level_count = q.level_count;
   clock = q.clock;
   nodes = l;
   processors = q.processors;
@@ -338,11 +329,11 @@ abbrev anonymous_outcome : Outcome → Outcome
 anonymous_outcome o = record { queue = anonymous o.queue; answer = o.answer }
 
 -- the answer to Backlog and to markers on a record that passes check 21
-abbrev pending_count : Queue → Count
-pending_count q = count.Pending (how_many (pending_at q) q.nodeCount)
+abbrev pending_count : Queue → Result ℕ Refusal
+pending_count q = Ok (how_many (pending_at q) q.node_count)
 
-abbrev listed_by : ℕ → ℕ → Listed
-listed_by room used = cond (ltb room (2 * used)) (listing.Refused 43) (listing.Nodes used)
+abbrev listed_by : ℕ → ℕ → Result ℕ Refusal
+listed_by room used = cond (ltb room (2 * used)) (Err refusal.Room) (Ok used)
 
 -- whatever is read of a record is the same of the anonymous one
 module _ (q : Queue) where
@@ -361,11 +352,11 @@ module _ (q : Queue) where
   chosen_same = rw states_same
 
   used_same : used_count q ≡ used_count (anonymous q)
-  used_same = ap (λ (state : ℕ → Use). how_many (λ x. is_in_use (state x)) q.nodeCount) states_same
+  used_same = ap (λ (state : ℕ → Use). how_many (λ x. is_in_use (state x)) q.node_count) states_same
 
   pending_same : pending_count q ≡ pending_count (anonymous q)
   pending_same =
-      ap (λ (f : ℕ → Bool). count.Pending (how_many f q.nodeCount))
+      ap (λ (f : ℕ → Bool). Ok (how_many f q.node_count))
       (fun_ext (λ (x : ℕ). pending_node (node_at q x) ∙ ap holds_pending (node_read x)))
 
   views_same : (c : Processor) (a : Place) → step_view_of q c a ≡ step_view_of (anonymous q) c a
@@ -397,27 +388,33 @@ module _ (q : Queue) where
   applies p d =
       let e = d.effect in
       let x = node_of e in
-      let l = q.levelCount in
-      let tail = q.nodeCount + 1 in
+      let l = q.level_count in
+      let tail = q.node_count + 1 in
       let t = q.clock + 1 in
       let to : Node → Node = λ n. anonymous_node (changed l tail (p + 1) t e n) in
       let new = changes l tail (p + 1) t (node_at q x) e ∙ ap to (node_read x) in
       ap (with_nodes (applied q p d))
-      (map_set anonymous_node q.nodes x _
+      (map-set anonymous_node q.nodes x _
       ∙ ap₂ (λ (r : List Node) (n : Node). set r x n) nodes_twice new
-      ∙ sym (map_set anonymous_node (anonymous q).nodes x _))
+      ∙ sym (map-set anonymous_node (anonymous q).nodes x _))
+
+  outcome_same :
+      (c : Call) (r : Option Refusal) →
+      anonymous_outcome (outcome_by q c r) ≡ anonymous_outcome (outcome_by (anonymous q) c r)
+  outcome_same c None =
+      let p = processor_of c in
+      let d = decision_of q c in
+      ap (λ (s : Queue). record { queue = s; answer = d.answer }) (applies p d)
+      ∙ ap (λ (d : Decision). anonymous_outcome (accepted (anonymous q) p d)) (decision_same c)
+  outcome_same c (Some r) = ap (λ (l : List Node). refused (with_nodes q l) r) nodes_twice
 
   call_same :
       (c : Call) →
       anonymous_outcome (called_valid q c) ≡ anonymous_outcome (called_valid (anonymous q) c)
   call_same c =
-      let p = processor_of c in
-      let d = decision_of q c in
-      let r = refusal_same c in
-      cond_alike anonymous_outcome _ _ _ _ _ _ (ap (λ (n : ℕ). eqb n 0) r)
-      (ap (λ (s : Queue). record { queue = s; answer = d.answer }) (applies p d)
-      ∙ ap (λ (d : Decision). anonymous_outcome (accepted (anonymous q) p d)) (decision_same c))
-      (ap₂ (λ (l : List Node) (n : ℕ). refused (with_nodes q l) n) nodes_twice r)
+      outcome_same c (refusal_of q c)
+      ∙ ap (λ (r : Option Refusal). anonymous_outcome (outcome_by (anonymous q) c r))
+      (refusal_same c)
 
 -- two records that pass check 21 and differ at most in who set their marks
 module _
@@ -435,14 +432,14 @@ module _
 
   called_both : (c : Call) → anonymous_outcome (called q c) ≡ anonymous_outcome (called r c)
   called_both c =
-      valid_both anonymous_outcome (λ s. called_valid s c) (λ s. refused s 21) (λ s. call_same s c)
+      valid_both anonymous_outcome (λ s. called_valid s c) (λ s. refused s refusal.Invalid) (λ s. call_same s c)
 
   backlog_both : backlog_of q ≡ backlog_of r
-  backlog_both = valid_both (λ (k : Count). k) pending_count (λ _. count.Refused 21) pending_same
+  backlog_both = valid_both (λ (k : Result ℕ Refusal). k) pending_count (λ _. Err refusal.Invalid) pending_same
 
   markers_both : (room : ℕ) → markers_of q room ≡ markers_of r room
   markers_both room =
-      valid_both (λ (k : Listed). k) (λ s. listed_by room (used_count s)) (λ _. listing.Refused 21)
+      valid_both (λ (k : Result ℕ Refusal). k) (λ s. listed_by room (used_count s)) (λ _. Err refusal.Invalid)
       (λ s. ap (listed_by room) (used_same s))
 
 pub no_answer_sees_who : NoAnswerSeesWho
@@ -456,4 +453,4 @@ no_answer_sees_who q r v w same backlog =
     record { left = same; given = ap counted (backlog_both q r v w same) }
 no_answer_sees_who q r v w same (markers area) =
     let told = markers_both q r v w same (length area) in
-    record { left = same; given = ap (λ (k : Listed). listed k []) told }
+    record { left = same; given = ap (λ (k : Result ℕ Refusal). listed k []) told }

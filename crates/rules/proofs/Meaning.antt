@@ -441,12 +441,12 @@ backlog_is_pending P N L R cs b h =
     let q = after_all (fresh_queue P N L) cs in
     let ok = reached_is_valid P N L R cs in
     let S = sound_after P N L R cs b h in
-    (how_many (pending_at q) q.nodeCount, rw ok refl, backlog_pending q b S ok)
+    (how_many (pending_at q) q.node_count, rw ok refl, backlog_pending q b S ok)
 
 pub marker_delivers : MarkerDelivers
 marker_delivers P N L R cs b h x p x≥ x≤ used =
     let S = sound_after P N L R cs b h in
-    let same = (untouched_all (fresh_queue P N L) cs).nodeCount in
+    let same = (untouched_all (fresh_queue P N L) cs).node_count in
     marker_is (after_all (fresh_queue P N L) cs) b S p x x≥ (omega arith) used
 
 after_append : (q : Queue) (cs ds : List Turn) → after_all q (cs ++ ds) ≡ after_all (after_all q cs) ds

@@ -66,11 +66,11 @@ use Rattle.rules.proofs.Applied.{Fits, later, effect_view}
 
 -- the arrays have their lengths, and every stored due and ticket is small
 pub record Sized (q : Queue) : Type 0 where
-  pub procs : q.processorCount ≤ 16
+  pub procs : q.processor_count ≤ 16
   pub nodes_length : length q.nodes ≡ 202
   pub processors_length : length q.processors ≡ 16
   pub forwards : (n : ℕ) → length (node_at q n).forward ≡ 8
-  pub levelLocks : (n : ℕ) → length (node_at q n).levelLocks ≡ 8
+  pub level_locks : (n : ℕ) → length (node_at q n).level_locks ≡ 8
   pub saves : (r : ℕ) → length (processor_at q r).saved ≡ 8
   pub small : (n : ℕ) → ((node_at q n).due ≤ 999999) × ((node_at q n).ticket ≤ 999999)
 
@@ -131,17 +131,17 @@ reach_node N (eff.Stamp x) r = r.1
 reach_node N (eff.Retire x) r = r.1
 reach_node N (eff.Fill x d i h) r = r.1
 
-fits_of : (q : Queue) → Sized q → q.levelCount ≤ 8 → (e : Effect) → reach q.nodeCount e → Fits q.levelCount q.nodeCount (node_at q) e
+fits_of : (q : Queue) → Sized q → q.level_count ≤ 8 → (e : Effect) → reach q.node_count e → Fits q.level_count q.node_count (node_at q) e
 fits_of q S l eff.Keep r = tt
-fits_of q S l (eff.HoldLevel a) r = (r.1, omega (arith, S.levelLocks a.node, r.2, r.1))
-fits_of q S l (eff.FreeLevel a) r = (r.1, omega (arith, S.levelLocks a.node, r.2, r.1))
+fits_of q S l (eff.HoldLevel a) r = (r.1, omega (arith, S.level_locks a.node, r.2, r.1))
+fits_of q S l (eff.FreeLevel a) r = (r.1, omega (arith, S.level_locks a.node, r.2, r.1))
 fits_of q S l (eff.SetForward a x) r = (r.1, omega (arith, S.forwards a.node, r.2, r.1))
 fits_of q S l (eff.HoldNode x) r = tt
 fits_of q S l (eff.FreeNode x) r = tt
 fits_of q S l (eff.Mark x) r = tt
 fits_of q S l (eff.Stamp x) r = tt
 fits_of q S l (eff.Retire x) r = r
-fits_of q S l (eff.Fill x d i h) r = (r.0, r.1, omega (arith, S.forwards x), omega (arith, S.levelLocks x))
+fits_of q S l (eff.Fill x d i h) r = (r.0, r.1, omega (arith, S.forwards x), omega (arith, S.level_locks x))
 
 -- the processor after it
 saved_same : (L : ℕ) (l : List ℕ) (s : ProcessorChange) → length l ≡ 8 → L ≤ 8 → saves_in s → ◌≡◌ {A = ℕ → ℕ} (λ (i : ℕ). get_or (saved_list L l s) (i - 1) 0) (saved_after L (λ (i : ℕ). get_or l (i - 1) 0) s)
@@ -164,35 +164,35 @@ pr_after_lem : (L t : ℕ) (c : Processor) (d : Decision) → length c.saved ≡
 pr_after_lem L t c d e L≤ r = λ i. record { begin = begin_after t c.begin d.change; own = d.own; stage = d.stage; saved = saved_same L c.saved d.change e L≤ r i }
 
 -- the record after a decision, as a view
-pub applied_view : (q : Queue) (S : Sized q) (p : ℕ) (d : Decision) → p < 16 → q.nodeCount ≤ 200 → q.levelCount ≤ 8 → Reach q.nodeCount d →
+pub applied_view : (q : Queue) (S : Sized q) (p : ℕ) (d : Decision) → p < 16 → q.node_count ≤ 200 → q.level_count ≤ 8 → Reach q.node_count d →
     view_of (applied q p d) ≡ carried (view_of q) p d
 applied_view q S p d p< N≤ L≤ R =
-    ap (λ (m : ℕ → Node). seen_as q.processorCount q.nodeCount q.levelCount (q.clock + 1) m prs) nodes
-    ∙ (ap (λ (r : ℕ → Pr). seen_as q.processorCount q.nodeCount q.levelCount (q.clock + 1) (changed_at (node_at q) k x) r) processors
-    ∙ (effect_view q.processorCount q.nodeCount q.levelCount q.clock (node_at q) (λ r. pr_of (processor_at q r)) (changed_at (λ r. pr_of (processor_at q r)) p c') p d.effect (fits_of q S L≤ d.effect R.effect)
+    ap (λ (m : ℕ → Node). seen_as q.processor_count q.node_count q.level_count (q.clock + 1) m prs) nodes
+    ∙ (ap (λ (r : ℕ → Pr). seen_as q.processor_count q.node_count q.level_count (q.clock + 1) (changed_at (node_at q) k x) r) processors
+    ∙ (effect_view q.processor_count q.node_count q.level_count q.clock (node_at q) (λ r. pr_of (processor_at q r)) (changed_at (λ r. pr_of (processor_at q r)) p c') p d.effect (fits_of q S L≤ d.effect R.effect)
     ∙ ap (λ (r : ℕ → Pr). later (effected (view_of q) d.effect p) (changed_at r p c')) (sym (pr_same (view_of q) p d.effect))))
   where
     k : ℕ
     k = node_of d.effect
 
     x : Node
-    x = changed q.levelCount (q.nodeCount + 1) (p + 1) (q.clock + 1) d.effect (node_at q (node_of d.effect))
+    x = changed q.level_count (q.node_count + 1) (p + 1) (q.clock + 1) d.effect (node_at q (node_of d.effect))
 
     c' : Pr
-    c' = pr_after q.levelCount (q.clock + 1) (pr_of (processor_at q p)) d
+    c' = pr_after q.level_count (q.clock + 1) (pr_of (processor_at q p)) d
 
     prs : ℕ → Pr
     prs = λ r. pr_of (processor_at (applied q p d) r)
 
     nodes : ◌≡◌ {A = ℕ → Node} (node_at (applied q p d)) (changed_at (node_at q) k x)
-    nodes = get_d_upd q.nodes k x (fresh_node 0) (omega (arith, S.nodes_length, reach_node q.nodeCount d.effect R.effect))
+    nodes = get_d_upd q.nodes k x (fresh_node 0) (omega (arith, S.nodes_length, reach_node q.node_count d.effect R.effect))
 
     processors : prs ≡ changed_at (λ (r : ℕ). pr_of (processor_at q r)) p c'
     processors = fun_ext (λ r. go r (ℕ_discrete r p))
       where
-        go : (r : ℕ) → Dec (r ≡ p) → pr_of (get_or (set q.processors p (processor_after q.levelCount (q.clock + 1) (processor_at q p) d)) r fresh_processor) ≡ changed_at (λ (r : ℕ). pr_of (processor_at q r)) p c' r
-        go r (yes e) = rw (e, changed_same (λ (r : ℕ). pr_of (processor_at q r)) p c', get_or-set_same q.processors p (processor_after q.levelCount (q.clock + 1) (processor_at q p) d) fresh_processor (omega (arith, S.processors_length))) (pr_after_lem q.levelCount (q.clock + 1) (processor_at q p) d (S.saves p) L≤ R.saves)
-        go r (no ne) = rw (changed_other (λ (r : ℕ). pr_of (processor_at q r)) p c' r ne, get_or-set_other q.processors p r (processor_after q.levelCount (q.clock + 1) (processor_at q p) d) fresh_processor ne)
+        go : (r : ℕ) → Dec (r ≡ p) → pr_of (get_or (set q.processors p (processor_after q.level_count (q.clock + 1) (processor_at q p) d)) r fresh_processor) ≡ changed_at (λ (r : ℕ). pr_of (processor_at q r)) p c' r
+        go r (yes e) = rw (e, changed_same (λ (r : ℕ). pr_of (processor_at q r)) p c', get_or-set_same q.processors p (processor_after q.level_count (q.clock + 1) (processor_at q p) d) fresh_processor (omega (arith, S.processors_length))) (pr_after_lem q.level_count (q.clock + 1) (processor_at q p) d (S.saves p) L≤ R.saves)
+        go r (no ne) = rw (changed_other (λ (r : ℕ). pr_of (processor_at q r)) p c' r ne, get_or-set_other q.processors p r (processor_after q.level_count (q.clock + 1) (processor_at q p) d) fresh_processor ne)
 
 -- every decision of a reached record writes within it
 reach_insert_searched : (N : ℕ) (s : StepView) (a : Place) (r : Searched) → 1 ≤ a.level → a.level ≤ 8 → Reach N (insert_searched s a r)
@@ -224,9 +224,9 @@ sought_reaches N (sght.Waits k h) = Unit {0}
 sought_reaches N (sght.Done a) = Unit {0}
 
 seek_reaches : (N : ℕ) (s : StepView) (k : Seek) → (seek_part k).place.node ≤ N → 1 ≤ (seek_part k).place.level → (seek_part k).place.level ≤ 8 → sought_reaches N (seek_step s k)
-seek_reaches N s (seek.Approach a) n l h = cond_elim (sought_reaches N) s.nextBeforeKey (sght.Goes eff.Keep (seek.Approach (place s.next a.level))) (sght.Goes eff.Keep (seek.Take a)) (tt, tt) (tt, tt)
-seek_reaches N s (seek.Take a) n l h = cond_elim (λ t. sought_reaches N (place_tried a t)) (eqb s.placeLock 0) _ _ ((n, l, h), tt) tt
-seek_reaches N s (seek.Confirm a) n l h = cond_elim (sought_reaches N) s.nextBeforeKey (sght.Goes eff.Keep (seek.Release a s.next)) (sght.Done a) (tt, tt) tt
+seek_reaches N s (seek.Approach a) n l h = cond_elim (sought_reaches N) s.next_before_key (sght.Goes eff.Keep (seek.Approach (place s.next a.level))) (sght.Goes eff.Keep (seek.Take a)) (tt, tt) (tt, tt)
+seek_reaches N s (seek.Take a) n l h = cond_elim (λ t. sought_reaches N (place_tried a t)) (eqb s.place_lock 0) _ _ ((n, l, h), tt) tt
+seek_reaches N s (seek.Confirm a) n l h = cond_elim (sought_reaches N) s.next_before_key (sght.Goes eff.Keep (seek.Release a s.next)) (sght.Done a) (tt, tt) tt
 seek_reaches N s (seek.Release a b) n l h = ((n, l, h), tt)
 
 reach_insert_sought : (N : ℕ) (s : StepView) (r : Sought) → sought_reaches N r → Reach N (insert_sought s r)
@@ -372,19 +372,19 @@ decision_same q u S I p k w =
 -- the lengths stay
 record Shape (a b : Node) : Type 0 where
   forward : length b.forward ≡ length a.forward
-  levelLocks : length b.levelLocks ≡ length a.levelLocks
+  level_locks : length b.level_locks ≡ length a.level_locks
 
 shape : (l tail h t : ℕ) (e : Effect) (n : Node) → Shape n (changed l tail h t e n)
-shape l tail h t eff.Keep n = record { forward = refl; levelLocks = refl }
-shape l tail h t (eff.HoldLevel a) n = record { forward = refl; levelLocks = length-set n.levelLocks (a.level - 1) h }
-shape l tail h t (eff.FreeLevel a) n = record { forward = refl; levelLocks = length-set n.levelLocks (a.level - 1) 0 }
-shape l tail h t (eff.SetForward a x) n = record { forward = length-set n.forward (a.level - 1) x; levelLocks = refl }
-shape l tail h t (eff.HoldNode x) n = record { forward = refl; levelLocks = refl }
-shape l tail h t (eff.FreeNode x) n = record { forward = refl; levelLocks = refl }
-shape l tail h t (eff.Mark x) n = record { forward = refl; levelLocks = refl }
-shape l tail h t (eff.Stamp x) n = record { forward = refl; levelLocks = refl }
-shape l tail h t (eff.Retire x) n = record { forward = refl; levelLocks = refl }
-shape l tail h t (eff.Fill x d i k) n = record { forward = length_below n.forward l tail; levelLocks = length_below n.levelLocks l 0 }
+shape l tail h t eff.Keep n = record { forward = refl; level_locks = refl }
+shape l tail h t (eff.HoldLevel a) n = record { forward = refl; level_locks = length-set n.level_locks (a.level - 1) h }
+shape l tail h t (eff.FreeLevel a) n = record { forward = refl; level_locks = length-set n.level_locks (a.level - 1) 0 }
+shape l tail h t (eff.SetForward a x) n = record { forward = length-set n.forward (a.level - 1) x; level_locks = refl }
+shape l tail h t (eff.HoldNode x) n = record { forward = refl; level_locks = refl }
+shape l tail h t (eff.FreeNode x) n = record { forward = refl; level_locks = refl }
+shape l tail h t (eff.Mark x) n = record { forward = refl; level_locks = refl }
+shape l tail h t (eff.Stamp x) n = record { forward = refl; level_locks = refl }
+shape l tail h t (eff.Retire x) n = record { forward = refl; level_locks = refl }
+shape l tail h t (eff.Fill x d i k) n = record { forward = length_below n.forward l tail; level_locks = length_below n.level_locks l 0 }
 
 abbrev Small : Node → Type 0
 Small y = (y.due ≤ 999999) × (y.ticket ≤ 999999)
@@ -414,19 +414,19 @@ set_keeps {A} P l k x d lt px h n = elim (ℕ_discrete n k) [
   | no ne ↦ rw (get_or-set_other l k n x d ne) (h n)
 ]
 
-pub sized_applied : (q : Queue) (S : Sized q) (p : ℕ) (d : Decision) → p < 16 → q.nodeCount ≤ 200 → q.clock + 1 ≤ 999999 → Reach q.nodeCount d → Sized (applied q p d)
+pub sized_applied : (q : Queue) (S : Sized q) (p : ℕ) (d : Decision) → p < 16 → q.node_count ≤ 200 → q.clock + 1 ≤ 999999 → Reach q.node_count d → Sized (applied q p d)
 sized_applied q S p d p< N≤ t≤ R =
     let k = node_of d.effect in
-    let x = changed q.levelCount (q.nodeCount + 1) (p + 1) (q.clock + 1) d.effect (node_at q k) in
-    let H = shape q.levelCount (q.nodeCount + 1) (p + 1) (q.clock + 1) d.effect (node_at q k) in
-    let k< : node_of d.effect < length q.nodes = omega (arith, S.nodes_length, reach_node q.nodeCount d.effect R.effect) in
+    let x = changed q.level_count (q.node_count + 1) (p + 1) (q.clock + 1) d.effect (node_at q k) in
+    let H = shape q.level_count (q.node_count + 1) (p + 1) (q.clock + 1) d.effect (node_at q k) in
+    let k< : node_of d.effect < length q.nodes = omega (arith, S.nodes_length, reach_node q.node_count d.effect R.effect) in
     record {
       procs = S.procs;
       nodes_length = length-set q.nodes k x ∙ S.nodes_length;
       processors_length = length-set q.processors p _ ∙ S.processors_length;
       forwards = set_keeps (λ y. length y.forward ≡ 8) q.nodes k x (fresh_node 0) k< (H.forward ∙ S.forwards k) S.forwards;
-      levelLocks = set_keeps (λ y. length y.levelLocks ≡ 8) q.nodes k x (fresh_node 0) k< (H.levelLocks ∙ S.levelLocks k) S.levelLocks;
-      saves = set_keeps (λ y. length y.saved ≡ 8) q.processors p (processor_after q.levelCount (q.clock + 1) (processor_at q p) d) fresh_processor (omega (arith, S.processors_length))
-          (saved_length q.levelCount (processor_at q p).saved d.change (S.saves p)) S.saves;
-      small = set_keeps Small q.nodes k x (fresh_node 0) k< (still_small q.levelCount (q.nodeCount + 1) (p + 1) (q.clock + 1) d.effect (node_at q k) t≤ R.due_small (S.small k)) S.small;
+      level_locks = set_keeps (λ y. length y.level_locks ≡ 8) q.nodes k x (fresh_node 0) k< (H.level_locks ∙ S.level_locks k) S.level_locks;
+      saves = set_keeps (λ y. length y.saved ≡ 8) q.processors p (processor_after q.level_count (q.clock + 1) (processor_at q p) d) fresh_processor (omega (arith, S.processors_length))
+          (saved_length q.level_count (processor_at q p).saved d.change (S.saves p)) S.saves;
+      small = set_keeps Small q.nodes k x (fresh_node 0) k< (still_small q.level_count (q.node_count + 1) (p + 1) (q.clock + 1) d.effect (node_at q k) t≤ R.due_small (S.small k)) S.small;
     }

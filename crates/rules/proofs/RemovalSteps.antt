@@ -36,7 +36,7 @@ module _ (v : View) (u : ℕ → ℕ → ℕ) (I : Inv v u) (room : v.clock + 1 
       let s = stage.Removal job (rem.Search a) in
       let B = busy_at v u I p s e (omega arith) in
       let S = B.removes refl in
-      let G = head_readable v u I (v.pr p).begin (key v (v.pr p).own) 1 I.core.levelCount (omega (arith, B.begun_by)) (I.core.ends.keys (v.pr p).own S.low (omega (arith, S.high))).0 in
+      let G = head_readable v u I (v.pr p).begin (key v (v.pr p).own) 1 I.core.level_count (omega (arith, B.begun_by)) (I.core.ends.keys (v.pr p).own S.low (omega (arith, S.high))).0 in
       lock_step v u I room p s e (omega arith) (stage.Removal job rem.HoldNode) v.lk
       (save_at (v.pr p).saved a.level a.node)
       (λ h. omega arith) (λ q n i ne h. h) refl (λ h. omega arith) (λ k h. omega arith)
@@ -44,7 +44,7 @@ module _ (v : View) (u : ℕ → ℕ → ℕ) (I : Inv v u) (room : v.clock + 1 
         begun = B.begun;
         begun_by = omega (arith, B.begun_by);
         low = omega arith;
-        high = I.core.levelCount;
+        high = I.core.level_count;
         place = G;
         read = G;
         saved = λ j f j≥ j≤. saved_more u (key v) (tail v) v.top (v.pr p).begin _ (v.pr p).saved a.node a.level B.low B.place B.saved j (omega arith) j≥ j≤;
@@ -402,7 +402,7 @@ module _ (v : View) (u : ℕ → ℕ → ℕ) (I : Inv v u) (room : v.clock + 1 
       let s = stage.Removal job (rem.FreeLevel a) in
       let B = busy_at v u I p s e (omega arith) in
       let S = B.removes refl in
-      let G = head_readable v u I (v.pr p).begin (key v (v.pr p).own) 1 I.core.levelCount (omega (arith, B.begun_by)) (I.core.ends.keys (v.pr p).own S.low (omega (arith, S.high))).0 in
+      let G = head_readable v u I (v.pr p).begin (key v (v.pr p).own) 1 I.core.level_count (omega (arith, B.begun_by)) (I.core.ends.keys (v.pr p).own S.low (omega (arith, S.high))).0 in
       lock_step v u I room p s e (omega arith) (stage.Removal job rem.FreeNode) _ (v.pr p).saved
       (λ h. omega arith)
       (lock_kept v.lk p a.node a.level 0 (B.holds_place_lock refl)) refl (λ h. omega arith) (λ k h. omega arith)
@@ -410,7 +410,7 @@ module _ (v : View) (u : ℕ → ℕ → ℕ) (I : Inv v u) (room : v.clock + 1 
         begun = B.begun;
         begun_by = omega (arith, B.begun_by);
         low = omega arith;
-        high = I.core.levelCount;
+        high = I.core.level_count;
         place = G;
         read = G;
         saved = λ j f j≥ j≤. absurd (omega (arith, I.core.levels_high));

@@ -9,6 +9,7 @@ use lib.Seq.{get_or-set_other}
 use borrow.Author.Tests.{ltb-false, eqb-false, eq-eqb}
 use Rattle.laws.specs.Update.{changed_at}
 use Rattle.laws.proofs.Updating.{changed_other}
+use Rattle.record.specs.declared.refusals.Refusal.{Refusal}
 use Rattle.record.specs.declared.queues.Queue.{Queue}
 use Rattle.record.specs.Queues.{processor_at, fresh_processor}
 use Rattle.record.specs.Stages.{place, wanted_of, is_idle}
@@ -74,7 +75,7 @@ pub record Sound (q : Queue) (b : Book) : Type 0 where
   pub held : Held (view_of q)
   pub rel : Rel (view_of q) b
   -- the processors from P on are idle
-  pub confined : (r : ℕ) → q.processorCount ≤ r → is_idle (processor_at q r).stage ≡ true
+  pub confined : (r : ℕ) → q.processor_count ≤ r → is_idle (processor_at q r).stage ≡ true
 
 -- the book agrees with the answer of an outcome, and what is kept is kept
 pub record Agrees (feeds : Answer → Verdict) (o : Outcome) : Type 0 where
@@ -86,11 +87,11 @@ module _ (q : Queue) (b : Book) (S : Sound q b) where
   abbrev v : View
   v = view_of q
 
-  refused_agrees : (feeds : Answer → Verdict) (n : ℕ) → feeds (ans.Refused n) ≡ agrees b → Agrees feeds (refused q n)
-  refused_agrees feeds n e = record { book = b; fed = e; sound = S }
+  refused_agrees : (feeds : Answer → Verdict) (r : Refusal) → feeds (ans.Refused r) ≡ agrees b → Agrees feeds (refused q r)
+  refused_agrees feeds r e = record { book = b; fed = e; sound = S }
 
   -- an accepted call, by what its decision does to the view
-  accepted_agrees : (feeds : Answer → Verdict) (p : ℕ) (d : Decision) (b' : Book) (u : ℕ → ℕ → ℕ) → p < q.processorCount → q.clock + 1 ≤ 999999 → Reach q.nodeCount d →
+  accepted_agrees : (feeds : Answer → Verdict) (p : ℕ) (d : Decision) (b' : Book) (u : ℕ → ℕ → ℕ) → p < q.processor_count → q.clock + 1 ≤ 999999 → Reach q.node_count d →
       Passes (claim v p) (v.pr p).own d → feeds d.answer ≡ agrees b' → Inv (carried v p d) u → Rel (carried v p d) b' → Agrees feeds (accepted q p d)
   accepted_agrees feeds p d b' u p< t≤ R P e I rel =
       let p16 : p < 16 = omega (arith, S.sized.procs) in
@@ -104,12 +105,12 @@ module _ (q : Queue) (b : Book) (S : Sound q b) where
           inv = subst (λ (w : View). Inv w u) (sym same) I;
           held = subst Held (sym same) (held_carried v p S.held d P);
           rel = subst (λ (w : View). Rel w b') (sym same) rel;
-          confined = λ r h. rw (get_or-set_other q.processors p r (processor_after q.levelCount (q.clock + 1) (processor_at q p) d) fresh_processor (λ g. omega arith)) (S.confined r h);
+          confined = λ r h. rw (get_or-set_other q.processors p r (processor_after q.level_count (q.clock + 1) (processor_at q p) d) fresh_processor (λ g. omega arith)) (S.confined r h);
         };
       }
 
   -- a call, of which a refusal changes nothing in the book
-  of : (c : Call) (feeds : Answer → Verdict) → ((n : ℕ) → feeds (ans.Refused n) ≡ agrees b) →
+  of : (c : Call) (feeds : Answer → Verdict) → ((r : Refusal) → feeds (ans.Refused r) ≡ agrees b) →
       (Allowed q c → Agrees feeds (accepted q (processor_of c) (decision_of q c))) →
       Agrees feeds (called q c)
   of c feeds r h =
@@ -139,7 +140,7 @@ module _ (q : Queue) (b : Book) (S : Sound q b) where
         (wants_of (sizes_of q) (processor_at q p).stage (processor_at q p).own
         ((valid_facts q ok).processors p A.here).carries))
       where
-        busy : q.clock + 1 ≤ 999999 → p < q.processorCount →
+        busy : q.clock + 1 ≤ 999999 → p < q.processor_count →
             is_idle (processor_at q p).stage ≡ false → Wants (processor_at q p).stage →
             Agrees (feed_step b p) (accepted q p (step_decision q (processor_at q p)))
         busy t≤ p< i w =
@@ -160,7 +161,7 @@ module _ (q : Queue) (b : Book) (S : Sound q b) where
         o ≡ opens s (q.clock + 1) (v.tick 0) →
         (b.opened p ≡ nothing → b.count ≡ q.clock →
         feeds (ans.Began (q.clock + 1)) ≡ agrees (after_call b b.entry p o)) →
-        q.clock + 1 ≤ 999999 → p < q.processorCount → is_idle (processor_at q p).stage ≡ true →
+        q.clock + 1 ≤ 999999 → p < q.processor_count → is_idle (processor_at q p).stage ≡ true →
         Agrees feeds (accepted q p (walk_begins (q.clock + 1) s))
     ownless_begun feeds s o two inv same fed t≤ p< i =
         let K = kind_idle (v.ht (v.pr p).own) (processor_at q p).stage i in
@@ -177,7 +178,7 @@ module _ (q : Queue) (b : Book) (S : Sound q b) where
         info (v.ht 0) s ≡ walk_info 2 0 (place 0 1) → o ≡ opens s (q.clock + 1) (v.tick 0) →
         (b.opened p ≡ nothing → b.count ≡ q.clock →
         feeds (ans.Began (q.clock + 1)) ≡ agrees (after_call b b.entry p o)) →
-        q.clock + 1 ≤ 999999 → p < q.processorCount → is_idle (processor_at q p).stage ≡ true →
+        q.clock + 1 ≤ 999999 → p < q.processor_count → is_idle (processor_at q p).stage ≡ true →
         Agrees feeds (accepted q p (walk_begins (q.clock + 1) s))
     walk_begun feeds s o is =
         ownless_begun feeds s o (ap (λ (f : Info). f.kind) is)
@@ -203,13 +204,13 @@ module _ (q : Queue) (b : Book) (S : Sound q b) where
         let w = wanted_of due ticket in
         of (call.Remove p due ticket) (feed_remove b p w) (λ n. refl)
         (λ A. ownless_begun (feed_remove b p w)
-        (stage.Remove w (rmv.Search (place 0 q.levelCount))) (seeking w (q.clock + 1)) refl
+        (stage.Remove w (rmv.Search (place 0 q.level_count))) (seeking w (q.clock + 1)) refl
         (λ room K. begin_find v S.until S.inv room p K w) refl
         (λ i c. rw (i, eq-eqb (q.clock + 1) (b.count + 1) (omega arith)))
         (omega (arith, A.ticks)) A.here (idle_begins _ A.turn))
 
     module _ (due item height : ℕ) where
-      insert_begun : q.clock + 1 ≤ 999999 → p < q.processorCount → is_idle (processor_at q p).stage ≡ true → due ≤ 999999 → 1 ≤ height → height ≤ q.levelCount → (x : ℕ) → Free q x →
+      insert_begun : q.clock + 1 ≤ 999999 → p < q.processor_count → is_idle (processor_at q p).stage ≡ true → due ≤ 999999 → 1 ≤ height → height ≤ q.level_count → (x : ℕ) → Free q x →
           Agrees (feed_insert b p due item) (accepted q p (insert_decision q x due item height))
       insert_begun t≤ p< i due≤ h≥ h≤ x F =
           let room : v.clock + 1 < ever = omega arith in
@@ -235,8 +236,8 @@ module _ (q : Queue) (b : Book) (S : Sound q b) where
           lw_same : (n j : ℕ) → (n ≡ x → ⊥) → lw n j ≡ v.lk n j
           lw_same n j ne = ap (λ (f : ℕ → ℕ). f j) (changed_other v.lk x _ n ne)
 
-          below : (r : ℕ) → 1 ≤ (claim v r).kind → r < q.processorCount
-          below r k = elim (dec_lt r q.processorCount) [ yes lt ↦ lt | no ge ↦ absurd (omega (arith, kind_idle (v.ht (v.pr r).own) (v.pr r).stage (S.confined r (omega arith)))) ]
+          below : (r : ℕ) → 1 ≤ (claim v r).kind → r < q.processor_count
+          below r k = elim (dec_lt r q.processor_count) [ yes lt ↦ lt | no ge ↦ absurd (omega (arith, kind_idle (v.ht (v.pr r).own) (v.pr r).stage (S.confined r (omega arith)))) ]
 
           -- a node that may be taken was retired before every busy processor began
           older : (r : ℕ) → 1 ≤ (claim v r).kind → v.us x < (v.pr r).begin + 2
@@ -257,17 +258,17 @@ module _ (q : Queue) (b : Book) (S : Sound q b) where
 
       pub insert_agrees : Agrees (feed_insert b p due item) (begin_insert q p due item height)
       insert_agrees = of (call.Insert p due item height) (feed_insert b p due item) (λ n. refl)
-          (λ A. begun A (numbers p due item height q.levelCount (chosen q) A.numbers A.node))
+          (λ A. begun A (numbers p due item height q.level_count (chosen q) A.numbers A.node))
         where
           begun : Allowed q (call.Insert p due item height) →
-              Numbers due item height q.levelCount (chosen q) →
+              Numbers due item height q.level_count (chosen q) →
               Agrees (feed_insert b p due item) (accepted q p (insert_decision q (chosen q) due item height))
           begun A n =
               let x≥ : 1 ≤ chosen q =
               let ne : (chosen q ≡ 0 → ⊥) = eqb-false (chosen q) 0 n.node_there in omega arith in
               insert_begun (omega (arith, A.ticks)) A.here (idle_begins _ A.turn)
               (ltb-false 999999 due (or_left (ltb 999999 due) (ltb 999999 item) n.small))
-              (ltb-false height 1 (or_left (ltb height 1) (ltb q.levelCount height) n.height_within))
-              (ltb-false q.levelCount height
-              (or_right (ltb height 1) (ltb q.levelCount height) n.height_within))
+              (ltb-false height 1 (or_left (ltb height 1) (ltb q.level_count height) n.height_within))
+              (ltb-false q.level_count height
+              (or_right (ltb height 1) (ltb q.level_count height) n.height_within))
               (chosen q) (chosen_free q x≥)

@@ -23,11 +23,11 @@ use Rattle.rules.proofs.View.{info}
 
 pub kind_idle : (h : ℕ) (s : Stage) → is_idle s ≡ true → (info h s).kind ≡ 0
 kind_idle h stage.Idle e = refl
-kind_idle h (stage.Insert i) e = let z : ◌≡◌ {A = ℕ} 0 1 = cc in absurd (omega arith)
-kind_idle h (stage.Delete i) e = let z : ◌≡◌ {A = ℕ} 0 1 = cc in absurd (omega arith)
-kind_idle h (stage.Relaxed i) e = let z : ◌≡◌ {A = ℕ} 0 1 = cc in absurd (omega arith)
-kind_idle h (stage.Remove w i) e = let z : ◌≡◌ {A = ℕ} 0 1 = cc in absurd (omega arith)
-kind_idle h (stage.Removal job r) e = let z : ◌≡◌ {A = ℕ} 0 1 = cc in absurd (omega arith)
+kind_idle h (stage.Insert i) e = cc
+kind_idle h (stage.Delete i) e = cc
+kind_idle h (stage.Relaxed i) e = cc
+kind_idle h (stage.Remove w i) e = cc
+kind_idle h (stage.Removal job r) e = cc
 
 pub insert_kind : (h : ℕ) (i : Insert) → (info h (stage.Insert i)).kind ≡ 1
 insert_kind h (ins.Search a) = refl
@@ -72,7 +72,7 @@ removal_kind job h rem.FreeNode = refl
 removal_kind job h rem.Retire = refl
 
 pub kind_busy : (h : ℕ) (s : Stage) → is_idle s ≡ false → 1 ≤ (info h s).kind
-kind_busy h stage.Idle e = let z : ◌≡◌ {A = ℕ} 0 1 = cc in absurd (omega arith)
+kind_busy h stage.Idle e = cc
 kind_busy h (stage.Insert i) e = omega (arith, insert_kind h i)
 kind_busy h (stage.Delete i) e = omega (arith, walk_kind h i)
 kind_busy h (stage.Relaxed i) e = omega (arith, relaxed_kind h i)

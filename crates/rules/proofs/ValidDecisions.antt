@@ -1,13 +1,13 @@
 -- On a record that passes check 21 every call leaves the record as it is, or it applies a decision whose numbers are in range. Assumes nothing.
+use Rattle.std.specs.Prelude.{Option, ℕ, Some, None}
 use mathlib.Core.Path.{◌≡◌, refl, sym, subst}
-use mathlib.Core.Bool.{Bool, true, false, ◌&&◌, ◌||◌, true≢false, false≢true}
+use mathlib.Core.Bool.{Bool, true, false, ◌&&◌, ◌||◌}
 use Prim.Native.Nat.{ℕ, zero, suc, ◌+◌, ◌-◌, ◌≤◌, ◌<◌}
 use native.Mathlib.Omega.{arith}
 use lib.Dec.{ltb, leb, eqb}
 use borrow.Author.Tests.{ltb-true, ltb-false, leb-false, eqb-false}
 use Rattle.record_check.specs.declared.check.Sizes.{Sizes}
-use Rattle.record.specs.declared.nodes.Stamp.{Stamp}
-use Rattle.record.specs.declared.nodes.Stamp.TheVariants as stamp
+use Rattle.record.specs.declared.refusals.Refusal.TheVariants as refusal
 use Rattle.record.specs.declared.nodes.Use.{Use}
 use Rattle.record.specs.declared.queues.Processor.{Processor}
 use Rattle.record.specs.declared.queues.Queue.{Queue}
@@ -58,20 +58,20 @@ use Rattle.rules.specs.Calls.{next_of, walk_begins, remove_decision, key_refusal
 use Rattle.rules.specs.Calls.{processor_of}
 use Rattle.rules.proofs.Allowed.{Allowed, passed, of_call, numbers}
 use Rattle.rules.specs.Runs.{Turn, calls, backlog, markers, after}
-use Rattle.laws.proofs.Booleans.{cond_cases, no}
+use Rattle.laws.proofs.Booleans.{cond_cases, or_left, or_right}
 use Rattle.rules.proofs.ValidFacts.{Within, ValidPlace, ValidWanted, ValidCarried}
 use Rattle.rules.proofs.ValidFacts.{ValidProcessor, ValidQueue, valid_facts}
 
 -- the node x that an Insert takes, and its numbers
 pub record ValidFill (s : Sizes) (x d i h : ℕ) : Type 0 where
-  pub node : Within x s.nodeCount
+  pub node : Within x s.node_count
   pub due : d ≤ max_number
   pub item : i ≤ max_number
-  pub height : Within h s.levelCount
+  pub height : Within h s.level_count
 
 pub record ValidLead (s : Sizes) (a : Place) (x : ℕ) : Type 0 where
   pub place : ValidPlace s a
-  pub to : x ≤ s.nodeCount + 1
+  pub to : x ≤ s.node_count + 1
 
 -- the numbers of an effect, of what becomes of the saved nodes, and of a decision
 abbrev pub ValidEffect : Sizes → Effect → Type 0
@@ -79,11 +79,11 @@ ValidEffect s eff.Keep = Unit {0}
 ValidEffect s (eff.HoldLevel a) = ValidPlace s a
 ValidEffect s (eff.FreeLevel a) = ValidPlace s a
 ValidEffect s (eff.SetForward a x) = ValidLead s a x
-ValidEffect s (eff.HoldNode x) = Within x s.nodeCount
-ValidEffect s (eff.FreeNode x) = Within x s.nodeCount
-ValidEffect s (eff.Mark x) = Within x s.nodeCount
-ValidEffect s (eff.Stamp x) = Within x s.nodeCount
-ValidEffect s (eff.Retire x) = Within x s.nodeCount
+ValidEffect s (eff.HoldNode x) = Within x s.node_count
+ValidEffect s (eff.FreeNode x) = Within x s.node_count
+ValidEffect s (eff.Mark x) = Within x s.node_count
+ValidEffect s (eff.Stamp x) = Within x s.node_count
+ValidEffect s (eff.Retire x) = Within x s.node_count
 ValidEffect s (eff.Fill x due item height) = ValidFill s x due item height
 
 abbrev pub ValidChange : Sizes → ProcessorChange → Type 0
@@ -99,19 +99,19 @@ pub record ValidDecision (s : Sizes) (d : Decision) : Type 0 where
 
 -- what a step reads at the place a; the saved node one level up is in range below level L
 pub record ValidView (s : Sizes) (a : Place) (v : StepView) : Type 0 where
-  pub height : Within v.height s.levelCount
-  pub next : v.next ≤ s.nodeCount + 1
-  pub inside : v.nextIsTail ≡ false → v.next ≤ s.nodeCount
-  pub ownNext : v.ownNext ≤ s.nodeCount + 1
-  pub levelCount : v.levelCount ≡ s.levelCount
-  pub stamped : v.stamped ≡ true → Within a.node s.nodeCount
-  pub savedAbove : a.level < s.levelCount → v.savedAbove ≤ s.nodeCount + 1
-  pub savedBelow : v.savedBelow ≤ s.nodeCount + 1
-  pub savedAtHeight : v.savedAtHeight ≤ s.nodeCount + 1
+  pub height : Within v.height s.level_count
+  pub next : v.next ≤ s.node_count + 1
+  pub inside : v.next_is_tail ≡ false → v.next ≤ s.node_count
+  pub own_next : v.own_next ≤ s.node_count + 1
+  pub level_count : v.level_count ≡ s.level_count
+  pub stamped : v.stamped ≡ true → Within a.node s.node_count
+  pub saved_above : a.level < s.level_count → v.saved_above ≤ s.node_count + 1
+  pub saved_below : v.saved_below ≤ s.node_count + 1
+  pub saved_at_height : v.saved_at_height ≤ s.node_count + 1
 
-stamped_before_lem : (u : Stamp) (t : ℕ) → stamped_before u t ≡ true → (k : ℕ) × (u ≡ stamp.At k)
-stamped_before_lem stamp.Unset t h = absurd (false≢true h)
-stamped_before_lem (stamp.At k) t h = (k, refl)
+stamped_before_lem : (u : Option ℕ) (t : ℕ) → stamped_before u t ≡ true → (k : ℕ) × (u ≡ Some k)
+stamped_before_lem None t h = cc
+stamped_before_lem (Some k) t h = (k, refl)
 
 pub step_view_valid : (q : Queue) (c : Processor) (a : Place) → ValidQueue q → ValidProcessor (sizes_of q) c → ValidPlace (sizes_of q) a → ValidView (sizes_of q) a (step_view_of q c a)
 step_view_valid q c a Q C P =
@@ -123,15 +123,15 @@ step_view_valid q c a Q C P =
       height = H;
       next = N.forward (a.level - 1) (omega arith);
       inside = λ h.
-          let ne : (next_of q a ≡ q.nodeCount + 1 → ⊥) =
-          eqb-false (next_of q a) (q.nodeCount + 1) h in
+          let ne : (next_of q a ≡ q.node_count + 1 → ⊥) =
+          eqb-false (next_of q a) (q.node_count + 1) h in
           omega (arith, N.forward (a.level - 1) (omega arith));
-      ownNext = O.forward (a.level - 1) (omega arith);
-      levelCount = refl;
+      own_next = O.forward (a.level - 1) (omega arith);
+      level_count = refl;
       stamped = λ h. let k = stamped_before_lem (node_at q a.node).stamp c.begin h in N.stamped k.0 k.1;
-      savedAbove = λ h. C.saved (a.level + 1 - 1) (omega arith);
-      savedBelow = C.saved (a.level - 1 - 1) (omega arith);
-      savedAtHeight = C.saved ((node_at q c.own).height - 1) (omega arith);
+      saved_above = λ h. C.saved (a.level + 1 - 1) (omega arith);
+      saved_below = C.saved (a.level - 1 - 1) (omega arith);
+      saved_at_height = C.saved ((node_at q c.own).height - 1) (omega arith);
     }
 
 -- but for a walk, a step reads at the place that its stage carries
@@ -160,39 +160,39 @@ removal_reads job rem.Retire = refl
 none_valid : ValidWanted none_wanted
 none_valid = omega arith
 
-module _ (s : Sizes) (levels : 1 ≤ s.levelCount) where
+module _ (s : Sizes) (levels : 1 ≤ s.level_count) where
   abbrev at : Bool → Place → Carried
   at own a = record
       { own = own; place = a; ahead = a.node; marking = false; wanted = none_wanted }
 
   -- a stage with an own node, and one without
-  owning : (own : ℕ) (a : Place) → Within own s.nodeCount → ValidPlace s a → ValidCarried s (at true a) own
+  owning : (own : ℕ) (a : Place) → Within own s.node_count → ValidPlace s a → ValidCarried s (at true a) own
   owning own a O P = record {
     own_high = omega arith;
     has_own = λ e. O;
     place = P;
     ahead = P.node;
-    marks = λ e. absurd (false≢true e);
+    marks = λ e. cc;
     wanted = none_valid;
   }
 
-  ownless : (own : ℕ) (a : Place) → own ≤ s.nodeCount + 1 → ValidPlace s a → ValidCarried s (at false a) own
+  ownless : (own : ℕ) (a : Place) → own ≤ s.node_count + 1 → ValidPlace s a → ValidCarried s (at false a) own
   ownless own a O P = record {
     own_high = O;
-    has_own = λ e. absurd (false≢true e);
+    has_own = λ e. cc;
     place = P;
     ahead = P.node;
-    marks = λ e. absurd (false≢true e);
+    marks = λ e. cc;
     wanted = none_valid;
   }
 
-  head_place : (i : ℕ) → Within i s.levelCount → ValidPlace s (place 0 i)
+  head_place : (i : ℕ) → Within i s.level_count → ValidPlace s (place 0 i)
   head_place i I = record { node = omega arith; level = I }
 
-  level_one : Within 1 s.levelCount
+  level_one : Within 1 s.level_count
   level_one = omega arith
 
-  owning_head : (own : ℕ) → Within own s.nodeCount → ValidCarried s (at true (place 0 1)) own
+  owning_head : (own : ℕ) → Within own s.node_count → ValidCarried s (at true (place 0 1)) own
   owning_head own O = owning own (place 0 1) O (head_place 1 level_one)
 
   moved_valid : (v : StepView) (e : Effect) (g : Stage) → ValidEffect s e → ValidCarried s (carried g) v.own → ValidDecision s (Decide.moved v e g)
@@ -213,7 +213,7 @@ module _ (s : Sizes) (levels : 1 ≤ s.levelCount) where
   search_cases : (v : StepView) (a : Place) → ValidView s a v → ValidPlace s a → (P : Searched → Type 0) →
       ((b : Place) → ValidPlace s b → P (srch.Ahead b)) → ((b : Place) → ValidPlace s b → P (srch.Down b)) → P (srch.Done a) → P (Decide.search_step v a)
   search_cases v a W A P ahead down left =
-      cond_cases P v.nextBeforeKey _ _ (λ x. ahead _ (record { node = W.next; level = A.level }))
+      cond_cases P v.next_before_key _ _ (λ x. ahead _ (record { node = W.next; level = A.level }))
       (λ x. cond_cases P (leb a.level 1) _ _ (λ y. left)
       (λ y. down _ (record { node = A.node; level = let l = leb-false a.level 1 y in omega arith })))
 
@@ -225,14 +225,14 @@ module _ (s : Sizes) (levels : 1 ≤ s.levelCount) where
 
   seek_valid : (v : StepView) (k : Seek) → ValidView s (carried_of (seek_row 0 k)).place v → ValidCarried s (carried_of (seek_row 0 k)) v.own → ValidSought v.own (Decide.seek_step v k)
   seek_valid v (seek.Approach a) W G =
-      cond_cases (ValidSought v.own) v.nextBeforeKey _ _
+      cond_cases (ValidSought v.own) v.next_before_key _ _
       (λ x. (tt, owning v.own (place v.next a.level) (G.has_own refl) (record { node = W.next; level = G.place.level })))
       (λ x. (tt, owning v.own a (G.has_own refl) G.place))
   seek_valid v (seek.Take a) W G =
-      cond_cases (λ t. ValidSought v.own (Decide.place_tried a t)) (eqb v.placeLock 0) _ _
+      cond_cases (λ t. ValidSought v.own (Decide.place_tried a t)) (eqb v.place_lock 0) _ _
       (λ x. (G.place, owning v.own a (G.has_own refl) G.place)) (λ x. owning v.own a (G.has_own refl) G.place)
   seek_valid v (seek.Confirm a) W G =
-      cond_cases (ValidSought v.own) v.nextBeforeKey _ _
+      cond_cases (ValidSought v.own) v.next_before_key _ _
       (λ x. (
         tt,
         record {
@@ -240,7 +240,7 @@ module _ (s : Sizes) (levels : 1 ≤ s.levelCount) where
           has_own = G.has_own;
           place = G.place;
           ahead = W.next;
-          marks = λ e. absurd (false≢true e);
+          marks = λ e. cc;
           wanted = none_valid;
         },
       ))
@@ -248,12 +248,12 @@ module _ (s : Sizes) (levels : 1 ≤ s.levelCount) where
   seek_valid v (seek.Release a b) W G =
       (G.place, owning v.own (place b a.level) (G.has_own refl) (record { node = G.ahead; level = G.place.level }))
 
-  insert_sought_valid : (v : StepView) (r : Sought) → Within v.own s.nodeCount → ValidSought v.own r → ValidDecision s (Decide.insert_sought v r)
+  insert_sought_valid : (v : StepView) (r : Sought) → Within v.own s.node_count → ValidSought v.own r → ValidDecision s (Decide.insert_sought v r)
   insert_sought_valid v (sght.Goes e k) O R = moved_valid v e (stage.Insert (ins.Seek k)) R.0 R.1
   insert_sought_valid v (sght.Waits k h) O R = waits_valid v (stage.Insert (ins.Seek k)) h R
   insert_sought_valid v (sght.Done a) O R = moved_valid v eff.Keep (stage.Insert (ins.Copy a)) tt (owning v.own a O R)
 
-  removal_sought_valid : (job : Job) (v : StepView) (r : Sought) → Within v.own s.nodeCount →
+  removal_sought_valid : (job : Job) (v : StepView) (r : Sought) → Within v.own s.node_count →
       ValidSought v.own r → ValidDecision s (Decide.removal_sought job v r)
   removal_sought_valid job v (sght.Goes e k) O R =
       moved_valid v e (Decide.removing job (rem.Seek k)) R.0 R.1
@@ -263,15 +263,15 @@ module _ (s : Sizes) (levels : 1 ≤ s.levelCount) where
       moved_valid v eff.Keep (Decide.removing job (rem.HoldOwn a)) tt (owning v.own a O R)
 
   -- at a place of the own node
-  own_place : (own i : ℕ) → Within own s.nodeCount → Within i s.levelCount → ValidPlace s (place own i)
+  own_place : (own i : ℕ) → Within own s.node_count → Within i s.level_count → ValidPlace s (place own i)
   own_place own i O I = record { node = omega arith; level = I }
 
-  insert_freed_valid : (v : StepView) (a : Place) → ValidView s a v → Within v.own s.nodeCount → ValidPlace s a → ValidDecision s (Decide.insert_freed v a)
+  insert_freed_valid : (v : StepView) (a : Place) → ValidView s a v → Within v.own s.node_count → ValidPlace s a → ValidDecision s (Decide.insert_freed v a)
   insert_freed_valid v a W O A =
       cond_cases (λ d. ValidDecision s d) (ltb a.level v.height) _ _
       (λ x. let lower = ltb-true a.level v.height x in let H = W.height in
-      moved_valid v (eff.FreeLevel a) (stage.Insert (ins.Seek (seek.Approach (place v.savedAbove (a.level + 1))))) A
-      (owning v.own (place v.savedAbove (a.level + 1)) O (record { node = W.savedAbove (omega arith); level = omega arith })))
+      moved_valid v (eff.FreeLevel a) (stage.Insert (ins.Seek (seek.Approach (place v.saved_above (a.level + 1))))) A
+      (owning v.own (place v.saved_above (a.level + 1)) O (record { node = W.saved_above (omega arith); level = omega arith })))
       (λ x. moved_valid v (eff.FreeLevel a) (stage.Insert ins.FreeNode) A (owning_head v.own O))
 
   insert_valid : (v : StepView) (i : Insert) → ValidView s (reading_place (stage.Insert i)) v → ValidCarried s (carried (stage.Insert i)) v.own → ValidDecision s (Decide.insert_step v i)
@@ -290,15 +290,15 @@ module _ (s : Sizes) (levels : 1 ≤ s.levelCount) where
   insert_valid v ins.Stamp W G = answers_valid (eff.Stamp v.own) _ (G.has_own refl)
 
   removal_freed_valid : (job : Job) (v : StepView) (a : Place) → ValidView s a v →
-      Within v.own s.nodeCount → ValidPlace s a → ValidDecision s (Decide.removal_freed job v a)
+      Within v.own s.node_count → ValidPlace s a → ValidDecision s (Decide.removal_freed job v a)
   removal_freed_valid job v a W O A =
       cond_cases (λ d. ValidDecision s d) (leb a.level 1) _ _
       (λ x. moved_valid v (eff.FreeLevel a) (Decide.removing job rem.FreeNode) A
       (owning_head v.own O))
       (λ x. let above = leb-false a.level 1 x in let l = A.level in
       moved_valid v (eff.FreeLevel a)
-      (Decide.removing job (rem.Seek (seek.Approach (place v.savedBelow (a.level - 1))))) A
-      (owning v.own (place v.savedBelow (a.level - 1)) O (record { node = W.savedBelow; level = omega arith })))
+      (Decide.removing job (rem.Seek (seek.Approach (place v.saved_below (a.level - 1))))) A
+      (owning v.own (place v.saved_below (a.level - 1)) O (record { node = W.saved_below; level = omega arith })))
 
   removal_valid : (job : Job) (v : StepView) (r : Removal) →
       ValidView s (reading_place (Decide.removing job r)) v →
@@ -313,24 +313,24 @@ module _ (s : Sizes) (levels : 1 ≤ s.levelCount) where
       (saving_valid v a (Decide.removing job rem.HoldNode) G.place
       (owning_head v.own (G.has_own refl)))
   removal_valid job v rem.HoldNode W G =
-      cond_cases (λ t. ValidDecision s (Decide.node_tried job v t)) (eqb v.ownNodeLock 0) _ _
+      cond_cases (λ t. ValidDecision s (Decide.node_tried job v t)) (eqb v.own_node_lock 0) _ _
       (λ x. moved_valid v (eff.HoldNode v.own)
-      (Decide.removing job (rem.Seek (seek.Approach (place v.savedAtHeight v.height))))
+      (Decide.removing job (rem.Seek (seek.Approach (place v.saved_at_height v.height))))
       (G.has_own refl)
-      (owning v.own (place v.savedAtHeight v.height) (G.has_own refl) (record { node = W.savedAtHeight; level = W.height })))
+      (owning v.own (place v.saved_at_height v.height) (G.has_own refl) (record { node = W.saved_at_height; level = W.height })))
       (λ x. waits_valid v (Decide.removing job rem.HoldNode) _ G)
   removal_valid job v (rem.Seek k) W G =
       removal_sought_valid job v (Decide.seek_step v k) (G.has_own refl)
       (seek_valid v k W G)
   removal_valid job v (rem.HoldOwn a) W G =
-      cond_cases (λ t. ValidDecision s (Decide.own_tried job v a t)) (eqb v.ownLock 0) _ _
+      cond_cases (λ t. ValidDecision s (Decide.own_tried job v a t)) (eqb v.own_lock 0) _ _
       (λ x. moved_valid v (eff.HoldLevel (place v.own a.level))
       (Decide.removing job (rem.Unlink a))
       (own_place v.own a.level (G.has_own refl) G.place.level) G)
       (λ x. waits_valid v (Decide.removing job (rem.HoldOwn a)) _ G)
   removal_valid job v (rem.Unlink a) W G =
-      moved_valid v (eff.SetForward a v.ownNext) (Decide.removing job (rem.LeadBack a))
-      (record { place = G.place; to = W.ownNext }) G
+      moved_valid v (eff.SetForward a v.own_next) (Decide.removing job (rem.LeadBack a))
+      (record { place = G.place; to = W.own_next }) G
   removal_valid job v (rem.LeadBack a) W G =
       moved_valid v (eff.SetForward (place v.own a.level) a.node)
       (Decide.removing job (rem.FreeOwn a))
@@ -345,13 +345,13 @@ module _ (s : Sizes) (levels : 1 ≤ s.levelCount) where
       moved_valid v (eff.FreeNode v.own) (Decide.removing job rem.Retire) (G.has_own refl) G
   removal_valid job v rem.Retire W G = answers_valid (eff.Retire v.own) _ (G.has_own refl)
 
-  marking_valid_lem : (job : Job) (v : StepView) (a : Place) → v.levelCount ≡ s.levelCount →
-      Within a.node s.nodeCount → ValidDecision s (Decide.marking job v a)
-  marking_valid_lem job v a l M = record { effect = M; change = tt; carries = owning a.node (place 0 v.levelCount) M (head_place v.levelCount (omega arith)) }
+  marking_valid_lem : (job : Job) (v : StepView) (a : Place) → v.level_count ≡ s.level_count →
+      Within a.node s.node_count → ValidDecision s (Decide.marking job v a)
+  marking_valid_lem job v a l M = record { effect = M; change = tt; carries = owning a.node (place 0 v.level_count) M (head_place v.level_count (omega arith)) }
 
   delete_valid : (v : StepView) (d : Delete) → ValidView s (reading_place (stage.Delete d)) v → ValidCarried s (carried (stage.Delete d)) v.own → ValidDecision s (Decide.delete_step v d)
   delete_valid v (del.ReadNext a) W G =
-      cond_cases (λ d. ValidDecision s d) v.nextIsTail _ _
+      cond_cases (λ d. ValidDecision s d) v.next_is_tail _ _
       (λ x. answers_valid eff.Keep _ tt)
       (λ x. moved_valid v eff.Keep (stage.Delete (del.TestStamp (place v.next 1))) tt
       (ownless v.own (place v.next 1) G.own_high (record { node = W.next; level = level_one })))
@@ -371,7 +371,7 @@ module _ (s : Sizes) (levels : 1 ≤ s.levelCount) where
       cond_cases (λ d. ValidDecision s d) v.marked _ _
       (λ x. moved_valid v eff.Keep (stage.Delete (del.ReadNext a)) tt
       (ownless v.own a G.own_high G.place))
-      (λ x. marking_valid_lem jobs.Deliver v a W.levelCount (G.marks refl))
+      (λ x. marking_valid_lem jobs.Deliver v a W.level_count (G.marks refl))
 
   relaxed_valid :
       (v : StepView) (d : Relaxed) → ValidView s (reading_place (stage.Relaxed d)) v →
@@ -379,7 +379,7 @@ module _ (s : Sizes) (levels : 1 ≤ s.levelCount) where
   relaxed_valid v (rlx.ReadNext a) W G =
       let b = place v.next 1 in
       let at : ValidPlace s b = record { node = W.next; level = level_one } in
-      cond_cases (λ d. ValidDecision s d) v.nextIsTail _ _
+      cond_cases (λ d. ValidDecision s d) v.next_is_tail _ _
       (λ x. answers_valid eff.Keep _ tt)
       (λ x. cond_cases (λ d. ValidDecision s d) (eqb v.next 0) _ _
       (λ y. moved_valid v eff.Keep (stage.Relaxed (rlx.ReadNext b)) tt
@@ -387,7 +387,7 @@ module _ (s : Sizes) (levels : 1 ≤ s.levelCount) where
       (λ y. moved_valid v eff.Keep (stage.Relaxed (rlx.SetMark b)) tt
       (record {
         own_high = G.own_high;
-        has_own = λ e. no e;
+        has_own = λ e. cc;
         place = at;
         ahead = W.next;
         marks = λ e. record {
@@ -400,19 +400,19 @@ module _ (s : Sizes) (levels : 1 ≤ s.levelCount) where
       cond_cases (λ d. ValidDecision s d) v.marked _ _
       (λ x. moved_valid v eff.Keep (stage.Relaxed (rlx.ReadNext a)) tt
       (ownless v.own a G.own_high G.place))
-      (λ x. marking_valid_lem jobs.Deliver v a W.levelCount (G.marks refl))
+      (λ x. marking_valid_lem jobs.Deliver v a W.level_count (G.marks refl))
 
   -- a Remove before its mark
-  seeking_valid : (w : Wanted) (own : ℕ) (a : Place) → ValidWanted w → own ≤ s.nodeCount + 1 →
+  seeking_valid : (w : Wanted) (own : ℕ) (a : Place) → ValidWanted w → own ≤ s.node_count + 1 →
       ValidPlace s a →
       ValidCarried s
       (record { own = false; place = a; ahead = a.node; marking = false; wanted = w }) own
   seeking_valid w own a K O A = record {
     own_high = O;
-    has_own = λ e. absurd (false≢true e);
+    has_own = λ e. cc;
     place = A;
     ahead = A.node;
-    marks = λ e. absurd (false≢true e);
+    marks = λ e. cc;
     wanted = K;
   }
 
@@ -433,9 +433,9 @@ module _ (s : Sizes) (levels : 1 ≤ s.levelCount) where
       let b = place v.next 1 in
       let at : ValidPlace s b = record { node = W.next; level = level_one } in
       let C = seeking_valid w v.own b G.wanted G.own_high at in
-      cond_cases (λ d. ValidDecision s d) v.nextBeforeKey _ _
+      cond_cases (λ d. ValidDecision s d) v.next_before_key _ _
       (λ x. moved_valid v eff.Keep (stage.Remove w (rmv.ReadNext b)) tt C)
-      (λ x. cond_cases (λ d. ValidDecision s d) v.nextHasKey _ _
+      (λ x. cond_cases (λ d. ValidDecision s d) v.next_has_key _ _
       (λ y. moved_valid v eff.Keep (stage.Remove w (rmv.TestStamp b)) tt C)
       (λ y. answers_valid eff.Keep _ tt))
   remove_valid v w (rmv.TestStamp a) W G =
@@ -443,7 +443,7 @@ module _ (s : Sizes) (levels : 1 ≤ s.levelCount) where
       (λ x. moved_valid v eff.Keep (stage.Remove w (rmv.SetMark a)) tt
       (record {
         own_high = G.own_high;
-        has_own = λ e. absurd (false≢true e);
+        has_own = λ e. cc;
         place = G.place;
         ahead = G.ahead;
         marks = λ e. W.stamped x;
@@ -453,7 +453,7 @@ module _ (s : Sizes) (levels : 1 ≤ s.levelCount) where
   remove_valid v w (rmv.SetMark a) W G =
       cond_cases (λ d. ValidDecision s d) v.marked _ _
       (λ x. answers_valid eff.Keep _ tt)
-      (λ x. marking_valid_lem jobs.TakeBack v a W.levelCount (G.marks refl))
+      (λ x. marking_valid_lem jobs.TakeBack v a W.level_count (G.marks refl))
 
   pub decide_valid : (v : StepView) (g : Stage) → ValidView s (reading_place g) v → ValidCarried s (carried g) v.own → ValidDecision s (Decide.decide v g)
   decide_valid v stage.Idle W G = moved_valid v eff.Keep stage.Idle tt G
@@ -482,15 +482,6 @@ module _ (s : Sizes) (levels : 1 ≤ s.levelCount) where
       record { node = G.place.node; level = level_one }
   reading_valid (stage.Removal job r) own G = subst (ValidPlace s) (removal_reads job r) G.place
 
--- both halves of a test that fails
-or_left : (a b : Bool) → (a || b) ≡ false → a ≡ false
-or_left true b h = absurd (true≢false h)
-or_left false b h = refl
-
-or_right : (a b : Bool) → (a || b) ≡ false → b ≡ false
-or_right true b h = absurd (true≢false h)
-or_right false b h = h
-
 -- the node that an Insert takes is one of 0 to N
 never_used_high : (state : ℕ → Use) (k : ℕ) → never_used state k ≤ k
 never_used_high state zero = omega arith
@@ -506,22 +497,22 @@ longest_retired_high state (suc k) =
     (λ h. cond_cases (λ x. x ≤ suc k) (eqb best 0 || ltb (retirement (state (suc k))) (retirement (state best))) _ _ (λ e. omega arith) (λ e. omega (arith, longest_retired_high state k)))
     (λ h. omega (arith, longest_retired_high state k))
 
-pub chosen_high : (q : Queue) → chosen q ≤ q.nodeCount
+pub chosen_high : (q : Queue) → chosen q ≤ q.node_count
 chosen_high q =
-    let best = longest_retired (state_of q) q.nodeCount in
-    cond_cases (λ x. x ≤ q.nodeCount) (ltb 0 (never_used (state_of q) q.nodeCount)) _ _ (λ h. never_used_high (state_of q) q.nodeCount)
-    (λ h. cond_cases (λ x. x ≤ q.nodeCount) (ltb 0 best && all_began_after q (retirement (state_of q best))) _ _ (λ e. longest_retired_high (state_of q) q.nodeCount) (λ e. omega arith))
+    let best = longest_retired (state_of q) q.node_count in
+    cond_cases (λ x. x ≤ q.node_count) (ltb 0 (never_used (state_of q) q.node_count)) _ _ (λ h. never_used_high (state_of q) q.node_count)
+    (λ h. cond_cases (λ x. x ≤ q.node_count) (ltb 0 best && all_began_after q (retirement (state_of q best))) _ _ (λ e. longest_retired_high (state_of q) q.node_count) (λ e. omega arith))
 
 pub step_valid : (q : Queue) (c : Processor) → ValidQueue q → ValidProcessor (sizes_of q) c → ValidDecision (sizes_of q) (step_decision q c)
 step_valid q c Q C =
-    let levels = Q.sizes.levelCount.low in
+    let levels = Q.sizes.level_count.low in
     let A = reading_valid (sizes_of q) levels c.stage c.own C.carries in
     decide_valid (sizes_of q) levels (step_view_of q c (reading_place c.stage)) c.stage (step_view_valid q c (reading_place c.stage) Q C A) C.carries
 
 pub insert_begins_valid : (q : Queue) (x due item height : ℕ) → ValidQueue q → ValidFill (sizes_of q) x due item height → ValidDecision (sizes_of q) (insert_decision q x due item height)
 insert_begins_valid q x due item height Q F =
-    let levels = Q.sizes.levelCount.low in
-    record { effect = F; change = tt; carries = owning (sizes_of q) levels x (place 0 q.levelCount) F.node (head_place (sizes_of q) levels q.levelCount (omega arith)) }
+    let levels = Q.sizes.level_count.low in
+    record { effect = F; change = tt; carries = owning (sizes_of q) levels x (place 0 q.level_count) F.node (head_place (sizes_of q) levels q.level_count (omega arith)) }
 
 -- a Delete_Min's or a Relaxed one's
 walk_begins_valid : (q : Queue) → ValidQueue q → (g : Stage) →
@@ -529,7 +520,7 @@ walk_begins_valid : (q : Queue) → ValidQueue q → (g : Stage) →
     { own = false; place = place 0 1; ahead = 0; marking = false; wanted = none_wanted } →
     ValidDecision (sizes_of q) (walk_begins (q.clock + 1) g)
 walk_begins_valid q Q g is =
-    let levels = Q.sizes.levelCount.low in
+    let levels = Q.sizes.level_count.low in
     record {
       effect = tt;
       change = tt;
@@ -542,18 +533,18 @@ walk_begins_valid q Q g is =
 remove_begins_valid : (q : Queue) (w : Wanted) → ValidQueue q → ValidWanted w →
     ValidDecision (sizes_of q) (remove_decision q w)
 remove_begins_valid q w Q K =
-    let levels = Q.sizes.levelCount.low in
+    let levels = Q.sizes.level_count.low in
     record {
       effect = tt;
       change = tt;
-      carries = seeking_valid (sizes_of q) levels w 0 (place 0 q.levelCount) K (omega arith)
-          (head_place (sizes_of q) levels q.levelCount (omega arith));
+      carries = seeking_valid (sizes_of q) levels w 0 (place 0 q.level_count) K (omega arith)
+          (head_place (sizes_of q) levels q.level_count (omega arith));
     }
 
 -- what a call does to the record q: nothing, or it applies a decision in range, made on a record that passes check 21
 pub data Does (q : Queue) : Queue → Type 0 where
   unchanged : Does q q
-  applies : (p : ℕ) (d : Decision) → ValidQueue q → q.clock < max_number → p < q.processorCount → ValidDecision (sizes_of q) d → Does q (applied q p d)
+  applies : (p : ℕ) (d : Decision) → ValidQueue q → q.clock < max_number → p < q.processor_count → ValidDecision (sizes_of q) d → Does q (applied q p d)
 
 abbrev Leaves : Queue → Outcome → Type 0
 Leaves q o = Does q o.queue
@@ -564,20 +555,20 @@ in_range x top h = record { low = ltb-false x 1 (or_left _ _ h); high = ltb-fals
 insert_does : (q : Queue) (p due item height : ℕ) → Allowed q (call.Insert p due item height) →
     ValidQueue q → ValidDecision (sizes_of q) (insert_decision q (chosen q) due item height)
 insert_does q p due item height A Q =
-    let n = numbers p due item height q.levelCount (chosen q) A.numbers A.node in
+    let n = numbers p due item height q.level_count (chosen q) A.numbers A.node in
     let x = n.small in
     insert_begins_valid q (chosen q) due item height Q
     (record {
       node = let some : (chosen q ≡ 0 → ⊥) = eqb-false (chosen q) 0 n.node_there in omega (arith, chosen_high q);
       due = ltb-false _ _ (or_left _ _ x);
       item = ltb-false _ _ (or_right (ltb max_number due) (ltb max_number item) x);
-      height = in_range height q.levelCount n.height_within;
+      height = in_range height q.level_count n.height_within;
     })
 
 -- the numbers that 38 lets pass
-wanted_range : (due ticket : ℕ) → key_refusal due ticket ≡ 0 → ValidWanted (wanted_of due ticket)
+wanted_range : (due ticket : ℕ) → key_refusal due ticket ≡ None → ValidWanted (wanted_of due ticket)
 wanted_range due ticket h =
-    let e = (passed (ltb max_number due || outside ticket max_number) 38 0 (omega arith) h).0 in
+    let e = (passed (ltb max_number due || outside ticket max_number) refusal.Key None h).0 in
     record {
       due = ltb-false max_number due (or_left _ _ e);
       ticket = in_range ticket max_number

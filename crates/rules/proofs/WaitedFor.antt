@@ -131,7 +131,7 @@ module _ (q : Queue) (b : Book) (S : Sound q b) (p : ℕ) where
       record {
         holder = H;
         says = says;
-        there = inside (ltb h q.processorCount) refl busy;
+        there = inside (ltb h q.processor_count) refl busy;
         busy = busy;
         begun = λ z. no
             (ap is_open (sym z ∙ S.rel.opened h)
@@ -141,10 +141,10 @@ module _ (q : Queue) (b : Book) (S : Sound q b) (p : ℕ) where
             (subst (λ (r : ℕ). Claims (processor_at q r) H.lock) z says);
       }
     where
-      inside : (t : Bool) → ltb h q.processorCount ≡ t → idle_at q h ≡ false →
-          h < q.processorCount
-      inside true z i = ltb-true h q.processorCount z
-      inside false z i = no (sym i ∙ S.confined h (ltb-false h q.processorCount z))
+      inside : (t : Bool) → ltb h q.processor_count ≡ t → idle_at q h ≡ false →
+          h < q.processor_count
+      inside true z i = ltb-true h q.processor_count z
+      inside false z i = no (sym i ∙ S.confined h (ltb-false h q.processor_count z))
 
 pub waits_for_a_busy_holder : WaitsForABusyHolder
 waits_for_a_busy_holder P N L R cs b h p r e =

@@ -1,5 +1,6 @@
 -- A step that waits stays as it is and names the holder of the lock that it asks for. Assumes
 -- nothing.
+use Rattle.std.specs.Prelude.{Option, ℕ, Some, None}
 use mathlib.Core.Path.{◌≡◌, refl, sym, ap, ◌∙◌, subst}
 use mathlib.Core.Bool.{Bool, true, false, cond}
 use Prim.Native.Nat.{ℕ, suc, ◌-◌}
@@ -33,8 +34,6 @@ use Rattle.rules.specs.declared.answers.Answer.{Answer}
 use Rattle.rules.specs.declared.answers.Answer.TheVariants as ans
 use Rattle.rules.specs.declared.answers.Outcome.{Outcome}
 use Rattle.rules.specs.declared.calls.Call.TheVariants as call
-use Rattle.rules.specs.declared.decisions.Attempt.{Attempt}
-use Rattle.rules.specs.declared.decisions.Attempt.TheVariants as try
 use Rattle.rules.specs.declared.decisions.Decision.{Decision}
 use Rattle.rules.specs.declared.decisions.Searched.{Searched}
 use Rattle.rules.specs.declared.decisions.Sought.{Sought}
@@ -55,11 +54,11 @@ use Rattle.rules.proofs.Inner.{call_inner, step_accepted}
 
 -- the stage asks for a lock that the step has read, and h holds it
 pub data Told (s : StepView) (h : ℕ) : Stage → Type 0 where
-  for_link : (a : Place) → s.placeLock ≡ suc h → Told s h (stage.Insert (ins.Seek (seek.Take a)))
-  for_unlink : (job : Job) (a : Place) → s.placeLock ≡ suc h →
+  for_link : (a : Place) → s.place_lock ≡ suc h → Told s h (stage.Insert (ins.Seek (seek.Take a)))
+  for_unlink : (job : Job) (a : Place) → s.place_lock ≡ suc h →
       Told s h (stage.Removal job (rem.Seek (seek.Take a)))
-  for_node : (job : Job) → s.ownNodeLock ≡ suc h → Told s h (stage.Removal job rem.HoldNode)
-  for_own : (job : Job) (a : Place) → s.ownLock ≡ suc h →
+  for_node : (job : Job) → s.own_node_lock ≡ suc h → Told s h (stage.Removal job rem.HoldNode)
+  for_own : (job : Job) (a : Place) → s.own_lock ≡ suc h →
       Told s h (stage.Removal job (rem.HoldOwn a))
 
 -- the decision keeps the stage, and tells who holds the lock
@@ -70,16 +69,16 @@ pub record Stands (s : StepView) (g : Stage) (d : Decision) : Type 0 where
 
 -- what follows an attempt waits for the holder of a lock that is held
 tried :
-    (s : StepView) (g : Stage) (make : Attempt → Decision) (lock : ℕ) →
-    is_waits (make try.Taken).answer ≡ false →
-    ((h : ℕ) → make (try.HeldBy h) ≡ waits s g h) →
+    (s : StepView) (g : Stage) (make : Option ℕ → Decision) (lock : ℕ) →
+    is_waits (make None).answer ≡ false →
+    ((h : ℕ) → make (Some h) ≡ waits s g h) →
     ((h : ℕ) → lock ≡ suc h → Told s h g) →
     is_waits (make (attempt lock)).answer ≡ true → Stands s g (make (attempt lock))
 tried s g make lock goes stays told = go (eqb lock 0) refl
   where
     go : (t : Bool) → eqb lock 0 ≡ t →
-        is_waits (make (cond t try.Taken (try.HeldBy (lock - 1)))).answer ≡ true →
-        Stands s g (make (cond t try.Taken (try.HeldBy (lock - 1))))
+        is_waits (make (cond t None (Some (lock - 1)))).answer ≡ true →
+        Stands s g (make (cond t None (Some (lock - 1))))
     go true z e = no (sym goes ∙ e)
     go false z e = record {
       holder = lock - 1;
@@ -97,18 +96,18 @@ module _ (s : StepView) where
   insert_search a =
       let g = stage.Insert (ins.Search a) in
       let P : Searched → Type 0 = λ o. Waiting g (insert_searched s a o) in
-      cond_elim P s.nextBeforeKey _ _ no (cond_elim P (leb a.level 1) _ _ no no)
+      cond_elim P s.next_before_key _ _ no (cond_elim P (leb a.level 1) _ _ no no)
 
   insert_seek : (k : Seek) → Waiting (stage.Insert (ins.Seek k)) (insert_sought s (seek_step s k))
   insert_seek (seek.Approach a) =
       let g = stage.Insert (ins.Seek (seek.Approach a)) in
-      cond_elim (λ (o : Sought). Waiting g (insert_sought s o)) s.nextBeforeKey _ _ no no
+      cond_elim (λ (o : Sought). Waiting g (insert_sought s o)) s.next_before_key _ _ no no
   insert_seek (seek.Take a) =
-      tried s _ (λ t. insert_sought s (place_tried a t)) s.placeLock refl (λ h. refl)
+      tried s _ (λ t. insert_sought s (place_tried a t)) s.place_lock refl (λ h. refl)
       (λ h. for_link a)
   insert_seek (seek.Confirm a) =
       let g = stage.Insert (ins.Seek (seek.Confirm a)) in
-      cond_elim (λ (o : Sought). Waiting g (insert_sought s o)) s.nextBeforeKey _ _ no no
+      cond_elim (λ (o : Sought). Waiting g (insert_sought s o)) s.next_before_key _ _ no no
   insert_seek (seek.Release a b) = no
 
   insert_waits : (i : Insert) → Waiting (stage.Insert i) (insert_step s i)
@@ -127,28 +126,28 @@ module _ (s : StepView) where
   removal_search j a =
       let g = removing j (rem.Search a) in
       let P : Searched → Type 0 = λ o. Waiting g (removal_searched j s a o) in
-      cond_elim P s.nextBeforeKey _ _ no (cond_elim P (leb a.level 1) _ _ no no)
+      cond_elim P s.next_before_key _ _ no (cond_elim P (leb a.level 1) _ _ no no)
 
   removal_seek :
       (j : Job) (k : Seek) → Waiting (removing j (rem.Seek k)) (removal_sought j s (seek_step s k))
   removal_seek j (seek.Approach a) =
       let g = removing j (rem.Seek (seek.Approach a)) in
-      cond_elim (λ (o : Sought). Waiting g (removal_sought j s o)) s.nextBeforeKey _ _ no no
+      cond_elim (λ (o : Sought). Waiting g (removal_sought j s o)) s.next_before_key _ _ no no
   removal_seek j (seek.Take a) =
-      tried s _ (λ t. removal_sought j s (place_tried a t)) s.placeLock refl (λ h. refl)
+      tried s _ (λ t. removal_sought j s (place_tried a t)) s.place_lock refl (λ h. refl)
       (λ h. for_unlink j a)
   removal_seek j (seek.Confirm a) =
       let g = removing j (rem.Seek (seek.Confirm a)) in
-      cond_elim (λ (o : Sought). Waiting g (removal_sought j s o)) s.nextBeforeKey _ _ no no
+      cond_elim (λ (o : Sought). Waiting g (removal_sought j s o)) s.next_before_key _ _ no no
   removal_seek j (seek.Release a b) = no
 
   removal_waits : (j : Job) (r : Removal) → Waiting (removing j r) (removal_step j s r)
   removal_waits j (rem.Search a) = removal_search j a
   removal_waits j rem.HoldNode =
-      tried s _ (node_tried j s) s.ownNodeLock refl (λ h. refl) (λ h. for_node j)
+      tried s _ (node_tried j s) s.own_node_lock refl (λ h. refl) (λ h. for_node j)
   removal_waits j (rem.Seek k) = removal_seek j k
   removal_waits j (rem.HoldOwn a) =
-      tried s _ (own_tried j s a) s.ownLock refl (λ h. refl) (λ h. for_own j a)
+      tried s _ (own_tried j s a) s.own_lock refl (λ h. refl) (λ h. for_own j a)
   removal_waits j (rem.Unlink a) = no
   removal_waits j (rem.LeadBack a) = no
   removal_waits j (rem.FreeOwn a) = no
@@ -160,7 +159,7 @@ module _ (s : StepView) where
 
   delete_waits : (d : Delete) → Waiting (stage.Delete d) (delete_step s d)
   delete_waits (del.ReadNext a) =
-      cond_elim (Waiting (stage.Delete (del.ReadNext a))) s.nextIsTail _ _ no no
+      cond_elim (Waiting (stage.Delete (del.ReadNext a))) s.next_is_tail _ _ no no
   delete_waits (del.TestStamp a) =
       cond_elim (Waiting (stage.Delete (del.TestStamp a))) s.stamped _ _ no no
   delete_waits (del.SetMark a) =
@@ -168,7 +167,7 @@ module _ (s : StepView) where
 
   relaxed_waits : (d : Relaxed) → Waiting (stage.Relaxed d) (relaxed_step s d)
   relaxed_waits (rlx.ReadNext a) =
-      cond_elim (Waiting (stage.Relaxed (rlx.ReadNext a))) s.nextIsTail _ _ no
+      cond_elim (Waiting (stage.Relaxed (rlx.ReadNext a))) s.next_is_tail _ _ no
       (cond_elim (Waiting (stage.Relaxed (rlx.ReadNext a))) (eqb s.next 0) _ _ no no)
   relaxed_waits (rlx.SetMark a) =
       cond_elim (Waiting (stage.Relaxed (rlx.SetMark a))) s.marked _ _ no no
@@ -177,11 +176,11 @@ module _ (s : StepView) where
   remove_waits w (rmv.Search a) =
       let g = stage.Remove w (rmv.Search a) in
       let P : Searched → Type 0 = λ o. Waiting g (remove_searched s w a o) in
-      cond_elim P s.nextBeforeKey _ _ no (cond_elim P (leb a.level 1) _ _ no no)
+      cond_elim P s.next_before_key _ _ no (cond_elim P (leb a.level 1) _ _ no no)
   remove_waits w (rmv.ReadNext a) =
       let g = stage.Remove w (rmv.ReadNext a) in
-      cond_elim (Waiting g) s.nextBeforeKey _ _ no
-      (cond_elim (Waiting g) s.nextHasKey _ _ no no)
+      cond_elim (Waiting g) s.next_before_key _ _ no
+      (cond_elim (Waiting g) s.next_has_key _ _ no no)
   remove_waits w (rmv.TestStamp a) =
       cond_elim (Waiting (stage.Remove w (rmv.TestStamp a))) s.stamped _ _ no no
   remove_waits w (rmv.SetMark a) =
@@ -213,7 +212,7 @@ asked_for q p h g e (for_own job a x) = record {
 
 -- whom an answer names
 abbrev named : Answer → ℕ
-named (ans.Refused n) = 0
+named (ans.Refused r) = 0
 named (ans.Began t) = 0
 named ans.Moved = 0
 named (ans.Waits h) = h
@@ -242,24 +241,24 @@ waits_for_the_holder q p h e =
         subst (Holder q p) same (asked_for q p S.holder c.stage refl S.told)
 
 -- what a decision answers that follows an attempt
-link_told : (s : StepView) (a : Place) (t : Attempt) →
+link_told : (s : StepView) (a : Place) (t : Option ℕ) →
     (insert_sought s (place_tried a t)).answer ≡ answer_by t
-link_told s a try.Taken = refl
-link_told s a (try.HeldBy h) = refl
+link_told s a None = refl
+link_told s a (Some h) = refl
 
-unlink_told : (job : Job) (s : StepView) (a : Place) (t : Attempt) →
+unlink_told : (job : Job) (s : StepView) (a : Place) (t : Option ℕ) →
     (removal_sought job s (place_tried a t)).answer ≡ answer_by t
-unlink_told job s a try.Taken = refl
-unlink_told job s a (try.HeldBy h) = refl
+unlink_told job s a None = refl
+unlink_told job s a (Some h) = refl
 
-node_told : (job : Job) (s : StepView) (t : Attempt) → (node_tried job s t).answer ≡ answer_by t
-node_told job s try.Taken = refl
-node_told job s (try.HeldBy h) = refl
+node_told : (job : Job) (s : StepView) (t : Option ℕ) → (node_tried job s t).answer ≡ answer_by t
+node_told job s None = refl
+node_told job s (Some h) = refl
 
-own_told : (job : Job) (s : StepView) (a : Place) (t : Attempt) →
+own_told : (job : Job) (s : StepView) (a : Place) (t : Option ℕ) →
     (own_tried job s a t).answer ≡ answer_by t
-own_told job s a try.Taken = refl
-own_told job s a (try.HeldBy h) = refl
+own_told job s a None = refl
+own_told job s a (Some h) = refl
 
 pub who_asks_is_told : WhoAsksIsTold
 who_asks_is_told q p l M asks = ap answered (told l asks)
@@ -282,13 +281,13 @@ who_asks_is_told q p l M asks = ap answered (told l asks)
         (called q (call.Step p)).answer ≡ answer_by (attempt (holder_of q l))
     told l (insert_place a e) =
         let g = stage.Insert (ins.Seek (seek.Take a)) in
-        decides g e refl ∙ link_told (see g) a (attempt (see g).placeLock)
+        decides g e refl ∙ link_told (see g) a (attempt (see g).place_lock)
     told l (removal_place job a e) =
         let g = removing job (rem.Seek (seek.Take a)) in
-        decides g e refl ∙ unlink_told job (see g) a (attempt (see g).placeLock)
+        decides g e refl ∙ unlink_told job (see g) a (attempt (see g).place_lock)
     told l (own_node job e) =
         let g = removing job rem.HoldNode in
-        decides g e refl ∙ node_told job (see g) (attempt (see g).ownNodeLock)
+        decides g e refl ∙ node_told job (see g) (attempt (see g).own_node_lock)
     told l (own_level job a e) =
         let g = removing job (rem.HoldOwn a) in
-        decides g e refl ∙ own_told job (see g) a (attempt (see g).ownLock)
+        decides g e refl ∙ own_told job (see g) a (attempt (see g).own_lock)

@@ -124,7 +124,7 @@ module _ (v : View) (u : ℕ → ℕ → ℕ) (I : Inv v u) (room : v.clock + 1 
     walk_to s' x' y' a' to G W =
         stand_to (ap (λ (f : Info). f.kind) is) (ap (λ (f : Info). f.nx) is) s'
         (v.pr p).saved x' y' last 0 (place a'.node 1) to (omega arith)
-        I.core.levelCount G W
+        I.core.level_count G W
 
     -- W1 at the tail: nothing was eligible
     pub empty_right : NodeHeld v → x ≡ 2 → v.fwd a.node 1 ≡ tail v → (n : ℕ) → Able n → ⊥
@@ -295,7 +295,7 @@ module _ (v : View) (u : ℕ → ℕ → ℕ) (I : Inv v u) (room : v.clock + 1 
       (λ b. record {
         begun = B.begun;
         begun_by = omega (arith, B.begun_by);
-        low = I.core.levelCount;
+        low = I.core.level_count;
         high = omega arith;
         place = G;
         read = G;
@@ -305,7 +305,7 @@ module _ (v : View) (u : ℕ → ℕ → ℕ) (I : Inv v u) (room : v.clock + 1 
         holds_node_lock = λ h. absurd (omega arith);
         near = near_none _ _ _ _ _ _;
         inserts = λ h. absurd (omega arith);
-        within = λ h. absurd (omega (arith, I.core.levelCount));
+        within = λ h. absurd (omega (arith, I.core.level_count));
         removes = λ h. record {
           low = low;
           high = high;

@@ -1,11 +1,10 @@
 -- The book (01, the book): which answers to a list of calls are right. It is fed the calls and what
 -- they give back, and never sees the record.
-use Rattle.std.specs.Prelude.{ℕ, zero, suc, ◌+◌, ◌-◌, ◌*◌, Bool, true, false, cond, ◌&&◌, ◌||◌, not, List, [], ◌∷◌, ltb, eqb, get_or}
-use Rattle.record_check.specs.declared.counting.Count.{Count}
-use Rattle.record_check.specs.declared.counting.Count.TheVariants as count
+use Rattle.std.specs.Prelude.{ℕ, zero, suc, ◌+◌, ◌-◌, ◌*◌, Bool, true, false, cond, ◌&&◌, ◌||◌, not, List, [], ◌∷◌, ltb, eqb, get_or, Result, Ok, Err}
 use Rattle.laws.specs.Every.{every_below}
 use Rattle.laws.specs.HowMany.{how_many}
 use Rattle.laws.specs.Update.{changed_at}
+use Rattle.record.specs.declared.refusals.Refusal.{Refusal}
 use Rattle.record.specs.declared.queues.Queue.{Queue}
 use Rattle.record.specs.declared.stages.Job.{Job}
 use Rattle.record.specs.declared.stages.Job.TheVariants as jobs
@@ -13,8 +12,6 @@ use Rattle.record.specs.declared.stages.Wanted.{Wanted}
 use Rattle.record.specs.Limits.{max_number, max_processors}
 use Rattle.record.specs.Keys.{entry_key, key_before}
 use Rattle.record.specs.Stages.{wanted_of}
-use Rattle.record_markers.specs.declared.listing.Listed.{Listed}
-use Rattle.record_markers.specs.declared.listing.Listed.TheVariants as listing
 use Rattle.rules.specs.declared.answers.Answer.{Answer}
 use Rattle.rules.specs.declared.answers.Answer.TheVariants as ans
 use Rattle.rules.specs.declared.answers.Deed.{Deed}
@@ -336,7 +333,7 @@ moves b (unlinking job t) = agrees (ticked b)
 -- the book after the answer of a begin: a refusal changes nothing, the time is right where `begun`
 -- says so, and no other answer is
 abbrev pub feed_begin : Book → (ℕ → Verdict) → Answer → Verdict
-feed_begin b begun (ans.Refused n) = agrees b
+feed_begin b begun (ans.Refused r) = agrees b
 feed_begin b begun (ans.Began t) = begun t
 feed_begin b begun ans.Moved = differs
 feed_begin b begun (ans.Waits h) = differs
@@ -364,7 +361,7 @@ feed_deed b p e deed.HandedOut = hands_out b p e (b.opened p)
 feed_deed b p e deed.TakenBack = takes_back b p e (b.opened p)
 
 abbrev pub feed_step : Book → ℕ → Answer → Verdict
-feed_step b p (ans.Refused n) = agrees b
+feed_step b p (ans.Refused r) = agrees b
 feed_step b p (ans.Began t) = differs
 feed_step b p ans.Moved = moves b (b.opened p)
 feed_step b p (ans.Waits h) = moves b (b.opened p)
@@ -374,9 +371,9 @@ feed_step b p (ans.Did d e) = feed_deed b p e d
 
 -- Backlog gives the number of the entries that are answered and not marked (02, W2), and changes
 -- nothing
-abbrev pub feed_backlog : Book → Count → Verdict
-feed_backlog b (count.Refused n) = agrees b
-feed_backlog b (count.Pending k) = agrees_if (eqb k (how_many (pending_in b) b.count)) b
+abbrev pub feed_backlog : Book → Result ℕ Refusal → Verdict
+feed_backlog b (Err r) = agrees b
+feed_backlog b (Ok k) = agrees_if (eqb k (how_many (pending_in b) b.count)) b
 
 -- the entry t is neither handed out nor taken back yet
 abbrev pub held_in : Book → ℕ → Bool
@@ -403,9 +400,9 @@ deliverers_listed b area k =
 -- markers (02, W6) tells of as many nodes as there are entries that are neither handed out nor
 -- taken back yet, and changes nothing. The book has no nodes: Demand3 says which entry a marker
 -- belongs to.
-abbrev pub feed_markers : Book → Listed → List ℕ → Verdict
-feed_markers b (listing.Refused n) area = agrees b
-feed_markers b (listing.Nodes k) area =
+abbrev pub feed_markers : Book → Result ℕ Refusal → List ℕ → Verdict
+feed_markers b (Err r) area = agrees b
+feed_markers b (Ok k) area =
     agrees_if (eqb k (how_many (held_in b) b.count) && deliverers_listed b area k) b
 
 -- a call and its answer

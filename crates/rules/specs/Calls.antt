@@ -1,6 +1,8 @@
 -- The calls on any record and with any numbers: the refusals in the order of document 01's table,
 -- and what a call does that is not refused.
-use Rattle.std.specs.Prelude.{ℕ, ◌+◌, ◌-◌, Bool, false, cond, ◌||◌, ltb, leb, eqb}
+use Rattle.std.specs.Prelude.{ℕ, ◌+◌, ◌-◌, Bool, false, cond, ◌||◌, ltb, leb, eqb, Option, Some, None}
+use Rattle.record.specs.declared.refusals.Refusal.{Refusal}
+use Rattle.record.specs.declared.refusals.Refusal.TheVariants as refusal
 use Rattle.record.specs.declared.stages.Place.{Place}
 use Rattle.record.specs.declared.stages.Insert.TheVariants as ins
 use Rattle.record.specs.declared.stages.Delete.TheVariants as del
@@ -70,29 +72,29 @@ abbrev pub step_view_from : Node → Node → Node → ℕ → Processor → Pla
 step_view_from here own ahead next c a nodes levels = record {
   own = c.own;
   height = own.height;
-  ownNodeLock = own.nodeLock;
+  own_node_lock = own.node_lock;
   next = next;
-  nextBeforeKey =
+  next_before_key =
       key_before (key_of nodes next ahead) (key_for c.stage (key_of nodes c.own own));
-  nextHasKey = at_key c.stage (key_of nodes next ahead);
-  nextIsTail = eqb next (nodes + 1);
-  placeLock = lock_at here a.level;
-  ownNext = forward_at own a.level;
-  ownLock = lock_at own a.level;
-  levelCount = levels;
+  next_has_key = at_key c.stage (key_of nodes next ahead);
+  next_is_tail = eqb next (nodes + 1);
+  place_lock = lock_at here a.level;
+  own_next = forward_at own a.level;
+  own_lock = lock_at own a.level;
+  level_count = levels;
   marked = is_marked here.mark;
   stamped = stamped_before here.stamp c.begin;
-  savedAbove = saved_at c (a.level + 1);
-  savedBelow = saved_at c (a.level - 1);
-  savedAtHeight = saved_at c own.height;
-  placeEntry = entry_of here;
-  ownEntry = entry_of own;
+  saved_above = saved_at c (a.level + 1);
+  saved_below = saved_at c (a.level - 1);
+  saved_at_height = saved_at c own.height;
+  place_entry = entry_of here;
+  own_entry = entry_of own;
 }
 
 abbrev pub step_view_of : Queue → Processor → Place → StepView
 step_view_of q c a =
     step_view_from (node_at q a.node) (node_at q c.own) (node_at q (next_of q a)) (next_of q a) c a
-    q.nodeCount q.levelCount
+    q.node_count q.level_count
 
 abbrev pub step_decision : Queue → Processor → Decision
 step_decision q c = decide (step_view_of q c (reading_place c.stage)) c.stage
@@ -130,7 +132,7 @@ abbrev pub remove_begins : ℕ → ℕ → Wanted → Decision
 remove_begins levels t w = walk_begins t (stage.Remove w (rmv.Search (place 0 levels)))
 
 abbrev pub insert_decision : Queue → ℕ → ℕ → ℕ → ℕ → Decision
-insert_decision q x due item height = insert_begins q.levelCount (q.clock + 1) x due item height
+insert_decision q x due item height = insert_begins q.level_count (q.clock + 1) x due item height
 
 abbrev pub delete_decision : Queue → Decision
 delete_decision q = delete_begins (q.clock + 1)
@@ -139,7 +141,7 @@ abbrev pub relaxed_decision : Queue → Decision
 relaxed_decision q = relaxed_begins (q.clock + 1)
 
 abbrev pub remove_decision : Queue → Wanted → Decision
-remove_decision q w = remove_begins q.levelCount (q.clock + 1) w
+remove_decision q w = remove_begins q.level_count (q.clock + 1) w
 
 -- the node that a call takes: an Insert's, 0 if there is none for it; of the other calls 0
 abbrev pub taken : Queue → Call → ℕ
@@ -165,67 +167,72 @@ processor_of (call.Remove p due ticket) = p
 processor_of (call.Step p) = p
 
 -- 33 is for a begin of a busy processor, 34 for a step of an idle one
-abbrev pub turn_refusal : Call → Bool → ℕ
-turn_refusal (call.Insert p due item height) idle = cond idle 0 33
-turn_refusal (call.DeleteMin p) idle = cond idle 0 33
-turn_refusal (call.Relaxed p) idle = cond idle 0 33
-turn_refusal (call.Remove p due ticket) idle = cond idle 0 33
-turn_refusal (call.Step p) idle = cond idle 34 0
+abbrev pub turn_refusal : Call → Bool → Option Refusal
+turn_refusal (call.Insert p due item height) idle = cond idle None (Some refusal.Busy)
+turn_refusal (call.DeleteMin p) idle = cond idle None (Some refusal.Busy)
+turn_refusal (call.Relaxed p) idle = cond idle None (Some refusal.Busy)
+turn_refusal (call.Remove p due ticket) idle = cond idle None (Some refusal.Busy)
+turn_refusal (call.Step p) idle = cond idle (Some refusal.Idle) None
 
 -- 35, 36 and, directly after 35, document 02's 39 (W10): an Insert's numbers, on l levels
-abbrev pub insert_refusal : ℕ → ℕ → ℕ → ℕ → ℕ
+abbrev pub insert_refusal : ℕ → ℕ → ℕ → ℕ → Option Refusal
 insert_refusal due item height l =
-    cond (ltb max_number due || ltb max_number item) 35
-    (cond (eqb item 0) 39
-    (cond (outside height l) 36 0))
+    cond (ltb max_number due || ltb max_number item) (Some refusal.TooLarge)
+    (cond (eqb item 0) (Some refusal.NoItem)
+    (cond (outside height l) (Some refusal.Height) None))
 
 -- 38, in the place of 35 (02, W5): the key of a Remove
-abbrev pub key_refusal : ℕ → ℕ → ℕ
-key_refusal due ticket = cond (ltb max_number due || outside ticket max_number) 38 0
+abbrev pub key_refusal : ℕ → ℕ → Option Refusal
+key_refusal due ticket =
+    cond (ltb max_number due || outside ticket max_number) (Some refusal.Key) None
 
-abbrev pub numbers_refusal : Call → ℕ → ℕ
+abbrev pub numbers_refusal : Call → ℕ → Option Refusal
 numbers_refusal (call.Insert p due item height) l = insert_refusal due item height l
-numbers_refusal (call.DeleteMin p) l = 0
-numbers_refusal (call.Relaxed p) l = 0
+numbers_refusal (call.DeleteMin p) l = None
+numbers_refusal (call.Relaxed p) l = None
 numbers_refusal (call.Remove p due ticket) l = key_refusal due ticket
-numbers_refusal (call.Step p) l = 0
+numbers_refusal (call.Step p) l = None
 
 -- 37 is for an Insert that finds no node; x is the one that it would take, or 0
-abbrev pub node_refusal : Call → ℕ → ℕ
-node_refusal (call.Insert p due item height) x = cond (eqb x 0) 37 0
-node_refusal (call.DeleteMin p) x = 0
-node_refusal (call.Relaxed p) x = 0
-node_refusal (call.Remove p due ticket) x = 0
-node_refusal (call.Step p) x = 0
+abbrev pub node_refusal : Call → ℕ → Option Refusal
+node_refusal (call.Insert p due item height) x = cond (eqb x 0) (Some refusal.NoNode) None
+node_refusal (call.DeleteMin p) x = None
+node_refusal (call.Relaxed p) x = None
+node_refusal (call.Remove p due ticket) x = None
+node_refusal (call.Step p) x = None
 
--- the first of two refusals, or 0
-abbrev pub first_of : ℕ → ℕ → ℕ
-first_of m n = cond (eqb m 0) n m
+-- the first of two refusals, if there is one
+abbrev pub first_of : Option Refusal → Option Refusal → Option Refusal
+first_of (Some r) next = Some r
+first_of None next = next
 
 -- what a call is refused with before a node is looked for, by the clock, P, L and whether its
--- processor is idle; or 0 (01, refusals: from 31 on)
-abbrev pub refusal_by : Call → ℕ → ℕ → ℕ → Bool → ℕ
+-- processor is idle, if it is (01, refusals: from 31 on)
+abbrev pub refusal_by : Call → ℕ → ℕ → ℕ → Bool → Option Refusal
 refusal_by c clock processors levels idle =
-    cond (leb max_number clock) 31
-    (cond (leb processors (processor_of c)) 32
+    cond (leb max_number clock) (Some refusal.ClockSpent)
+    (cond (leb processors (processor_of c)) (Some refusal.NoProcessor)
     (first_of (turn_refusal c idle) (numbers_refusal c levels)))
 
 abbrev pub idle_at : Queue → ℕ → Bool
 idle_at q p = is_idle (processor_at q p).stage
 
-abbrev pub refusal_of : Queue → Call → ℕ
+abbrev pub refusal_of : Queue → Call → Option Refusal
 refusal_of q c =
-    first_of (refusal_by c q.clock q.processorCount q.levelCount (idle_at q (processor_of c)))
+    first_of (refusal_by c q.clock q.processor_count q.level_count (idle_at q (processor_of c)))
     (node_refusal c (taken q c))
+
+-- what becomes of a call with this refusal, or with none
+abbrev pub outcome_by : Queue → Call → Option Refusal → Outcome
+outcome_by q c None = accepted q (processor_of c) (decision_of q c)
+outcome_by q c (Some r) = refused q r
 
 -- a call on a record that passes check 21, and on any
 abbrev pub called_valid : Queue → Call → Outcome
-called_valid q c =
-    cond (eqb (refusal_of q c) 0) (accepted q (processor_of c) (decision_of q c))
-    (refused q (refusal_of q c))
+called_valid q c = outcome_by q c (refusal_of q c)
 
 abbrev pub called : Queue → Call → Outcome
-called q c = cond (valid q) (called_valid q c) (refused q 21)
+called q c = cond (valid q) (called_valid q c) (refused q refusal.Invalid)
 
 -- each by its name
 abbrev pub begin_insert : Queue → ℕ → ℕ → ℕ → ℕ → Outcome

@@ -1,6 +1,6 @@
 -- What a step decides, from what it reads (01, the steps). Each line of that section is one
 -- function here, with the letters a for the place and b for the node after it.
-use Rattle.std.specs.Prelude.{ℕ, ◌+◌, ◌-◌, cond, ltb, leb, eqb}
+use Rattle.std.specs.Prelude.{ℕ, ◌+◌, ◌-◌, cond, ltb, leb, eqb, Option, Some, None}
 use Rattle.record.specs.declared.stages.Place.{Place}
 use Rattle.record.specs.declared.stages.Seek.{Seek}
 use Rattle.record.specs.declared.stages.Seek.TheVariants as seek
@@ -27,8 +27,6 @@ use Rattle.rules.specs.declared.answers.Answer.TheVariants as ans
 use Rattle.rules.specs.declared.decisions.Effect.{Effect}
 use Rattle.rules.specs.declared.decisions.Effect.TheVariants as eff
 use Rattle.rules.specs.declared.decisions.ProcessorChange.TheVariants as change
-use Rattle.rules.specs.declared.decisions.Attempt.{Attempt}
-use Rattle.rules.specs.declared.decisions.Attempt.TheVariants as try
 use Rattle.rules.specs.declared.decisions.Decision.{Decision}
 use Rattle.rules.specs.declared.decisions.StepView.{StepView}
 use Rattle.rules.specs.declared.decisions.Searched.{Searched}
@@ -69,29 +67,29 @@ answers e r = record { effect = e; stage = stage.Idle; own = 0; change = change.
 -- level, and the level below is searched from it. After level 1 the Search is over.
 abbrev pub search_step : StepView → Place → Searched
 search_step s a =
-    cond s.nextBeforeKey (srch.Ahead (place s.next a.level))
+    cond s.next_before_key (srch.Ahead (place s.next a.level))
     (cond (leb a.level 1) (srch.Done a) (srch.Down (place a.node (a.level - 1))))
 
 -- An attempt to take a lock (02, W1), a level's or a node's, which has this number in the record: a
 -- free one is taken, and any other is held by the processor whose number it bears.
-abbrev pub attempt : ℕ → Attempt
-attempt lock = cond (eqb lock 0) try.Taken (try.HeldBy (lock - 1))
+abbrev pub attempt : ℕ → Option ℕ
+attempt lock = cond (eqb lock 0) None (Some (lock - 1))
 
 -- G2, by what the attempt at the place's lock gives
-abbrev pub place_tried : Place → Attempt → Sought
-place_tried a try.Taken = sght.Goes (eff.HoldLevel a) (seek.Confirm a)
-place_tried a (try.HeldBy h) = sght.Waits (seek.Take a) h
+abbrev pub place_tried : Place → Option ℕ → Sought
+place_tried a None = sght.Goes (eff.HoldLevel a) (seek.Confirm a)
+place_tried a (Some h) = sght.Waits (seek.Take a) h
 
 -- Lock-seek, on one level. G1 goes on as long as the key ahead is smaller. G2 takes the lock of the
 -- place, or waits for its holder. G3 looks whether the key ahead is smaller by now: if so, G4 gives
 -- the lock back and goes on to that node, for G2; if not, the Lock-seek is done.
 abbrev pub seek_step : StepView → Seek → Sought
 seek_step s (seek.Approach a) =
-    cond s.nextBeforeKey (sght.Goes eff.Keep (seek.Approach (place s.next a.level)))
+    cond s.next_before_key (sght.Goes eff.Keep (seek.Approach (place s.next a.level)))
     (sght.Goes eff.Keep (seek.Take a))
-seek_step s (seek.Take a) = place_tried a (attempt s.placeLock)
+seek_step s (seek.Take a) = place_tried a (attempt s.place_lock)
 seek_step s (seek.Confirm a) =
-    cond s.nextBeforeKey (sght.Goes eff.Keep (seek.Release a s.next)) (sght.Done a)
+    cond s.next_before_key (sght.Goes eff.Keep (seek.Release a s.next)) (sght.Done a)
 seek_step s (seek.Release a b) = sght.Goes (eff.FreeLevel a) (seek.Take (place b a.level))
 
 -- an Insert's Search leads to the Lock-seek of level 1, and each Lock-seek to I1
@@ -110,7 +108,7 @@ abbrev pub insert_freed : StepView → Place → Decision
 insert_freed s a =
     cond (ltb a.level s.height)
     (moved s (eff.FreeLevel a)
-    (stage.Insert (ins.Seek (seek.Approach (place s.savedAbove (a.level + 1))))))
+    (stage.Insert (ins.Seek (seek.Approach (place s.saved_above (a.level + 1))))))
     (moved s (eff.FreeLevel a) (stage.Insert ins.FreeNode))
 
 -- I1: the own node leads to where the place leads; I2: the place leads to it; I4: its node lock is
@@ -123,7 +121,7 @@ insert_step s (ins.Copy a) =
 insert_step s (ins.Link a) = moved s (eff.SetForward a s.own) (stage.Insert (ins.FreeLevel a))
 insert_step s (ins.FreeLevel a) = insert_freed s a
 insert_step s ins.FreeNode = moved s (eff.FreeNode s.own) (stage.Insert ins.Stamp)
-insert_step s ins.Stamp = answers (eff.Stamp s.own) (ans.Did deed.Inserted s.ownEntry)
+insert_step s ins.Stamp = answers (eff.Stamp s.own) (ans.Did deed.Inserted s.own_entry)
 
 -- the removal of a marked node, and its job
 abbrev pub removing : Job → Removal → Stage
@@ -136,14 +134,14 @@ removal_searched job s a (srch.Down b) = saving s a (removing job (rem.Search b)
 removal_searched job s a (srch.Done b) = saving s a (removing job rem.HoldNode)
 
 -- L1: the own node's node lock, or wait for its holder
-abbrev pub node_tried : Job → StepView → Attempt → Decision
-node_tried job s try.Taken =
+abbrev pub node_tried : Job → StepView → Option ℕ → Decision
+node_tried job s None =
     moved s (eff.HoldNode s.own)
-    (removing job (rem.Seek (seek.Approach (place s.savedAtHeight s.height))))
-node_tried job s (try.HeldBy h) = waits s (removing job rem.HoldNode) h
+    (removing job (rem.Seek (seek.Approach (place s.saved_at_height s.height))))
+node_tried job s (Some h) = waits s (removing job rem.HoldNode) h
 
 abbrev pub hold_node : Job → StepView → Decision
-hold_node job s = node_tried job s (attempt s.ownNodeLock)
+hold_node job s = node_tried job s (attempt s.own_node_lock)
 
 abbrev pub removal_sought : Job → StepView → Sought → Decision
 removal_sought job s (sght.Goes e k) = moved s e (removing job (rem.Seek k))
@@ -151,20 +149,20 @@ removal_sought job s (sght.Waits k h) = waits s (removing job (rem.Seek k)) h
 removal_sought job s (sght.Done a) = moved s eff.Keep (removing job (rem.HoldOwn a))
 
 -- L2: the own node's lock at the level, or wait for its holder
-abbrev pub own_tried : Job → StepView → Place → Attempt → Decision
-own_tried job s a try.Taken =
+abbrev pub own_tried : Job → StepView → Place → Option ℕ → Decision
+own_tried job s a None =
     moved s (eff.HoldLevel (place s.own a.level)) (removing job (rem.Unlink a))
-own_tried job s a (try.HeldBy h) = waits s (removing job (rem.HoldOwn a)) h
+own_tried job s a (Some h) = waits s (removing job (rem.HoldOwn a)) h
 
 abbrev pub hold_own : Job → StepView → Place → Decision
-hold_own job s a = own_tried job s a (attempt s.ownLock)
+hold_own job s a = own_tried job s a (attempt s.own_lock)
 
 -- L6: the place's lock is free; on to the level below or, after level 1, to L7
 abbrev pub removal_freed : Job → StepView → Place → Decision
 removal_freed job s a =
     cond (leb a.level 1) (moved s (eff.FreeLevel a) (removing job rem.FreeNode))
     (moved s (eff.FreeLevel a)
-    (removing job (rem.Seek (seek.Approach (place s.savedBelow (a.level - 1))))))
+    (removing job (rem.Seek (seek.Approach (place s.saved_below (a.level - 1))))))
 
 -- what L8 answers, by the removal's job
 abbrev pub handing : Job → Entry → Answer
@@ -179,19 +177,19 @@ removal_step job s rem.HoldNode = hold_node job s
 removal_step job s (rem.Seek k) = removal_sought job s (seek_step s k)
 removal_step job s (rem.HoldOwn a) = hold_own job s a
 removal_step job s (rem.Unlink a) =
-    moved s (eff.SetForward a s.ownNext) (removing job (rem.LeadBack a))
+    moved s (eff.SetForward a s.own_next) (removing job (rem.LeadBack a))
 removal_step job s (rem.LeadBack a) =
     moved s (eff.SetForward (place s.own a.level) a.node) (removing job (rem.FreeOwn a))
 removal_step job s (rem.FreeOwn a) =
     moved s (eff.FreeLevel (place s.own a.level)) (removing job (rem.FreeLevel a))
 removal_step job s (rem.FreeLevel a) = removal_freed job s a
 removal_step job s rem.FreeNode = moved s (eff.FreeNode s.own) (removing job rem.Retire)
-removal_step job s rem.Retire = answers (eff.Retire s.own) (handing job s.ownEntry)
+removal_step job s rem.Retire = answers (eff.Retire s.own) (handing job s.own_entry)
 
 -- W1: on to the next node of level 1, or EMPTY at the end
 abbrev pub walk_on : StepView → Decision
 walk_on s =
-    cond s.nextIsTail (answers eff.Keep ans.Empty)
+    cond s.next_is_tail (answers eff.Keep ans.Empty)
     (moved s eff.Keep (stage.Delete (del.TestStamp (place s.next 1))))
 
 -- W2: a node whose stamp is older than the operation may be marked; any other is walked past
@@ -205,10 +203,10 @@ stamp_test s a =
 abbrev pub marking : Job → StepView → Place → Decision
 marking job s a = record {
   effect = eff.Mark a.node;
-  stage = removing job (rem.Search (place 0 s.levelCount));
+  stage = removing job (rem.Search (place 0 s.level_count));
   own = a.node;
   change = change.Keep;
-  answer = ans.Did deed.Marked s.placeEntry;
+  answer = ans.Did deed.Marked s.place_entry;
 }
 
 -- 01, W3: a node that is marked already is walked past, to this stage
@@ -224,7 +222,7 @@ delete_step s (del.SetMark a) = mark_test s a (stage.Delete (del.ReadNext a))
 -- where a walk that was led back may come, W1 again
 abbrev pub relaxed_on : StepView → Decision
 relaxed_on s =
-    cond s.nextIsTail (answers eff.Keep ans.Empty)
+    cond s.next_is_tail (answers eff.Keep ans.Empty)
     (cond (eqb s.next 0) (moved s eff.Keep (stage.Relaxed (rlx.ReadNext (place s.next 1))))
     (moved s eff.Keep (stage.Relaxed (rlx.SetMark (place s.next 1)))))
 
@@ -245,8 +243,8 @@ missing w = answers eff.Keep (ans.NotThere w)
 -- on along level 1 as long as the key ahead is smaller; on its own key it goes on to the stamp
 abbrev pub remove_on : StepView → Wanted → Decision
 remove_on s w =
-    cond s.nextBeforeKey (moved s eff.Keep (stage.Remove w (rmv.ReadNext (place s.next 1))))
-    (cond s.nextHasKey
+    cond s.next_before_key (moved s eff.Keep (stage.Remove w (rmv.ReadNext (place s.next 1))))
+    (cond s.next_has_key
     (moved s eff.Keep (stage.Remove w (rmv.TestStamp (place s.next 1))))
     (missing w))
 

@@ -1,8 +1,7 @@
 -- Demand 3 (01, the book; held to by contract), and what it means. Everything here is a statement;
 -- proofs/Demand3.antt and the files that it names prove each of them.
-use Rattle.std.specs.Prelude.{ℕ, suc, ◌+◌, ◌≤◌, ◌<◌, ◌≡◌, true, false, ◌&&◌, List, ◌∷◌, ◌++◌, get_or}
+use Rattle.std.specs.Prelude.{ℕ, suc, ◌+◌, ◌≤◌, ◌<◌, ◌≡◌, true, false, ◌&&◌, List, ◌∷◌, ◌++◌, get_or, Ok}
 use Rattle.laws.specs.HowMany.{how_many}
-use Rattle.record_check.specs.declared.counting.Count.TheVariants as count
 use Rattle.record.specs.declared.queues.Queue.{Queue}
 use Rattle.record.specs.Limits.{max_processors, max_nodes, max_levels}
 use Rattle.record_check.specs.Check.{valid}
@@ -238,7 +237,7 @@ abbrev pub BacklogIsPending : Type 0
 BacklogIsPending =
     (P N L : ℕ) → InRange P N L → (cs : List Turn) (b : Book) → BookAfter P N L cs b →
     (k : ℕ)
-    × (reply (after_all (fresh_queue P N L) cs) backlog ≡ counted (count.Pending k))
+    × (reply (after_all (fresh_queue P N L) cs) backlog ≡ counted (Ok k))
     × Pending b k
 
 -- Markers (02, W6). Processor p has the entry with ticket t marked, and not yet handed out or taken
@@ -270,16 +269,16 @@ ReachedIsValid =
 -- No call changes a slot past P, N + 1 or L, on any record: slot k of a node's or a processor's
 -- array is level k + 1.
 pub record SameOutside (q r : Queue) : Type 0 where
-  pub processorCount : r.processorCount ≡ q.processorCount
-  pub nodeCount : r.nodeCount ≡ q.nodeCount
-  pub levelCount : r.levelCount ≡ q.levelCount
-  pub nodes : (x : ℕ) → q.nodeCount + 1 < x → node_at r x ≡ node_at q x
-  pub processors : (p : ℕ) → q.processorCount ≤ p → processor_at r p ≡ processor_at q p
-  pub forward : (x k : ℕ) → q.levelCount ≤ k → get_or (node_at r x).forward k 0
+  pub processor_count : r.processor_count ≡ q.processor_count
+  pub node_count : r.node_count ≡ q.node_count
+  pub level_count : r.level_count ≡ q.level_count
+  pub nodes : (x : ℕ) → q.node_count + 1 < x → node_at r x ≡ node_at q x
+  pub processors : (p : ℕ) → q.processor_count ≤ p → processor_at r p ≡ processor_at q p
+  pub forward : (x k : ℕ) → q.level_count ≤ k → get_or (node_at r x).forward k 0
       ≡ get_or (node_at q x).forward k 0
-  pub levelLocks : (x k : ℕ) → q.levelCount ≤ k → get_or (node_at r x).levelLocks k 0
-      ≡ get_or (node_at q x).levelLocks k 0
-  pub saved : (p k : ℕ) → q.levelCount ≤ k → get_or (processor_at r p).saved k 0
+  pub level_locks : (x k : ℕ) → q.level_count ≤ k → get_or (node_at r x).level_locks k 0
+      ≡ get_or (node_at q x).level_locks k 0
+  pub saved : (p k : ℕ) → q.level_count ≤ k → get_or (processor_at r p).saved k 0
       ≡ get_or (processor_at q p).saved k 0
 
 abbrev pub OutsideIsUntouched : Type 0
@@ -304,7 +303,7 @@ ReachedLocksAgree =
 pub record WaitedFor (q : Queue) (b : Book) (p h : ℕ) : Type 0 where
   pub holder : Holder q p h
   pub says : Claims (processor_at q h) holder.lock
-  pub there : h < q.processorCount
+  pub there : h < q.processor_count
   pub busy : idle_at q h ≡ false
   pub begun : b.opened h ≡ nothing → ⊥
   pub other : h ≡ p → ⊥

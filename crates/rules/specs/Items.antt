@@ -25,8 +25,8 @@ pub record Renaming (f : ℕ → ℕ) : Type 0 where
 abbrev pub renamed_node : (ℕ → ℕ) → Node → Node
 renamed_node f n = record {
   forward = n.forward;
-  levelLocks = n.levelLocks;
-  nodeLock = n.nodeLock;
+  level_locks = n.level_locks;
+  node_lock = n.node_lock;
   mark = n.mark;
   stamp = n.stamp;
   due = n.due;
@@ -38,9 +38,9 @@ renamed_node f n = record {
 
 abbrev pub renamed : (ℕ → ℕ) → Queue → Queue
 renamed f q = record {
-  processorCount = q.processorCount;
-  nodeCount = q.nodeCount;
-  levelCount = q.levelCount;
+  processor_count = q.processor_count;
+  node_count = q.node_count;
+  level_count = q.level_count;
   clock = q.clock;
   nodes = map (renamed_node f) q.nodes;
   processors = q.processors;
@@ -50,7 +50,7 @@ abbrev pub renamed_entry : (ℕ → ℕ) → Entry → Entry
 renamed_entry f e = record { due = e.due; item = f e.item; ticket = e.ticket }
 
 abbrev pub renamed_answer : (ℕ → ℕ) → Answer → Answer
-renamed_answer f (ans.Refused n) = ans.Refused n
+renamed_answer f (ans.Refused r) = ans.Refused r
 renamed_answer f (ans.Began t) = ans.Began t
 renamed_answer f ans.Moved = ans.Moved
 renamed_answer f (ans.Waits h) = ans.Waits h

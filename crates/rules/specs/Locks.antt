@@ -22,7 +22,7 @@ pub data Lock : Type 0 where
 -- 0 where it is free, p + 1 where processor p holds it
 abbrev pub holder_of : Queue → Lock → ℕ
 holder_of q (level n i) = lock_at (node_at q n) i
-holder_of q (node n) = (node_at q n).nodeLock
+holder_of q (node n) = (node_at q n).node_lock
 
 -- by the table of stages: the place's lock at its level, own's lock at that level, own's node lock
 abbrev pub holds_place : Stage → Bool

@@ -39,9 +39,9 @@ anonymous_node n = with_mark n (cond (is_marked n.mark) 1 0)
 
 abbrev pub anonymous : Queue → Queue
 anonymous q = record {
-  processorCount = q.processorCount;
-  nodeCount = q.nodeCount;
-  levelCount = q.levelCount;
+  processor_count = q.processor_count;
+  node_count = q.node_count;
+  level_count = q.level_count;
   clock = q.clock;
   nodes = map anonymous_node q.nodes;
   processors = q.processors;

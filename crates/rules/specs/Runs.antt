@@ -1,10 +1,9 @@
 -- Lists of calls (01, the book), each on the record that the one before it left. Backlog and markers
 -- (02, W6), which only read, may be any of them.
-use Rattle.std.specs.Prelude.{ℕ, List, [], ◌∷◌, length}
-use Rattle.record_check.specs.declared.counting.Count.{Count}
+use Rattle.std.specs.Prelude.{ℕ, List, [], ◌∷◌, length, Result}
+use Rattle.record.specs.declared.refusals.Refusal.{Refusal}
 use Rattle.record.specs.declared.queues.Queue.{Queue}
 use Rattle.record_check.specs.Backlog.{backlog_of}
-use Rattle.record_markers.specs.declared.listing.Listed.{Listed}
 use Rattle.record_markers.specs.Markers.{markers_of, area_after}
 use Rattle.rules.specs.declared.answers.Answer.{Answer}
 use Rattle.rules.specs.declared.calls.Call.{Call}
@@ -35,8 +34,8 @@ step_by p = calls (call.Step p)
 -- what a call gives back: an answer, Backlog's count, or what markers answers and the area then
 pub data Reply : Type 0 where
   answered : Answer → Reply
-  counted : Count → Reply
-  listed : Listed → List ℕ → Reply
+  counted : Result ℕ Refusal → Reply
+  listed : Result ℕ Refusal → List ℕ → Reply
 
 -- the record after a turn
 abbrev pub after : Queue → Turn → Queue

@@ -1,14 +1,12 @@
 -- What a step is told that asks for a lock (02, W1), on any record. Everything here is a statement;
 -- proofs/Waits.antt proves each of them. Demand3 has what holds of reached records besides.
-use Rattle.std.specs.Prelude.{ℕ, suc, ◌<◌, ◌≡◌, true}
+use Rattle.std.specs.Prelude.{ℕ, suc, ◌<◌, ◌≡◌, true, Option, Some, None}
 use Rattle.record.specs.declared.queues.Queue.{Queue}
 use Rattle.record.specs.Limits.{max_number}
 use Rattle.record.specs.Queues.{processor_at}
 use Rattle.record_check.specs.Check.{valid}
 use Rattle.rules.specs.declared.answers.Answer.{Answer}
 use Rattle.rules.specs.declared.answers.Answer.TheVariants as ans
-use Rattle.rules.specs.declared.decisions.Attempt.{Attempt}
-use Rattle.rules.specs.declared.decisions.Attempt.TheVariants as try
 use Rattle.rules.specs.Decide.{attempt}
 use Rattle.rules.specs.Locks.{Lock, holder_of, Asks}
 use Rattle.rules.specs.Runs.{step_by, answered, reply}
@@ -28,12 +26,12 @@ WaitsForTheHolder =
 pub record MayStep (q : Queue) (p : ℕ) : Type 0 where
   pub passes : valid q ≡ true
   pub ticks : q.clock < max_number
-  pub here : p < q.processorCount
+  pub here : p < q.processor_count
 
 -- what a step answers by its attempt
-abbrev pub answer_by : Attempt → Answer
-answer_by try.Taken = ans.Moved
-answer_by (try.HeldBy h) = ans.Waits h
+abbrev pub answer_by : Option ℕ → Answer
+answer_by None = ans.Moved
+answer_by (Some h) = ans.Waits h
 
 -- and whoever asks for a lock is told what the attempt gives: it waits while the lock is held, for
 -- the holder, and moves on if the lock is free

@@ -2,7 +2,7 @@
 ghost use Rattle.std.specs.Prelude.{◌≡◌};
 ghost use Rattle.rules.specs.Answers.{plain_from, plain_of, deed_code, is_refused, is_waits};
 
-use record::{Queue, Wanted};
+use record::{Queue, Refusal, Wanted};
 
 // What an entry holds.
 #[derive(Clone, Copy)]
@@ -12,19 +12,27 @@ pub struct Entry {
     pub ticket: u32,
 }
 
-// What was done with an entry, for the answers that tell of one.
+// What was done with an entry, for the answers that tell of one, each by its number.
 #[derive(Clone, Copy)]
 pub enum Deed {
-    Marked,
-    Inserted,
-    HandedOut,
-    TakenBack,
+    Marked = 4,
+    Inserted = 5,
+    HandedOut = 6,
+    TakenBack = 7,
+}
+
+impl Deed {
+    fn code(self) -> u32
+        ensures { result ≡ deed_code self }
+    {
+        self as u32
+    }
 }
 
 // specs/Answers.antt gives document 01's number and values of each case.
 #[derive(Clone, Copy)]
 pub enum Answer {
-    Refused(u8),
+    Refused(Refusal),
     Began(u32),
     Moved,
     // for a lock, and the processor that holds it (02, W1)
@@ -56,64 +64,38 @@ fn with_values(code: u32, first: u32, second: u32, third: u32) -> PlainAnswer
     ensures { result ≡ plain_from code first second third }
 {
     PlainAnswer {
-        code: code,
-        first: first,
-        second: second,
-        third: third,
-    }
-}
-
-fn deed_code(d: Deed) -> u32
-    ensures { result ≡ deed_code d }
-{
-    match d {
-        Deed::Marked => 4,
-        Deed::Inserted => 5,
-        Deed::HandedOut => 6,
-        Deed::TakenBack => 7,
+        code,
+        first,
+        second,
+        third,
     }
 }
 
 // Each case reads its numbers one by one: a key or an entry handed on whole would be read in wider
 // pieces than a step writes, and the processor would wait for them.
+// A function and no `From`: docs/ADDING.md and docs/DECISIONS.md name it.
 pub fn plain(a: Answer) -> PlainAnswer
     ensures { result ≡ plain_of a }
 {
     match a {
-        Answer::Refused(n) => with_values(n as u32, 0, 0, 0),
+        Answer::Refused(r) => with_values(r.number() as u32, 0, 0, 0),
         Answer::Began(t) => with_values(0, t, 0, 0),
         Answer::Moved => with_values(1, 0, 0, 0),
         Answer::Waits(h) => with_values(2, h as u32, 0, 0),
         Answer::Empty => with_values(3, 0, 0, 0),
         Answer::NotThere(w) => with_values(8, w.due, w.ticket, 0),
-        Answer::Did(d, e) => with_values(deed_code(d), e.due, e.item, e.ticket),
+        Answer::Did(d, e) => with_values(d.code(), e.due, e.item, e.ticket),
     }
 }
 
 pub fn is_refused(a: Answer) -> bool
     ensures { result ≡ is_refused a }
 {
-    match a {
-        Answer::Refused(_) => true,
-        Answer::Began(_) => false,
-        Answer::Moved => false,
-        Answer::Waits(_) => false,
-        Answer::Empty => false,
-        Answer::NotThere(_) => false,
-        Answer::Did(_, _) => false,
-    }
+    matches!(a, Answer::Refused(_))
 }
 
 pub fn is_waits(a: Answer) -> bool
     ensures { result ≡ is_waits a }
 {
-    match a {
-        Answer::Refused(_) => false,
-        Answer::Began(_) => false,
-        Answer::Moved => false,
-        Answer::Waits(_) => true,
-        Answer::Empty => false,
-        Answer::NotThere(_) => false,
-        Answer::Did(_, _) => false,
-    }
+    matches!(a, Answer::Waits(_))
 }

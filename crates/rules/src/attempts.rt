@@ -2,15 +2,10 @@
 ghost use Rattle.std.specs.Prelude.{◌≡◌};
 ghost use Rattle.rules.specs.Decide.{attempt as attempt_of};
 
-use crate::decisions::Attempt;
-
-// What an attempt at a lock gives that has this number in the record.
-pub fn attempt(lock: u8) -> Attempt
+// Who holds a lock that has this number in the record: an attempt takes it only where nobody does
+// (02, W1).
+pub fn attempt(lock: u8) -> Option<u8>
     ensures { result ≡ attempt_of lock }
 {
-    if lock == 0 {
-        return Attempt::Taken;
-    }
-    let holder = lock - 1;
-    Attempt::HeldBy(holder)
+    lock.checked_sub(1)
 }

@@ -9,37 +9,30 @@ pub struct StepView {
     // the operation's own node: its number, its height, and who holds its node lock
     pub own: u8,
     pub height: u8,
-    pub ownNodeLock: u8,
+    pub own_node_lock: u8,
     // the node after the place at its level; whether its key is before the operation's; whether it
     // is the operation's, which a Remove alone asks; whether it is the tail
     pub next: u8,
-    pub nextBeforeKey: bool,
-    pub nextHasKey: bool,
-    pub nextIsTail: bool,
+    pub next_before_key: bool,
+    pub next_has_key: bool,
+    pub next_is_tail: bool,
     // who holds the place's lock at the level
-    pub placeLock: u8,
+    pub place_lock: u8,
     // the own node's forward number at the level, and who holds its lock there
-    pub ownNext: u8,
-    pub ownLock: u8,
+    pub own_next: u8,
+    pub own_lock: u8,
     // the queue's highest level
-    pub levelCount: u8,
+    pub level_count: u8,
     // the place's node: whether it is marked, and whether its stamp is before the operation's begin
     pub marked: bool,
     pub stamped: bool,
     // the saved nodes one level up, one level down, and at the own node's height
-    pub savedAbove: u8,
-    pub savedBelow: u8,
-    pub savedAtHeight: u8,
+    pub saved_above: u8,
+    pub saved_below: u8,
+    pub saved_at_height: u8,
     // what the place's node and the own node hold
-    pub placeEntry: Entry,
-    pub ownEntry: Entry,
-}
-
-// What an attempt to take a lock gives: the lock is taken, or this processor holds it (02, W1).
-#[derive(Clone, Copy)]
-pub enum Attempt {
-    Taken,
-    HeldBy(u8),
+    pub place_entry: Entry,
+    pub own_entry: Entry,
 }
 
 // A step of a Search: on along the level, one level down, or out of it.

@@ -8,25 +8,25 @@ use crate::decisions::{Decision, Effect, ProcessorChange, StepView};
 use record::{Place, Stage};
 
 // On to another stage, with an effect on one node.
-pub fn moved(s: StepView, e: Effect, g: Stage) -> Decision
-    ensures { result ≡ moved_of s e g }
+pub fn moved(s: StepView, effect: Effect, stage: Stage) -> Decision
+    ensures { result ≡ moved_of s effect stage }
 {
     Decision {
-        effect: e,
-        stage: g,
+        effect,
+        stage,
         own: s.own,
         change: ProcessorChange::Keep,
         answer: Answer::Moved,
     }
 }
 
-// At the stage g still, for a lock that processor h holds.
-pub fn waits(s: StepView, g: Stage, h: u8) -> Decision
-    ensures { result ≡ waits_of s g h }
+// At the same stage still, for a lock that processor h holds.
+pub fn waits(s: StepView, stage: Stage, h: u8) -> Decision
+    ensures { result ≡ waits_of s stage h }
 {
     Decision {
         effect: Effect::Keep,
-        stage: g,
+        stage,
         own: s.own,
         change: ProcessorChange::Keep,
         answer: Answer::Waits(h),
@@ -34,12 +34,12 @@ pub fn waits(s: StepView, g: Stage, h: u8) -> Decision
 }
 
 // On to another stage, a saved for its level.
-pub fn saving(s: StepView, a: Place, g: Stage) -> Decision
-    ensures { result ≡ saving_of s a g }
+pub fn saving(s: StepView, a: Place, stage: Stage) -> Decision
+    ensures { result ≡ saving_of s a stage }
 {
     Decision {
         effect: Effect::Keep,
-        stage: g,
+        stage,
         own: s.own,
         change: ProcessorChange::Save(a),
         answer: Answer::Moved,
@@ -47,14 +47,14 @@ pub fn saving(s: StepView, a: Place, g: Stage) -> Decision
 }
 
 // An answer, which leaves the processor idle.
-pub fn answers(e: Effect, r: Answer) -> Decision
-    ensures { result ≡ answers_of e r }
+pub fn answers(effect: Effect, answer: Answer) -> Decision
+    ensures { result ≡ answers_of effect answer }
 {
     Decision {
-        effect: e,
+        effect,
         stage: Stage::Idle,
         own: 0,
         change: ProcessorChange::Clear,
-        answer: r,
+        answer,
     }
 }

@@ -4,14 +4,13 @@
 -- (W2), and so are markers (W6), asked along that run and run 5, the holders of locks that are
 -- waited for (W1), the Relaxed Delete_Min (W3) and the Remove (W5). proofs/Starred.antt has the one
 -- fact that covers the table.
-use Rattle.std.specs.Prelude.{ℕ, zero, suc, ◌-◌, ◌≡◌, List, [], ◌∷◌, ◌++◌, replicate}
-use Rattle.record_check.specs.declared.counting.Count.TheVariants as count
+use Rattle.std.specs.Prelude.{ℕ, zero, suc, ◌-◌, ◌≡◌, List, [], ◌∷◌, ◌++◌, replicate, Result, Ok, Err}
+use Rattle.record.specs.declared.refusals.Refusal.{Refusal}
 use Rattle.record.specs.declared.queues.Queue.{Queue}
-use Rattle.due.specs.declared.seconds.Minutes.{Minutes}
-use Rattle.due.specs.declared.seconds.Minutes.TheVariants as minutes
 use Rattle.due.specs.Due.{due_from_seconds}
 use Rattle.record_check.specs.Making.{made}
 use Rattle.record.specs.Queues.{fresh_queue, processor_at}
+use Rattle.record.specs.Refusals.{refusal_number}
 use Rattle.rules.specs.Answers.{reported}
 use Rattle.record_markers.specs.Markers.{reported_markers}
 use Rattle.rules.specs.Runs.{Turn, insert, delete_min, relaxed, remove, step_by, backlog, markers}
@@ -32,14 +31,18 @@ pub data Question : Type 0 where
   -- Backlog gives, as its number and values
   backlogs : Queue → List Turn → Question
 
-abbrev pub minutes_numbers : Minutes → List ℕ
-minutes_numbers (minutes.Refused n) = n ∷ 0 ∷ []
-minutes_numbers (minutes.Due m) = 0 ∷ m ∷ []
+abbrev pub making_number : Result Queue Refusal → ℕ
+making_number (Err r) = refusal_number r
+making_number (Ok q) = 0
+
+abbrev pub minutes_numbers : Result ℕ Refusal → List ℕ
+minutes_numbers (Err r) = refusal_number r ∷ 0 ∷ []
+minutes_numbers (Ok m) = 0 ∷ m ∷ []
 
 abbrev pub reply_numbers : Reply → List ℕ
 reply_numbers (answered a) = (reported a).number ∷ (reported a).values
-reply_numbers (counted (count.Refused n)) = n ∷ []
-reply_numbers (counted (count.Pending k)) = 0 ∷ k ∷ []
+reply_numbers (counted (Err r)) = refusal_number r ∷ []
+reply_numbers (counted (Ok k)) = 0 ∷ k ∷ []
 reply_numbers (listed k area) =
     (reported_markers k).number ∷ ((reported_markers k).values ++ area)
 
@@ -49,7 +52,7 @@ backlogs_along q (c ∷ cs) =
     q.clock ∷ (reply_numbers (reply q backlog) ++ backlogs_along (after q c) cs)
 
 abbrev pub result : Question → List ℕ
-result (making p n l) = (made p n l).refusal ∷ []
+result (making p n l) = making_number (made p n l) ∷ []
 result (seconds s) = minutes_numbers (due_from_seconds s)
 result (answer q cs c) = (after (after_all q cs) c).clock ∷ reply_numbers (reply (after_all q cs) c)
 result (own q cs c p) =

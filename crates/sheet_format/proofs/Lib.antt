@@ -1,5 +1,6 @@
 pub mod Digits
 pub mod Found
+pub mod Spaces
 pub mod Stores
 pub mod Padding
 pub mod Table

@@ -2,6 +2,7 @@
 use mathlib.Core.Path.{◌≡◌, refl, sym, ap, ◌∙◌}
 use mathlib.Core.Bool.{Bool, true, false, cond, ◌&&◌}
 use mathlib.Core.List.{List, [], ◌∷◌}
+use Rattle.std.specs.Prelude.{Option, Some, None}
 use Prim.Native.Nat.{ℕ, zero, suc, ◌+◌, ◌≤◌, ◌<◌}
 use native.Mathlib.Decide.{ℕ_discrete}
 use native.Mathlib.Numerals.{add-one}
@@ -12,29 +13,27 @@ use borrow.Author.Tests.{le-leb, lt-leb, eq-eqb, ne_eqb, leb-true}
 use Rattle.laws.specs.Every.{every_below}
 use Rattle.laws.proofs.Counting.{and_left}
 use Rattle.sheet_format.specs.declared.lines.SheetLine.{SheetLine}
-use Rattle.sheet_format.specs.declared.lines.Reading.{Reading}
-use Rattle.sheet_format.specs.declared.lines.Reading.TheVariants as reading
 use Rattle.sheet_format.specs.declared.lines.LetterRule.{LetterRule}
 use Rattle.sheet_format.specs.Letters.{letter_rules}
 use Rattle.sheet_format.specs.Lines.{no_rule, rule_index, letter_of, field_at, within_rule, field_keeps}
 use Rattle.sheet_format.specs.Lines.{fields_keep, numbers_keep, keeps_form, field_numbers}
 use Rattle.sheet_format.specs.Lines.{line_in_form, line, line_of, read_line, first_failing, line_count}
-use Rattle.sheet_format.specs.Lines.{right_letter, first_misplaced}
+use Rattle.sheet_format.specs.Lines.{right_letter, first_misplaced, some_line}
 use Rattle.sheet_format.specs.Lines.{form_report, line_numbers, reported_reading}
 use Rattle.sheet_format.proofs.Table.{letter_count, field_kept, fields_right_lem}
 
 -- what the tests of a line say of its reading
 reads_bad :
     (s : List ℕ) (i : ℕ) → i ≡ rule_index letter_rules (letter_of s) → keeps_form letter_rules 4 s i ≡ false
-    → reading.Bad ≡ read_line s
+    → None ≡ read_line s
 reads_bad s i e h =
-    ap (λ (t : Bool). cond t (reading.Form (line_of s)) reading.Bad) (sym h ∙ ap (keeps_form letter_rules 4 s) e)
+    ap (λ (t : Bool). cond t (Some (line_of s)) None) (sym h ∙ ap (keeps_form letter_rules 4 s) e)
 
 reads_form :
     (s : List ℕ) (i : ℕ) → i ≡ rule_index letter_rules (letter_of s) → keeps_form letter_rules 4 s i ≡ true
-    → reading.Form (line_of s) ≡ read_line s
+    → Some (line_of s) ≡ read_line s
 reads_form s i e h =
-    ap (λ (t : Bool). cond t (reading.Form (line_of s)) reading.Bad) (sym h ∙ ap (keeps_form letter_rules 4 s) e)
+    ap (λ (t : Bool). cond t (Some (line_of s)) None) (sym h ∙ ap (keeps_form letter_rules 4 s) e)
 
 -- the four tests, over any two in the middle
 abbrev tests : Bool → Bool → Bool → Bool → Bool
@@ -68,13 +67,13 @@ fourth_fails a b c d h = no_right (a && b && c) d h
 
 -- the four tests of a rule's fields
 pub four_keep :
-    (r : LetterRule) (a b c d : ℕ) → length r.used ≡ 4
+    (r : LetterRule) (a b c d : ℕ) → length r.fields ≡ 4
     → tests (within_rule r 0 a) (within_rule r 1 b) (within_rule r 2 c) (within_rule r 3 d)
     ≡ numbers_keep r (a ∷ b ∷ c ∷ d ∷ [])
 four_keep r a b c d n =
     sym (ap (every_below (λ k. within_rule r k (get_or (a ∷ b ∷ c ∷ d ∷ []) k 0))) n)
 
-pub read_short : (s : List ℕ) → length s < 30 → reading.Bad ≡ read_line s
+pub read_short : (s : List ℕ) → length s < 30 → None ≡ read_line s
 read_short s h =
     let i = rule_index letter_rules (letter_of s) in
     reads_bad s i refl
@@ -108,14 +107,14 @@ pub line_short : (s : List ℕ) → length s < 30 → line_by s false ≡ line_o
 line_short s h = ap (line_by s) (sym (lt-leb 30 (length s) h))
 
 module _ (s : List ℕ) (i : ℕ) (at_letter : i ≡ rule_index letter_rules (letter_of s)) where
-  pub read_letter : letter_count ≤ i → reading.Bad ≡ read_line s
+  pub read_letter : letter_count ≤ i → None ≡ read_line s
   read_letter h =
       reads_bad s i at_letter
       (second_fails (leb 30 (length s)) (leb (suc i) letter_count)
       (fields_keep (get_or letter_rules i no_rule) s) (eqb (get_or s 29 0) 10)
       (lt-leb (suc i) letter_count (omega arith)))
 
-  pub read_feed : (get_or s 29 0 ≡ 10 → ⊥) → reading.Bad ≡ read_line s
+  pub read_feed : (get_or s 29 0 ≡ 10 → ⊥) → None ≡ read_line s
   read_feed h =
       reads_bad s i at_letter
       (fourth_fails (leb 30 (length s)) (leb (suc i) letter_count)
@@ -139,7 +138,7 @@ module _ (s : List ℕ) (i : ℕ) (at_letter : i ≡ rule_index letter_rules (le
   module _ (known : i < letter_count) where
     pub read_fields :
         numbers_keep (get_or letter_rules i no_rule) (field_numbers s 4) ≡ false
-        → reading.Bad ≡ read_line s
+        → None ≡ read_line s
     read_fields h =
         reads_bad s i at_letter
         (third_fails (leb 30 (length s)) (leb (suc i) letter_count)
@@ -150,10 +149,10 @@ module _ (s : List ℕ) (i : ℕ) (at_letter : i ≡ rule_index letter_rules (le
         30 ≤ length s
         → numbers_keep (get_or letter_rules i no_rule) (field_numbers s 4) ≡ true
         → get_or s 29 0 ≡ 10
-        → reading.Form (line (letter_of s) (field_at s 0) (field_at s 1) (field_at s 2) (field_at s 3))
+        → Some (line (letter_of s) (field_at s 0) (field_at s 1) (field_at s 2) (field_at s 3))
         ≡ read_line s
     read_form long keep feed =
-        ap reading.Form (line_whole s long)
+        ap Some (line_whole s long)
         ∙ reads_form s i at_letter
         (all_hold (leb 30 (length s)) (leb (suc i) letter_count)
         (fields_keep (get_or letter_rules i no_rule) s) (eqb (get_or s 29 0) 10)
@@ -180,36 +179,36 @@ reading_reported s = go (line_in_form s) refl
         (t : Bool) → line_in_form s ≡ t
         → reported_reading (read_line s) ≡ form_report (line_in_form s) (line_numbers s)
     go true e =
-        rw e (ap (λ (l : SheetLine). reported_reading (reading.Form l))
+        rw e (ap (λ (l : SheetLine). reported_reading (Some l))
         (sym (line_whole s (form_long s e))))
     go false e = rw e refl
 
 -- a reading that is the definition's, and in numbers
 pub said :
-    (s : List ℕ) {r : Reading} → r ≡ read_line s →
+    (s : List ℕ) {r : Option SheetLine} → r ≡ read_line s →
     (r ≡ read_line s) × (reported_reading r ≡ form_report (line_in_form s) (line_numbers s))
 said s e = (e, ap reported_reading e ∙ reading_reported s)
 
 -- the answer of a reading
-answer_bad : (t : Bool) (l : SheetLine) → reading.Bad ≡ cond t (reading.Form l) reading.Bad → false ≡ t
+answer_bad : (t : Bool) (l : SheetLine) → None ≡ cond t (Some l) None → false ≡ t
 answer_bad true l h = cc
 answer_bad false l h = refl
 
-answer_form : (t : Bool) (l m : SheetLine) → reading.Form m ≡ cond t (reading.Form l) reading.Bad → true ≡ t
+answer_form : (t : Bool) (l m : SheetLine) → Some m ≡ cond t (Some l) None → true ≡ t
 answer_form true l m h = refl
 answer_form false l m h = cc
 
-pub bad_not : (s : List ℕ) → reading.Bad ≡ read_line s → false ≡ line_in_form s
+pub bad_not : (s : List ℕ) → None ≡ read_line s → false ≡ line_in_form s
 bad_not s h = answer_bad (line_in_form s) (line_of s) h
 
-pub form_is : (s : List ℕ) (m : SheetLine) → reading.Form m ≡ read_line s → true ≡ line_in_form s
+pub form_is : (s : List ℕ) (m : SheetLine) → Some m ≡ read_line s → true ≡ line_in_form s
 form_is s m h = answer_form (line_in_form s) (line_of s) m h
 
-answer_line : (t : Bool) (l m : SheetLine) → reading.Form m ≡ cond t (reading.Form l) reading.Bad → m ≡ l
+answer_line : (t : Bool) (l m : SheetLine) → Some m ≡ cond t (Some l) None → m ≡ l
 answer_line true l m h = cc
 answer_line false l m h = cc
 
-pub form_line : (s : List ℕ) (m : SheetLine) → reading.Form m ≡ read_line s → m ≡ line_of s
+pub form_line : (s : List ℕ) (m : SheetLine) → Some m ≡ read_line s → m ≡ line_of s
 form_line s m h = answer_line (line_in_form s) (line_of s) m h
 
 -- of n lines the first that fails is line k + 1, if none of the k before it does
@@ -235,3 +234,32 @@ passes_more f k before passes =
 -- a sheet with lines
 pub misplaced_at : (s : List ℕ) (n : ℕ) → (line_count s ≡ 0 → ⊥) → first_failing (right_letter s) (line_count s) ≡ n → n ≡ first_misplaced s
 misplaced_at s n h e = sym e ∙ ap (λ (t : Bool). cond t 1 (first_failing (right_letter s) (line_count s))) (sym (ne_eqb (line_count s) 0 h))
+
+-- the same as a line that is told, or none
+pub line_told : (k n : ℕ) → k + 1 ≡ n → Some (k + 1) ≡ some_line n
+line_told k n e =
+    let z : (k + 1 ≡ 0 → ⊥) = λ f. omega arith in
+    sym (ap some_line (sym e) ∙ rw (ne_eqb (k + 1) 0 z) refl)
+
+pub none_told : (n : ℕ) → n ≡ 0 → None ≡ some_line n
+none_told n e = sym (ap some_line e)
+
+pub told_is : (k n : ℕ) → Some k ≡ some_line n → (k ≡ n) × (0 < n)
+told_is k n h = go (ℕ_discrete n 0)
+  where
+    go : Dec (n ≡ 0) → (k ≡ n) × (0 < n)
+    go (yes e) = let f : Some k ≡ None = h ∙ ap some_line e in absurd cc
+    go (no e) =
+        let f : some_line n ≡ Some n = rw (ne_eqb n 0 e) refl in
+        let g : Some k ≡ Some n = h ∙ f in
+        (cc, omega arith)
+
+pub told_none : (n : ℕ) → None ≡ some_line n → n ≡ 0
+told_none n h = go (ℕ_discrete n 0)
+  where
+    go : Dec (n ≡ 0) → n ≡ 0
+    go (yes e) = e
+    go (no e) =
+        let f : some_line n ≡ Some n = rw (ne_eqb n 0 e) refl in
+        let g : None ≡ Some n = h ∙ f in
+        absurd cc

@@ -1,7 +1,8 @@
 -- The bytes of sheets and histories, and the table of the sheet's letters (01, sheet and history).
 -- A field that a letter does not use is 0. Of those that it uses the form bounds the count of steps
 -- alone; every other number is the call's business.
-use Rattle.std.specs.Prelude.{ℕ, Bool, true, false, List, [], ◌∷◌}
+use Rattle.std.specs.Prelude.{ℕ, List, [], ◌∷◌, Option, Some, None}
+use Rattle.sheet_format.specs.declared.lines.FieldBounds.{FieldBounds}
 use Rattle.sheet_format.specs.declared.lines.LetterRule.{LetterRule}
 
 -- no letter: what stands where no line is printed
@@ -61,22 +62,26 @@ letter_x = 88
 abbrev pub max_field : ℕ
 max_field = 9999999
 
-abbrev pub rule : ℕ → List Bool → List ℕ → List ℕ → LetterRule
-rule letter used low high = record { letter = letter; used = used; low = low; high = high }
+abbrev pub rule : ℕ → List (Option FieldBounds) → LetterRule
+rule letter fields = record { letter = letter; fields = fields }
+
+-- a field that a letter uses, with its bounds: of any number, or the count of steps
+abbrev pub used : ℕ → ℕ → Option FieldBounds
+used low high = Some (record { low = low; high = high })
+
+abbrev pub any : Option FieldBounds
+any = used 0 max_field
+
+abbrev pub steps : Option FieldBounds
+steps = used 1 999
 
 -- the letters, each with the fields that it uses and their bounds
 abbrev pub letter_rules : List LetterRule
 letter_rules =
-    rule letter_q (true ∷ true ∷ true ∷ false ∷ []) (0 ∷ 0 ∷ 0 ∷ 0 ∷ [])
-    (max_field ∷ max_field ∷ max_field ∷ 0 ∷ [])
-    ∷ rule letter_i (true ∷ true ∷ true ∷ true ∷ []) (0 ∷ 0 ∷ 0 ∷ 0 ∷ [])
-    (max_field ∷ max_field ∷ max_field ∷ max_field ∷ [])
-    ∷ rule letter_d (true ∷ false ∷ false ∷ false ∷ []) (0 ∷ 0 ∷ 0 ∷ 0 ∷ [])
-    (max_field ∷ 0 ∷ 0 ∷ 0 ∷ [])
-    ∷ rule letter_l (true ∷ false ∷ false ∷ false ∷ []) (0 ∷ 0 ∷ 0 ∷ 0 ∷ [])
-    (max_field ∷ 0 ∷ 0 ∷ 0 ∷ [])
-    ∷ rule letter_x (true ∷ true ∷ true ∷ false ∷ []) (0 ∷ 0 ∷ 0 ∷ 0 ∷ [])
-    (max_field ∷ max_field ∷ max_field ∷ 0 ∷ [])
-    ∷ rule letter_s (true ∷ true ∷ false ∷ false ∷ []) (0 ∷ 1 ∷ 0 ∷ 0 ∷ [])
-    (max_field ∷ 999 ∷ 0 ∷ 0 ∷ [])
+    rule letter_q (any ∷ any ∷ any ∷ None ∷ [])
+    ∷ rule letter_i (any ∷ any ∷ any ∷ any ∷ [])
+    ∷ rule letter_d (any ∷ None ∷ None ∷ None ∷ [])
+    ∷ rule letter_l (any ∷ None ∷ None ∷ None ∷ [])
+    ∷ rule letter_x (any ∷ any ∷ any ∷ None ∷ [])
+    ∷ rule letter_s (any ∷ steps ∷ None ∷ None ∷ [])
     ∷ []

@@ -1,11 +1,10 @@
 -- A line has its letter, some fields of seven columns, and a line feed; a sheet's has four fields
 -- and is thirty bytes long (01, sheet and history).
-use Rattle.std.specs.Prelude.{ℕ, zero, suc, ◌+◌, ◌-◌, ◌*◌, ◌/◌, Bool, false, cond, ◌&&◌, not, List, [], ◌∷◌, ◌++◌, leb, eqb, length, get_or, drop}
+use Rattle.std.specs.Prelude.{ℕ, zero, suc, ◌+◌, ◌-◌, ◌*◌, ◌/◌, Bool, cond, ◌&&◌, not, List, [], ◌∷◌, ◌++◌, Option, Some, None, leb, eqb, length, get_or, drop}
 use Rattle.laws.specs.Every.{every_below}
 use Rattle.record.specs.Report.{Report, report}
 use Rattle.sheet_format.specs.declared.lines.SheetLine.{SheetLine}
-use Rattle.sheet_format.specs.declared.lines.Reading.{Reading}
-use Rattle.sheet_format.specs.declared.lines.Reading.TheVariants as reading
+use Rattle.sheet_format.specs.declared.lines.FieldBounds.{FieldBounds}
 use Rattle.sheet_format.specs.declared.lines.LetterRule.{LetterRule}
 use Rattle.sheet_format.specs.Columns.{width, in_form, number_of, all_columns}
 use Rattle.sheet_format.specs.Letters.{line_feed, letter_q, letter_rules}
@@ -21,7 +20,7 @@ line_bytes letter numbers = letter ∷ (all_columns numbers ++ (line_feed ∷ []
 
 -- a rule that no line keeps: what the table has past its end
 abbrev pub no_rule : LetterRule
-no_rule = record { letter = 0; used = []; low = []; high = [] }
+no_rule = record { letter = 0; fields = [] }
 
 -- the place of a letter in the table; past its end if the letter is none of the sheet's
 abbrev pub rule_index : List LetterRule → ℕ → ℕ
@@ -39,11 +38,14 @@ field_part s k = drop (1 + width * k) s
 abbrev pub field_at : List ℕ → ℕ → ℕ
 field_at s k = number_of (field_part s k)
 
--- n lies between the letter's bounds of field k or, where the letter does not use it, is 0
+-- n lies between a field's bounds or, where the field is not used, is 0
+abbrev pub within_bounds : Option FieldBounds → ℕ → Bool
+within_bounds None n = eqb n 0
+within_bounds (Some b) n = leb b.low n && leb n b.high
+
+-- the same of the letter's field k
 abbrev pub within_rule : LetterRule → ℕ → ℕ → Bool
-within_rule r k n =
-    cond (get_or r.used k false) (leb (get_or r.low k 0) n && leb n (get_or r.high k 0))
-    (eqb n 0)
+within_rule r k n = within_bounds (get_or r.fields k None) n
 
 -- field k is in form, and its number in bounds
 abbrev pub field_keeps : LetterRule → List ℕ → ℕ → Bool
@@ -51,11 +53,11 @@ field_keeps r s k = in_form (field_part s k) && within_rule r k (field_at s k)
 
 -- all fields of the letter keep its rule
 abbrev pub fields_keep : LetterRule → List ℕ → Bool
-fields_keep r s = every_below (field_keeps r s) (length r.used)
+fields_keep r s = every_below (field_keeps r s) (length r.fields)
 
 -- the same of fields that have these numbers
 abbrev pub numbers_keep : LetterRule → List ℕ → Bool
-numbers_keep r numbers = every_below (λ k. within_rule r k (get_or numbers k 0)) (length r.used)
+numbers_keep r numbers = every_below (λ k. within_rule r k (get_or numbers k 0)) (length r.fields)
 
 -- a line with so many fields, by the rule at this place of a table
 abbrev pub keeps_form : List LetterRule → ℕ → List ℕ → ℕ → Bool
@@ -96,8 +98,8 @@ line_of s =
     (line (letter_of s) (field_at s 0) (field_at s 1) (field_at s 2) (field_at s 3))
     (line (letter_of s) 0 0 0 0)
 
-abbrev pub read_line : List ℕ → Reading
-read_line s = cond (line_in_form s) (reading.Form (line_of s)) reading.Bad
+abbrev pub read_line : List ℕ → Option SheetLine
+read_line s = cond (line_in_form s) (Some (line_of s)) None
 
 -- the letter and the numbers of the line that s starts with
 abbrev pub line_numbers : List ℕ → List ℕ
@@ -108,9 +110,9 @@ abbrev pub form_report : Bool → List ℕ → Report
 form_report form values = cond form (report 0 values) (report 41 [])
 
 -- a reading in document 01's numbers: 0 with its letter and its four numbers, or refusal 41
-abbrev pub reported_reading : Reading → Report
-reported_reading reading.Bad = report 41 []
-reported_reading (reading.Form l) =
+abbrev pub reported_reading : Option SheetLine → Report
+reported_reading None = report 41 []
+reported_reading (Some l) =
     report 0 (l.letter ∷ l.first ∷ l.second ∷ l.third ∷ l.fourth ∷ [])
 
 -- ---- all lines of a sheet
@@ -128,6 +130,10 @@ abbrev pub first_failing : (ℕ → Bool) → ℕ → ℕ
 first_failing keeps zero = 0
 first_failing keeps (suc n) =
     cond (leb 1 (first_failing keeps n)) (first_failing keeps n) (cond (keeps (suc n)) 0 (suc n))
+
+-- a line by its number, or none for 0
+abbrev pub some_line : ℕ → Option ℕ
+some_line n = cond (eqb n 0) None (Some n)
 
 -- what 41 tells: the first line that is out of form, a last one that is cut off among them
 abbrev pub first_out_of_form : List ℕ → ℕ

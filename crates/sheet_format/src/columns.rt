@@ -1,9 +1,11 @@
 // Numbers in seven columns: read, and written.
-ghost use Rattle.std.specs.Prelude.{◌≡◌, true, false, ◌+◌, ◌≤◌, ◌<◌, length, get_or, drop};
+ghost use Rattle.std.specs.Prelude.{◌≡◌, true, false, ◌+◌, ◌≤◌, ◌<◌, ◌≢◌, ℕ};
+ghost use Rattle.std.specs.Prelude.{length, get_or, drop, slice_index};
 ghost use Rattle.std.proofs.lemmas.List.Edits.{sets};
 ghost use Rattle.sheet_format.specs.Columns.{is_space, is_digit, blank_to, value_to, number_of};
 ghost use Rattle.sheet_format.specs.Columns.{last_digit, padded_digit, columns};
 ghost use Rattle.sheet_format.specs.Digits.{extended_by, NumberSoFar};
+ghost use Rattle.sheet_format.specs.Letters.{space};
 
 use crate::letters::{DIGIT_ZERO, NO_NUMBER, SPACE, WIDTH};
 
@@ -15,11 +17,7 @@ const BEFORE_LAST: usize = WIDTH - 2;
 fn is_digit(c: u8) -> bool
     ensures { result ≡ is_digit c }
 {
-    if DIGIT_ZERO <= c {
-        c <= DIGIT_ZERO + 9
-    } else {
-        false
-    }
+    c.is_ascii_digit()
 }
 
 // The value so far, extended by a digit.
@@ -30,20 +28,25 @@ fn extended(value: u32, c: u8) -> u32
     value * 10 + (c - DIGIT_ZERO) as u32
 }
 
+// How many spaces there are before the first byte that is none.
+pub fn spaces_before(columns: &[u8]) -> usize
+    ensures within { result ≤ length columns.now }
+    ensures before { (k : ℕ) → k < result → slice_index columns.now k ≡ space }
+    ensures found { result < length columns.now → slice_index columns.now result ≢ space }
+{
+    columns
+        .iter()
+        .position(|&c| c != SPACE)
+        .unwrap_or(columns.len())
+}
+
 // How many of the first `width` columns at `at` hold spaces before the first that does not.
 fn spaces_at(line: &[u8], at: usize, width: usize) -> usize
     requires { (width ≤ 7) × (at + width ≤ length line.now) }
     ensures upper_bound { (result ≤ width) × (blank_to (drop at line.now) result ≡ true) }
     ensures result_value { result < width → is_space (get_or (drop at line.now) result 0) ≡ false }
 {
-    let mut k: usize = 0;
-    while k < width {
-        if line[at + k] != SPACE {
-            return k;
-        }
-        k = k + 1;
-    }
-    k
+    spaces_before(&line[at..at + width])
 }
 
 // The first `width` columns at `at`, of which the first `from` were read as a number above 0: the
@@ -54,14 +57,12 @@ fn digits_behind(line: &[u8], at: usize, width: usize, from: usize, start: u32) 
     ensures { result ≡ value_to (drop at line.now) width }
 {
     let mut value = start;
-    let mut k = from;
-    while k < width {
+    for k in from..width {
         let c = line[at + k];
         if !is_digit(c) {
             return NO_NUMBER;
         }
         value = extended(value, c);
-        k = k + 1;
     }
     value
 }
@@ -83,10 +84,7 @@ fn value_at(line: &[u8], at: usize, width: usize) -> u32
     let behind = first + 1;
     if digit == 0 {
         // nothing may stand behind a 0
-        if behind < width {
-            return NO_NUMBER;
-        }
-        return 0;
+        return if behind < width { NO_NUMBER } else { 0 };
     }
     digits_behind(line, at, width, behind, digit)
 }
@@ -124,7 +122,7 @@ pub(crate) fn number_at(line: &[u8], at: usize) -> u32
 pub fn byte_at(part: &[u8], k: usize) -> u8
     ensures { result ≡ get_or part.now k 0 }
 {
-    if k < part.len() { part[k] } else { 0 }
+    part.get(k).copied().unwrap_or(0)
 }
 
 fn last_digit(n: u32) -> u8
@@ -145,13 +143,11 @@ pub(crate) fn columns_into(area: &mut [u8], at: usize, n: u32)
     requires { at + 7 ≤ length area.old }
     ensures { area.new ≡ sets area.old at (columns n) }
 {
-    area[at + 6] = last_digit(n);
+    area[at + LAST] = last_digit(n);
     let mut rest = n / 10;
-    let mut k: usize = 6;
-    while 0 < k {
-        k = k - 1;
+    for k in (0..LAST).rev() {
         area[at + k] = padded_digit(rest);
-        rest = rest / 10;
+        rest /= 10;
     }
 }
 

@@ -5,6 +5,7 @@ ghost use Rattle.sheet_format.specs.Events.{event_bytes, room_at, with_event};
 
 use crate::columns::columns_into;
 use crate::letters::{EVENT, LINE_FEED};
+use record::Refusal;
 
 // A line of the history.
 #[derive(Clone, Copy)]
@@ -17,11 +18,11 @@ pub struct HistoryLine {
     pub third: u32,
 }
 
-// A refusal with its number and line, or the length of the history in bytes.
-#[derive(Clone, Copy)]
-pub enum SheetOutcome {
-    Refused(u8, usize),
-    Length(usize),
+// Why a sheet is refused, and for which of its lines, from 1; 0 where it is for none of them.
+#[derive(Clone, Copy, Debug, PartialEq, Eq)]
+pub struct SheetRefusal {
+    pub refusal: Refusal,
+    pub line: usize,
 }
 
 // A line of the history, written at `at`.
@@ -44,14 +45,9 @@ pub fn append_event(area: &mut [u8], at: usize, e: HistoryLine, writing: bool) -
     ensures value { result ≡ room_at area.old at }
     ensures area_after { area.new ≡ with_event area.old at e writing }
 {
-    if area.len() < at {
-        return false;
-    }
-    if area.len() - at < EVENT {
-        return false;
-    }
-    if writing {
+    let room = EVENT <= area.len().saturating_sub(at);
+    if room && writing {
         event_into(area, at, e);
     }
-    true
+    room
 }

@@ -1,4 +1,5 @@
-// The numbers of a sheet's lines, kept by the check of their form for the run.
+// The numbers of a sheet's lines, kept by the check of their form for the run: four for each line,
+// in a list of any length, which may end within a line.
 ghost use Rattle.std.specs.Prelude.{◌≡◌};
 ghost use Rattle.sheet_format.specs.Kept.{with_line, kept_line};
 

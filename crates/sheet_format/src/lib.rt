@@ -9,5 +9,5 @@ pub mod kept;
 pub mod letters;
 pub mod lines;
 
-pub use events::{HistoryLine, SheetOutcome};
-pub use lines::{LetterRule, Reading, SheetLine};
+pub use events::{HistoryLine, SheetRefusal};
+pub use lines::{FieldBounds, LetterRule, SheetLine};

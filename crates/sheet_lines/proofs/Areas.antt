@@ -3,20 +3,21 @@
 use mathlib.Core.Path.{◌≡◌, sym, ap, ◌∙◌}
 use mathlib.Core.Bool.{Bool, false, cond}
 use mathlib.Core.List.{List, ◌∷◌, ◌++◌}
+use Rattle.std.specs.Prelude.{Ok, Err}
 use Prim.Native.Nat.{ℕ, ◌+◌, ◌-◌, ◌*◌, ◌≤◌, ◌<◌}
 use native.Mathlib.Omega.{arith}
 use lib.ListN.{length, length-append}
 use lib.Seq.{take_all, take_at}
 use Rattle.record.specs.declared.queues.Queue.{Queue}
+use Rattle.record.specs.declared.refusals.Refusal.TheVariants as refusal
 use Rattle.rules.specs.Runs.{Turn, calls, after, after_all}
 use Rattle.sheet_format.specs.declared.events.HistoryLine.{HistoryLine}
-use Rattle.sheet_format.specs.declared.events.SheetOutcome.TheVariants as ran
 use Rattle.sheet_format.specs.declared.lines.SheetLine.{SheetLine}
 use Rattle.sheet_format.specs.Calls.{call_of, sheet_calls, all_calls, call_prints, calls_print}
 use Rattle.sheet_format.specs.Events.{history_bytes, room_at, with_event}
 use Rattle.sheet_format.specs.Lines.{line_count}
 use Rattle.laws.specs.Front.{at_front}
-use Rattle.sheet_format.specs.Sheets.{history, fitted}
+use Rattle.sheet_format.specs.Sheets.{history, fitted, refused_at}
 use Rattle.sheet_format.proofs.Reports.{fits_length, refuses_long}
 use Rattle.sheet_format.proofs.Written.{length_history, history_append}
 use Rattle.sheet_lines.proofs.Histories.{prints_append, prints_first}
@@ -70,9 +71,9 @@ module _
       let n : at ≡ length (history s q₀) = b.written.long ∙ ap length whole in
       omega (arith, n, b.written.fits)
 
-  pub all_told : ran.Length at ≡ fitted (history s q₀) (length a₀)
+  pub all_told : Ok at ≡ fitted (history s q₀) (length a₀)
   all_told =
-      ap ran.Length (b.written.long ∙ ap length whole)
+      ap Ok (b.written.long ∙ ap length whole)
       ∙ sym (fits_length (history s q₀) (length a₀) fits)
 
   pub all_written : a ≡ area_with (history s q₀) a₀ w
@@ -101,7 +102,7 @@ module _
       ∙ ap (λ (fs : List HistoryLine). es ++ fs)
       (prints_first (calls (call_of l)) o.rest (after_all q₀ made))
 
-  pub long_told : ran.Refused 43 0 ≡ fitted (history s q₀) (length a₀)
+  pub long_told : Err (refused_at refusal.Room 0) ≡ fitted (history s q₀) (length a₀)
   long_told =
       let n = length_history (calls_print q₀ (all_calls s q₀)) in
       let m = length_history es in

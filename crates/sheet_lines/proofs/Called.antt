@@ -42,8 +42,8 @@ module _ (b : List ℕ) (s : Sound b) where
   unfolding queue_in
   short_enough =
       let z = (valid_facts (queue_in b) s.passes).sizes in
-      let p : get_or b 0 0 ≤ 16 = z.processorCount.high in
-      let n : get_or b 1 0 ≤ 200 = z.nodeCount.high in
+      let p : get_or b 0 0 ≤ 16 = z.processor_count.high in
+      let n : get_or b 1 0 ≤ 200 = z.node_count.high in
       omega (arith, s.long, p, n)
 
   pub clock_high : number32 b 3 ≤ 999999

@@ -3,13 +3,14 @@
 use mathlib.Core.Path.{◌≡◌, refl, sym, ap, ◌∙◌, subst}
 use mathlib.Core.Bool.{Bool, true, false, cond}
 use mathlib.Core.List.{List, ◌++◌, append-nil}
+use Rattle.std.specs.Prelude.{Option, Some, None}
 use Prim.Native.Nat.{ℕ, zero, suc, ◌+◌, ◌-◌, ◌≤◌, ◌<◌}
 use native.Mathlib.Omega.{arith}
-use lib.Dec.{ltb, leb, eqb}
+use lib.Dec.{ltb, leb}
 use lib.ListN.{length, set}
 use lib.Seq.{set-get_or}
-use borrow.Author.Tests.{lt-leb, lt-ltb, le-ltb, ltb-true, ltb-false, eqb-true}
-use Rattle.laws.proofs.Booleans.{cond_elim, cond_cases, no}
+use borrow.Author.Tests.{lt-leb, lt-ltb, le-ltb, ltb-true, ltb-false}
+use Rattle.laws.proofs.Booleans.{cond_cases, no}
 use Rattle.record_check.specs.Check.{valid}
 use Rattle.record.specs.declared.nodes.Node.{Node}
 use Rattle.record.specs.declared.queues.Processor.{Processor}
@@ -22,11 +23,12 @@ use Rattle.rules.specs.declared.answers.Answer.{Answer}
 use Rattle.rules.specs.declared.answers.Answer.TheVariants as ans
 use Rattle.rules.specs.declared.answers.Outcome.{Outcome}
 use Rattle.rules.specs.declared.decisions.Decision.{Decision}
-use Rattle.rules.specs.Answers.{refused, is_refused, is_waits}
+use Rattle.record.specs.declared.refusals.Refusal.{Refusal}
+use Rattle.rules.specs.Answers.{is_refused, is_waits}
 use Rattle.rules.specs.declared.calls.Call.{Call}
 use Rattle.rules.specs.declared.calls.Call.TheVariants as call
 use Rattle.rules.specs.Calls.{reading_place, step_view_of, step_decision, decision_of, refusal_of}
-use Rattle.rules.specs.Calls.{processor_of, called_valid, called}
+use Rattle.rules.specs.Calls.{processor_of, outcome_by, called_valid, called}
 use Rattle.rules.specs.Runs.{Turn}
 use Rattle.rules.proofs.Inner.{call_inner}
 use Rattle.rules.proofs.Allowed.{Allowed, allowed, busy_steps}
@@ -69,9 +71,9 @@ nothing_changes q p h a =
     left : List Node → List Processor → Outcome
     left ns cs = record {
       queue = record {
-        processorCount = q.processorCount;
-        nodeCount = q.nodeCount;
-        levelCount = q.levelCount;
+        processor_count = q.processor_count;
+        node_count = q.node_count;
+        level_count = q.level_count;
         clock = q.clock + 1;
         nodes = ns;
         processors = cs;
@@ -82,7 +84,7 @@ nothing_changes q p h a =
 -- the line's next call waits, whatever the clock is below its end
 pub record Waiting (l : SheetLine) (q : Queue) : Type 0 where
   pub steps : call_of l ≡ call.Step l.first
-  pub known : leb q.processorCount l.first ≡ false
+  pub known : leb q.processor_count l.first ≡ false
   pub busy : is_idle (processor_at q l.first).stage ≡ false
   pub stands : is_waits (step_decision q (processor_at q l.first)).answer ≡ true
 
@@ -112,12 +114,12 @@ once l q w h =
 later_none : (q : Queue) → q ≡ later q 0
 later_none q =
     let e : q.clock ≡ q.clock + 0 = omega arith in
-    ap (λ (c : ℕ). record { processorCount = q.processorCount; nodeCount = q.nodeCount; levelCount = q.levelCount; clock = c; nodes = q.nodes; processors = q.processors }) e
+    ap (λ (c : ℕ). record { processor_count = q.processor_count; node_count = q.node_count; level_count = q.level_count; clock = c; nodes = q.nodes; processors = q.processors }) e
 
 same_clock : (q : Queue) (m : ℕ) → later (later q 1) m ≡ later q (suc m)
 same_clock q m =
     let e : q.clock + 1 + m ≡ q.clock + suc m = omega arith in
-    ap (λ (c : ℕ). record { processorCount = q.processorCount; nodeCount = q.nodeCount; levelCount = q.levelCount; clock = c; nodes = q.nodes; processors = q.processors }) e
+    ap (λ (c : ℕ). record { processor_count = q.processor_count; node_count = q.node_count; level_count = q.level_count; clock = c; nodes = q.nodes; processors = q.processors }) e
 
 passes_later : (l : SheetLine) (m : ℕ) (q : Queue) → Waiting l q → q.clock + m ≤ max_number → valid q ≡ true → valid (later q m) ≡ true
 passes_later l zero q w b v = ap valid (sym (later_none q)) ∙ v
@@ -184,7 +186,11 @@ Moves o = is_waits o.answer ≡ false
 
 module _ (q : Queue) where
   begin_moves : (c : Call) → is_waits (decision_of q c).answer ≡ false → Moves (called_valid q c)
-  begin_moves c d = cond_elim Moves (eqb (refusal_of q c) 0) _ _ d refl
+  begin_moves c d = by_refusal (refusal_of q c)
+    where
+      by_refusal : (r : Option Refusal) → Moves (outcome_by q c r)
+      by_refusal None = d
+      by_refusal (Some r) = refl
 
   waits_steps :
       (c : Call) → is_waits (called_valid q c).answer ≡ true → c ≡ call.Step (processor_of c)
@@ -200,17 +206,15 @@ module _ (q : Queue) where
       (p : ℕ) → is_waits (called_valid q (call.Step p)).answer ≡ true →
       Allowed q (call.Step p)
       × (is_waits (accepted q p (step_decision q (processor_at q p))).answer ≡ true)
-  waited_step p = go (eqb (refusal_of q (call.Step p)) 0) refl
+  waited_step p = go (refusal_of q (call.Step p)) refl
     where
       c : Call
       c = call.Step p
 
-      go : (t : Bool) → eqb (refusal_of q c) 0 ≡ t →
-          is_waits
-          (cond t (accepted q p (decision_of q c)) (refused q (refusal_of q c))).answer ≡ true →
+      go : (r : Option Refusal) → refusal_of q c ≡ r → is_waits (outcome_by q c r).answer ≡ true →
           Allowed q c × (is_waits (accepted q p (decision_of q c)).answer ≡ true)
-      go true z e = (allowed q c (eqb-true (refusal_of q c) 0 z), e)
-      go false z e = no e
+      go None z e = (allowed q c z, e)
+      go (Some r) z e = no e
 
 module _ (l : SheetLine) (q : Queue) where
   waiting : is_waits (call_on l q).answer ≡ true → (q.clock < max_number) × Waiting l q
@@ -259,7 +263,7 @@ trimmed : (b : List ℕ) → Sound b → Trim (queue_in b)
 unfolding queue_in
 trimmed b s =
     let z = (valid_facts (queue_in b) s.passes).sizes in
-    trim_in b z.processorCount.high z.nodeCount.high
+    trim_in b z.processor_count.high z.node_count.high
 
 -- the image of a record whose clock is later is read as it
 later_read : (b : List ℕ) → Sound b → (m : ℕ) → queue_in (image_of (later (queue_in b) m)) ≡ later (queue_in b) m

@@ -11,9 +11,9 @@ waits_left left time = cond (ltb left (max_number - time)) left (max_number - ti
 -- a record whose clock is m later
 abbrev pub later : Queue → ℕ → Queue
 later q m = record {
-  processorCount = q.processorCount;
-  nodeCount = q.nodeCount;
-  levelCount = q.levelCount;
+  processor_count = q.processor_count;
+  node_count = q.node_count;
+  level_count = q.level_count;
   clock = q.clock + m;
   nodes = q.nodes;
   processors = q.processors;

@@ -16,12 +16,8 @@ use sheet_format::letters::{LETTER_D, LETTER_I, LETTER_L, LETTER_X};
 pub fn calls_of(l: SheetLine) -> u32
     ensures { result ≡ calls_of l }
 {
-    let letter = l.letter;
-    match letter {
-        LETTER_I => 1,
-        LETTER_D => 1,
-        LETTER_L => 1,
-        LETTER_X => 1,
+    match l.letter {
+        LETTER_I | LETTER_D | LETTER_L | LETTER_X => 1,
         _ => l.second,
     }
 }
@@ -32,19 +28,13 @@ pub fn call_line(image: &mut [u8], l: SheetLine) -> Answer
     requires { Sound image.old }
     ensures { Called image.old (call_of l) image.new result }
 {
-    if l.letter == LETTER_I {
-        return begin_insert_at(image, l.first, l.second, l.third, l.fourth);
+    match l.letter {
+        LETTER_I => begin_insert_at(image, l.first, l.second, l.third, l.fourth),
+        LETTER_D => begin_delete_min_at(image, l.first),
+        LETTER_L => begin_relaxed_at(image, l.first),
+        LETTER_X => begin_remove_at(image, l.first, l.second, l.third),
+        _ => step_at(image, l.first),
     }
-    if l.letter == LETTER_D {
-        return begin_delete_min_at(image, l.first);
-    }
-    if l.letter == LETTER_L {
-        return begin_relaxed_at(image, l.first);
-    }
-    if l.letter == LETTER_X {
-        return begin_remove_at(image, l.first, l.second, l.third);
-    }
-    step_at(image, l.first)
 }
 
 // How many of the calls that are left are made after this answer: a refused call ends its line.

@@ -10,8 +10,9 @@ use crate::printing::{event_for, is_silent};
 use crate::waits::pass_waits;
 use image::header;
 use image::numbers::number_from;
+use record::Refusal;
 use rules::answers::is_waits;
-use sheet_format::SheetOutcome;
+use sheet_format::SheetRefusal;
 use sheet_format::events::append_event;
 use sheet_format::forms::line_count;
 use sheet_format::kept::kept_line;
@@ -28,7 +29,7 @@ pub fn run_lines(
     area: &mut [u8],
     writing: bool,
     kept: &[u32],
-) -> SheetOutcome
+) -> Result<usize, SheetRefusal>
     requires { Sound image.old × IsKept sheet.now kept.now }
     ensures value { result
         ≡ fitted (history_of sheet.now (queue_in image.old))
@@ -41,16 +42,13 @@ pub fn run_lines(
         (length area.old)) }
 {
     let count = line_count(sheet);
-    let mut at: usize = 0;
-    let mut k: usize = 1;
-    while k < count {
-        let from = LINE * k;
-        let part = &sheet[from..];
-        let l = kept_line(part, kept, k);
-        k = k + 1;
+    let mut at = 0;
+    for k in 1..count {
+        let l = kept_line(&sheet[LINE * k..], kept, k);
+        // the answers say how many of the line's calls are left
         let mut left = calls_of(l);
         while 0 < left {
-            left = left - 1;
+            left -= 1;
             let answer = call_line(image, l);
             if is_waits(answer) {
                 left = pass_waits(image, left);
@@ -60,13 +58,16 @@ pub fn run_lines(
             if is_silent(l, answer) {
                 continue;
             }
-            let t = number_from(image, header::CLOCK);
-            let e = event_for(l, t, answer);
-            if !append_event(area, at, e, writing) {
-                return SheetOutcome::Refused(43, 0);
+            let time = number_from(image, header::CLOCK);
+            let line = event_for(l, time, answer);
+            if !append_event(area, at, line, writing) {
+                return Err(SheetRefusal {
+                    refusal: Refusal::Room,
+                    line: 0,
+                });
             }
-            at = at + EVENT;
+            at += EVENT;
         }
     }
-    SheetOutcome::Length(at)
+    Ok(at)
 }

@@ -19,17 +19,11 @@ const LETTERS: [u8; 9] = [
     NO_LETTER, NO_LETTER, NO_LETTER, LETTER_E, LETTER_M, LETTER_A, LETTER_T, LETTER_U, LETTER_N,
 ];
 
-const KNOWN: u32 = 9;
-
 fn own_letter(l: SheetLine) -> u8
     ensures { result ≡ call_letter (call_of l) }
 {
-    let letter = l.letter;
-    match letter {
-        LETTER_I => LETTER_I,
-        LETTER_D => LETTER_D,
-        LETTER_L => LETTER_L,
-        LETTER_X => LETTER_X,
+    match l.letter {
+        LETTER_I | LETTER_D | LETTER_L | LETTER_X => l.letter,
         _ => LETTER_S,
     }
 }
@@ -42,32 +36,26 @@ fn letter_for(l: SheetLine, code: u32) -> u8
     if code == 0 {
         return own_letter(l);
     }
-    if code < KNOWN {
-        let k = code as usize;
-        return LETTERS[k];
-    }
-    LETTER_R
+    LETTERS.get(code as usize).copied().unwrap_or(LETTER_R)
 }
 
 // Whether the call of a line prints nothing with this answer: moves and waits do so.
 pub fn is_silent(l: SheetLine, a: Answer) -> bool
     ensures { result ≡ is_silent (call_of l) a }
 {
-    let p = plain(a);
-    let letter = letter_for(l, p.code);
-    letter == NO_LETTER
+    letter_for(l, plain(a).code) == NO_LETTER
 }
 
-fn event(letter: u8, time: u32, p: u32, x: u32, y: u32, z: u32) -> HistoryLine
-    ensures { result ≡ event_from letter time p x y z }
+fn event(letter: u8, time: u32, processor: u32, first: u32, second: u32, third: u32) -> HistoryLine
+    ensures { result ≡ event_from letter time processor first second third }
 {
     HistoryLine {
-        letter: letter,
-        time: time,
-        processor: p,
-        first: x,
-        second: y,
-        third: z,
+        letter,
+        time,
+        processor,
+        first,
+        second,
+        third,
     }
 }
 
@@ -75,14 +63,11 @@ fn event(letter: u8, time: u32, p: u32, x: u32, y: u32, z: u32) -> HistoryLine
 fn begun_event(l: SheetLine, time: u32) -> HistoryLine
     ensures { result ≡ event_for (call_of l) time (report 0 []) }
 {
-    if l.letter == LETTER_I {
-        return event(LETTER_I, time, l.first, l.second, l.third, l.fourth);
+    match l.letter {
+        LETTER_I => event(LETTER_I, time, l.first, l.second, l.third, l.fourth),
+        LETTER_X => event(LETTER_X, time, l.first, l.second, l.third, 0),
+        _ => event(own_letter(l), time, l.first, 0, 0, 0),
     }
-    if l.letter == LETTER_X {
-        return event(LETTER_X, time, l.first, l.second, l.third, 0);
-    }
-    let letter = own_letter(l);
-    event(letter, time, l.first, 0, 0, 0)
 }
 
 // The line of the history for an answer that is printed, at the clock after the call.

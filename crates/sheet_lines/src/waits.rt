@@ -17,11 +17,7 @@ pub fn pass_waits(image: &mut [u8], left: u32) -> u32
         (waits_left left (queue_in image.old).clock)) }
 {
     let t = number_from(image, header::CLOCK);
-    let most = MAX_NUMBER - t;
-    if left < most {
-        put_number(image, 0, header::CLOCK, t + left);
-        return 0;
-    }
-    put_number(image, 0, header::CLOCK, MAX_NUMBER);
-    left - most
+    let waits = left.min(MAX_NUMBER - t);
+    put_number(image, 0, header::CLOCK, t + waits);
+    left - waits
 }

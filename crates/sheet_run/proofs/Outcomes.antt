@@ -1,102 +1,109 @@
 -- The outcome of a sheet, one refusal after the other. Assumes nothing.
 use mathlib.Core.Path.{◌≡◌, refl, sym, ap, ◌∙◌}
 use mathlib.Core.Bool.{Bool, true, false, cond}
-use mathlib.Core.List.{List, [], ◌∷◌, ◌++◌}
+use mathlib.Core.List.{List, ◌++◌}
+use Rattle.std.specs.Prelude.{Some, None, Result, Ok, Err}
+use Rattle.std.specs.Result.{result_err}
 use Prim.Native.Nat.{ℕ, ◌≤◌, ◌<◌}
 use native.Mathlib.Omega.{arith}
-use lib.Dec.{ltb, eqb}
+use lib.Dec.{ltb}
 use lib.ListN.{length, drop}
-use borrow.Author.Tests.{lt-ltb, le-ltb, ltb-false, eq-eqb, ne_eqb}
-use Rattle.record_check.specs.declared.making.Made.{Made}
-use Rattle.record_check.specs.Making.{made}
+use borrow.Author.Tests.{lt-ltb, le-ltb, ltb-false}
 use Rattle.record.specs.declared.queues.Queue.{Queue}
-use Rattle.record.specs.Report.{Report, report}
-use Rattle.sheet_format.specs.declared.events.SheetOutcome.{SheetOutcome}
-use Rattle.sheet_format.specs.declared.events.SheetOutcome.TheVariants as ran
+use Rattle.record.specs.declared.refusals.Refusal.{Refusal}
+use Rattle.record.specs.declared.refusals.Refusal.TheVariants as refusal
+use Rattle.sheet_format.specs.declared.events.SheetRefusal.{SheetRefusal}
 use Rattle.sheet_format.specs.Lines.{line_of, part_at, first_out_of_form, first_misplaced}
 use Rattle.laws.specs.Front.{at_front}
 use Rattle.sheet_format.specs.Sheets.{history, history_of, fitted, ran_sheet, area_written, area_after}
-use Rattle.sheet_format.specs.Sheets.{fitted_outcome, queue_outcome, outcome, ran_of, reported_run}
-use Rattle.sheet_format.proofs.Reports.{fits_length, refused_ran, outcome_told}
+use Rattle.sheet_format.specs.Sheets.{made_by, queue_made, ran_made, outcome, reported_run, refused_at}
+use Rattle.sheet_format.proofs.Reports.{fits_length, outcome_told}
 
-pub refused_untouched : (s area : List ℕ) (n k : ℕ) → ran.Refused n k ≡ ran_sheet s (length area) → area ≡ area_after s area
-refused_untouched s area n k e = ap (λ (r : SheetOutcome). area_written (history_of s (line_of (part_at s 1))) area r) e
+pub refused_untouched : (s area : List ℕ) (e : SheetRefusal) → Err e ≡ ran_sheet s (length area) → area ≡ area_after s area
+refused_untouched s area _ e = ap (λ (r : Result ℕ SheetRefusal). area_written (history_of s (line_of (part_at s 1))) area r) e
 
 -- in numbers
-pub told : (s : List ℕ) (room : ℕ) {r : SheetOutcome} → r ≡ ran_sheet s room → reported_run r ≡ outcome s room
+pub told : (s : List ℕ) (room : ℕ) {r : Result ℕ SheetRefusal} → r ≡ ran_sheet s room → reported_run r ≡ outcome s room
 told s room e = ap reported_run e ∙ outcome_told s room
+
+none_some : (r : Refusal) → None ≡ Some r → ⊥
+none_some r e = cc
+
+-- a refusal of the sizes
+made_err : (m : Result Queue Refusal) (r : Refusal) → Some r ≡ result_err m → m ≡ Err r
+made_err (Ok q) r e = absurd (none_some r (sym e))
+made_err (Err x) r e = cc
 
 module _ (s : List ℕ) (room : ℕ) where
   -- what is left behind 41
-  abbrev placed : Report
+  abbrev placed : Result ℕ SheetRefusal
   placed =
-      cond (ltb 0 (first_misplaced s)) (report 42 (first_misplaced s ∷ []))
-      (queue_outcome s room (line_of (part_at s 1)))
+      cond (ltb 0 (first_misplaced s)) (Err (refused_at refusal.Misplaced (first_misplaced s)))
+      (ran_made s room (made_by (line_of (part_at s 1))))
 
   by_form : (t : Bool) → ltb 0 (first_out_of_form s) ≡ t
-      → outcome s room ≡ cond t (report 41 (first_out_of_form s ∷ [])) placed
-  by_form t h = ap (λ (b : Bool). cond b (report 41 (first_out_of_form s ∷ [])) placed) h
+      → ran_sheet s room ≡ cond t (Err (refused_at refusal.Form (first_out_of_form s))) placed
+  by_form t h =
+      ap (λ (b : Bool). cond b (Err (refused_at refusal.Form (first_out_of_form s))) placed) h
 
   by_place : (t : Bool) → ltb 0 (first_misplaced s) ≡ t
       → placed
-      ≡ cond t (report 42 (first_misplaced s ∷ [])) (queue_outcome s room (line_of (part_at s 1)))
+      ≡ cond t (Err (refused_at refusal.Misplaced (first_misplaced s)))
+      (ran_made s room (made_by (line_of (part_at s 1))))
   by_place t h =
-      let q = queue_outcome s room (line_of (part_at s 1)) in
-      ap (λ (b : Bool). cond b (report 42 (first_misplaced s ∷ [])) q) h
+      let q = ran_made s room (made_by (line_of (part_at s 1))) in
+      ap (λ (b : Bool). cond b (Err (refused_at refusal.Misplaced (first_misplaced s))) q) h
 
-  pub out_of_form : (k : ℕ) → k ≡ first_out_of_form s → 0 < k → ran.Refused 41 k ≡ ran_sheet s room
+  pub out_of_form : (k : ℕ) → k ≡ first_out_of_form s → 0 < k
+      → Err (refused_at refusal.Form k) ≡ ran_sheet s room
   out_of_form k e h =
-      rw e (ap ran_of (sym (by_form true (lt-ltb 0 (first_out_of_form s) (rw (sym e) h)))))
+      rw e (sym (by_form true (lt-ltb 0 (first_out_of_form s) (rw (sym e) h))))
 
-  module _ (form : first_out_of_form s ≤ 0) where
-    passed_form : outcome s room ≡ placed
-    passed_form = by_form false (le-ltb 0 (first_out_of_form s) form)
+  module _ (form : first_out_of_form s ≡ 0) where
+    passed_form : ran_sheet s room ≡ placed
+    passed_form = by_form false (le-ltb 0 (first_out_of_form s) (omega arith))
 
-    pub misplaced : (k : ℕ) → k ≡ first_misplaced s → 0 < k → ran.Refused 42 k ≡ ran_sheet s room
+    pub misplaced : (k : ℕ) → k ≡ first_misplaced s → 0 < k
+        → Err (refused_at refusal.Misplaced k) ≡ ran_sheet s room
     misplaced k e h =
         rw e
-        (ap ran_of (sym (passed_form ∙ by_place true (lt-ltb 0 (first_misplaced s) (rw (sym e) h)))))
+        (sym (passed_form ∙ by_place true (lt-ltb 0 (first_misplaced s) (rw (sym e) h))))
 
-    module _
-        (place : first_misplaced s ≤ 0) (m : Made)
-        (e : m ≡ made (line_of s).first (line_of s).second (line_of s).third) where
-      -- what is left behind 42
-      abbrev making : Bool → Made → Report
-      making t n = cond t (fitted_outcome (history s n.queue) room) (report n.refusal (1 ∷ []))
+    module _ (place : first_misplaced s ≡ 0) where
+      passed_place : ran_sheet s room ≡ ran_made s room (made_by (line_of (part_at s 1)))
+      passed_place = passed_form ∙ by_place false (le-ltb 0 (first_misplaced s) (omega arith))
 
-      by_refusal : (t : Bool) → eqb m.refusal 0 ≡ t → ran_sheet s room ≡ ran_of (making t m)
-      by_refusal t h =
-          ap ran_of
-          (passed_form
-          ∙ by_place false (le-ltb 0 (first_misplaced s) place)
-          ∙ ap (λ (n : Made). making (eqb n.refusal 0) n) (sym e)
-          ∙ ap (λ (b : Bool). making b m) h)
+      pub not_made : (r : Refusal) → Some r ≡ result_err (made_by (line_of s))
+          → Err (refused_at r 1) ≡ ran_sheet s room
+      not_made r e =
+          sym (passed_place ∙ ap (ran_made s room) (made_err (made_by (line_of s)) r e))
 
-      pub not_made_lem : 0 < m.refusal → ran.Refused m.refusal 1 ≡ ran_sheet s room
-      not_made_lem h =
-          let n = ne_eqb m.refusal 0 (λ z. omega arith) in
-          refused_ran m.refusal 1 n ∙ sym (by_refusal false n)
-
-      pub runs : m.refusal ≡ 0 → fitted (history s m.queue) room ≡ ran_sheet s room
-      runs h = sym (by_refusal true (eq-eqb m.refusal 0 h))
+      pub runs : None ≡ result_err (made_by (line_of s))
+          → fitted (history s (queue_made (made_by (line_of s)))) room ≡ ran_sheet s room
+      runs e = sym (passed_place ∙ ran_ok (made_by (line_of s)) e)
+        where
+          ran_ok : (m : Result Queue Refusal) → None ≡ result_err m
+              → ran_made s room m ≡ fitted (history s (queue_made m)) room
+          ran_ok (Ok q) e = refl
+          ran_ok (Err r) e = absurd (none_some r e)
 
 -- a history that fits
-abbrev is_sheet_refused : SheetOutcome → Bool
-is_sheet_refused (ran.Refused n k) = true
-is_sheet_refused (ran.Length n) = false
+abbrev is_sheet_refused : Result ℕ SheetRefusal → Bool
+is_sheet_refused (Err e) = true
+is_sheet_refused (Ok n) = false
 
-pub length_fits : (h : List ℕ) (room n : ℕ) → ran.Length n ≡ fitted h room → length h ≤ room
+pub length_fits : (h : List ℕ) (room n : ℕ) → Ok n ≡ fitted h room → length h ≤ room
 length_fits h room n e = ltb-false room (length h) (at (ltb room (length h)) (sym (ap is_sheet_refused e)))
   where
     at : (b : Bool) →
-        is_sheet_refused (ran_of (cond b (report 43 (0 ∷ [])) (report 0 (length h ∷ [])))) ≡ false →
+        is_sheet_refused (cond b (Err (refused_at refusal.Room 0)) (Ok (length h))) ≡ false →
         b ≡ false
     at true k = k
     at false k = refl
 
 -- written in place, by a run after one that left the area as it was
 pub written_whole :
-    (h area b a : List ℕ) (r : SheetOutcome) →
+    (h area b a : List ℕ) (r : Result ℕ SheetRefusal) →
     length h ≤ length area →
     b ≡ area →
     r ≡ fitted h (length b) →
@@ -109,7 +116,7 @@ written_whole h area b a r f e i k =
 
 -- the outcome of the lines, as the outcome of the sheet
 pub sheet_written :
-    (s area a : List ℕ) (q : Queue) (r : SheetOutcome) →
+    (s area a : List ℕ) (q : Queue) (r : Result ℕ SheetRefusal) →
     fitted (history s q) (length area) ≡ ran_sheet s (length area) →
     history_of s (line_of (part_at s 1)) ≡ history s q →
     r ≡ fitted (history s q) (length area) →

@@ -1,16 +1,18 @@
 // The run of a sheet's lines into an area that 43 leaves as it was.
-ghost use Rattle.std.specs.Prelude.{◌≡◌, ◌≤◌, length};
+ghost use Rattle.std.specs.Prelude.{◌≡◌, ◌≤◌, None, length};
+ghost use Rattle.std.specs.Result.{result_err};
 ghost use Rattle.image.specs.Layout.{image_length};
 ghost use Rattle.image.specs.Image.{image_of};
 ghost use Rattle.record.specs.Queues.{fresh_queue};
 ghost use Rattle.sheet_format.specs.Kept.{IsKept};
-ghost use Rattle.sheet_format.specs.Sheets.{history as history_of, fitted, made_by, area_written};
+ghost use Rattle.sheet_format.specs.Sheets.{history as history_of, fitted, made_by, queue_made};
+ghost use Rattle.sheet_format.specs.Sheets.{area_written};
 ghost use Rattle.sheet_lines.specs.Area.{queue_after};
 ghost use Rattle.record.specs.Limits.{max_levels, max_nodes, max_processors};
 
 use image::layout::{MAX_IMAGE_LENGTH, image_length};
 use image_make::make_at;
-use sheet_format::{SheetLine, SheetOutcome};
+use sheet_format::{SheetLine, SheetRefusal};
 use sheet_lines::run_lines;
 
 // Two runs on a queue that is made anew for each, in the bytes lent: the first counts the history,
@@ -23,7 +25,7 @@ fn run_twice(
     l: u8,
     area: &mut [u8],
     kept: &[u32],
-) -> SheetOutcome
+) -> Result<usize, SheetRefusal>
     requires image_len { length image.old ≡ image_length p n }
     requires le_p { (1 ≤ p) × (p ≤ max_processors) × (1 ≤ n) × (n ≤ max_nodes) × (1 ≤ l)
         × (l ≤ max_levels) }
@@ -38,30 +40,31 @@ fn run_twice(
         (length area.old)) }
 {
     make_at(image, p, n, l);
-    match run_lines(sheet, image, area, false, kept) {
-        SheetOutcome::Refused(number, line) => SheetOutcome::Refused(number, line),
-        SheetOutcome::Length(_) => {
-            make_at(image, p, n, l);
-            run_lines(sheet, image, area, true, kept)
-        }
-    }
+    run_lines(sheet, image, area, false, kept)?;
+    make_at(image, p, n, l);
+    run_lines(sheet, image, area, true, kept)
 }
 
 // The lines behind a Q line that is not refused, run with an image of its own.
-pub(crate) fn run_made(sheet: &[u8], l: SheetLine, area: &mut [u8], kept: &[u32]) -> SheetOutcome
-    requires l_value { (made_by l).refusal ≡ 0 }
+pub(crate) fn run_made(
+    sheet: &[u8],
+    l: SheetLine,
+    area: &mut [u8],
+    kept: &[u32],
+) -> Result<usize, SheetRefusal>
+    requires l_value { result_err (made_by l) ≡ None }
     requires kept { IsKept sheet.now kept.now }
     ensures value { result
-        ≡ fitted (history_of sheet.now (made_by l).queue)
+        ≡ fitted (history_of sheet.now (queue_made (made_by l)))
         (length area.old) }
     ensures area_after { area.new
-        ≡ area_written (history_of sheet.now (made_by l).queue)
+        ≡ area_written (history_of sheet.now (queue_made (made_by l)))
         area.old result }
 {
-    let mut store: [u8; MAX_IMAGE_LENGTH] = [0; MAX_IMAGE_LENGTH];
+    // fixed memory: no heap
+    let mut store = [0; MAX_IMAGE_LENGTH];
     let p = l.first as u8;
     let n = l.second as u8;
-    let end = image_length(p, n);
-    let image = &mut store[..end];
+    let image = &mut store[..image_length(p, n)];
     run_twice(sheet, image, p, n, l.third as u8, area, kept)
 }

@@ -6,6 +6,7 @@ pub returns-then-sheet-le-SHORT-clause-numbers : goal.returns-then-sheet-le-SHOR
 returns-then-sheet-le-SHORT-clause-numbers c =
     told c.args.sheet.now (length c.args.history.now) c.run_keeping.ensures.value
 
-pub returns-clause-numbers : goal.returns-clause-numbers
-returns-clause-numbers c =
-    told c.args.sheet.now (length c.args.history.now) c.run_keeping-2.ensures.value
+pub returns-else-sheet-le-SHORT-clause-numbers : goal.returns-else-sheet-le-SHORT-clause-numbers
+returns-else-sheet-le-SHORT-clause-numbers c =
+    told c.args.sheet.now (length c.args.history.now)
+    c.run_keeping-else-sheet-le-SHORT.ensures.value

@@ -8,7 +8,7 @@ pub returns-then-not-passes : goal.returns-then-not-passes
 returns-then-not-passes c =
     let a = c.args in
     let r = not_ready a.image.now a.who.now (sym c.passes.ensures ∙ c.if-not-passes.true) in
-    record { value = r.0; image_after = r.1 }
+    record { value = c.number.ensures ∙ r.0; image_after = r.1 }
 
 pub run_steps-requires : goal.run_steps-requires
 run_steps-requires c =

@@ -4,13 +4,14 @@ use mathlib.Core.List.{List, ◌++◌}
 use Prim.Native.Nat.{ℕ}
 use native.Mathlib.Omega.{arith}
 use lib.ListN.{length, drop}
-use Rattle.sheet_format.specs.Program.{text_of}
+use Rattle.laws.specs.Front.{at_front}
+use Rattle.sheet_format.specs.Program.{refusal_text, text_of}
 use Rattle.darthog.proofs.Printed.{Run, area_kept, refusal_printed, line_low}
 use Rattle.darthog.proofs.Printed.{history_length, history_written}
 use Rattle.darthog.proofs.printing.print_sheet.Goals as goal
 
-pub overflow_cast-line : goal.overflow_cast-line
-overflow_cast-line c =
+pub overflow_cast-e : goal.overflow_cast-e
+overflow_cast-e c =
     let a = c.args in
     let f = c.run_sheet in
     let r : Run a.sheet.now a.area.now f.new.history f.result =
@@ -20,11 +21,11 @@ overflow_cast-line c =
       outcome = f.ensures.value;
       written = f.ensures.history_after;
     } in
-    let h = line_low _ _ _ _ r _ _ c.in-Refused.is in
+    let h = line_low _ _ _ _ r _ c.in-Err.is in
     omega (arith, h)
 
-pub returns-in-Refused : goal.returns-in-Refused
-returns-in-Refused c =
+pub returns-in-Err : goal.returns-in-Err
+returns-in-Err c =
     let a = c.args in
     let f = c.run_sheet in
     let r : Run a.sheet.now a.area.now f.new.history f.result =
@@ -35,18 +36,22 @@ returns-in-Refused c =
       written = f.ensures.history_after;
     } in
     let s = a.sheet.now in
-    let k = area_kept _ _ _ _ r _ _ c.in-Refused.is in
-    let t = refusal_printed _ _ _ _ r _ _ c.in-Refused.is in
+    let n = c.number.ensures in
+    let k = area_kept _ _ _ _ r _ c.in-Err.is in
+    let t = refusal_printed _ _ _ _ r _ c.in-Err.is in
     record {
-      value = c.print_refusal.ensures.value ∙ ap length t;
+      value =
+          c.print_refusal.ensures.value
+          ∙ ap (λ (x : ℕ). length (refusal_text x c.in-Err.e.line)) n ∙ ap length t;
       area_after =
           c.print_refusal.ensures.area_after
+          ∙ ap (λ (x : ℕ). at_front (refusal_text x c.in-Err.e.line) f.new.history) n
           ∙ ap (λ (x : List ℕ). x ++ drop (length x) f.new.history) t
           ∙ ap (λ (x : List ℕ). text_of s ++ drop (length (text_of s)) x) k;
     }
 
-pub returns-in-Length : goal.returns-in-Length
-returns-in-Length c =
+pub returns-in-Ok : goal.returns-in-Ok
+returns-in-Ok c =
     let a = c.args in
     let f = c.run_sheet in
     let r : Run a.sheet.now a.area.now f.new.history f.result =
@@ -56,7 +61,7 @@ returns-in-Length c =
       outcome = f.ensures.value;
       written = f.ensures.history_after;
     } in
-    let e = c.in-Length.is in
+    let e = c.in-Ok.is in
     record {
       value = history_length _ _ _ _ r _ e;
       area_after = history_written _ _ _ _ r _ e;

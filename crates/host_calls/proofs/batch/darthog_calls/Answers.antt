@@ -10,7 +10,7 @@ returns-then-not-passes c =
     let d = turned_down a.image.now a.calls.now a.answers.now
     (sym c.passes.ensures ∙ c.if-not-passes.true) in
     record {
-      value = d.0;
+      value = c.number.ensures ∙ d.0;
       image_after = d.1.0;
       answers_after = d.1.1;
       list_agrees = agreed a.image.now a.calls.now a.answers.now;

@@ -8,7 +8,7 @@ pub returns-then-not-passes : goal.returns-then-not-passes
 returns-then-not-passes c =
     let r =
     not_listed c.args.image.now c.args.area.now _
-    (sym c.passes.ensures ∙ c.if-not-passes.true) c.refusal.ensures in
+    (sym c.passes.ensures ∙ c.if-not-passes.true) c.reply.ensures in
     record { value = r.0; area_after = r.1 }
 
 pub used_count-count-requires : goal.used_count-count-requires
@@ -22,7 +22,7 @@ returns-then-area-count c =
     let r =
     too_short c.args.image.now c.args.area.now
     (sym c.passes.ensures ∙ c.if-not-passes.false) _ c.used_count-count.ensures.0 _
-    (omega (arith, c.if-area-count.true)) c.refusal-then-area-count.ensures in
+    (omega (arith, c.if-area-count.true)) c.reply-then-area-count.ensures in
     record { value = r.0; area_after = r.1 }
 
 pub put_pairs-requires : goal.put_pairs-requires
@@ -39,5 +39,5 @@ returns c =
     let r =
     listed_all c.args.image.now c.args.area.now
     (sym c.passes.ensures ∙ c.if-not-passes.false) _ c.used_count-count.ensures.0 _ _
-    (omega (arith, c.if-area-count.false)) c.accepted.ensures c.put_pairs.ensures in
+    (omega (arith, c.if-area-count.false)) c.reply-2.ensures c.put_pairs.ensures in
     record { value = r.0; area_after = r.1 }

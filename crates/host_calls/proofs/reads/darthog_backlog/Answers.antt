@@ -8,7 +8,7 @@ pub returns-then-not-passes : goal.returns-then-not-passes
 returns-then-not-passes c =
     not_counted c.args.image.now _
     (sym c.passes.ensures ∙ c.if-not-passes.true)
-    c.refusal.ensures
+    c.reply.ensures
 
 pub pending-requires : goal.pending-requires
 pending-requires c =
@@ -22,4 +22,4 @@ returns c =
     counted b _
     (sym c.passes.ensures
     ∙ c.if-not-passes.false) _ c.pending.ensures
-    c.accepted.ensures
+    c.reply-2.ensures

@@ -1,26 +1,12 @@
-use mathlib.Core.Path.{◌∙◌, ap}
-use Prim.Native.Nat.{ℕ, ◌+◌}
-use native.Mathlib.Omega.{arith}
-use mathlib.Core.List.{List}
-use lib.ListN.{set, length-set}
-use Rattle.image.proofs.Puts.{clears_next, cleared}
+use Rattle.std.proofs.Common.{◌≡◌, ◌+◌, ◌-◌, ◌≤◌, length, arith}
+use borrow.Rule.Slice.PartMut.{mid_of, mid_len}
+use Rattle.image.proofs.Runs.{cleared}
 use Rattle.image.proofs.numbers.clear.Goals as goal
-
--- TODO goal same-length
--- same_length c = simp length-set (omega arith)
-
-pub loop-k-preserved : goal.loop-k-preserved
-loop-k-preserved c =
-    let v = c.loop-k.invariant in
-    let k = c.loop-k.k in
-    let o = c.args.o in (
-      ap (λ (r : List ℕ). set r (o + (9 + k)) 0) v.0
-          ∙ clears_next c.args.b.now o k,
-      omega arith,
-      simp length-set v.2,
-    )
 
 pub returns : goal.returns
 returns c =
-    cleared c.args.b.now c.loop-k.b c.args.o
-    c.loop-k.k c.args.l c.loop-k.invariant.0 (omega arith)
+    let a = c.args in
+    let high : a.o + 9 + a.l ≤ length a.b.now = omega arith in
+    let long : length (mid_of a.o (a.o + 9 + a.l - a.o) a.b.now) ≡ 9 + a.l =
+    omega (arith, mid_len a.o (a.o + 9 + a.l) a.b.now high) in
+    cleared a.b.now c.fill.new.self a.o a.l _ (c.fill.ensures.after (λ y e. e)) long high

@@ -1,7 +1,7 @@
-use mathlib.Core.Path.{sym, ◌∙◌}
+use mathlib.Core.Path.{sym, ◌∙◌, refl}
 use native.Mathlib.Omega.{arith}
-use Rattle.image_parts.proofs.Refusals.{none_left}
-use Rattle.image_begin.proofs.Begun.{based, insert_begins_lem, insert_stored, chosen_low}
+use Rattle.image_begin.proofs.Begun.{based, insert_without, insert_begins_lem, insert_stored, chosen_low}
+use Rattle.image_begin.proofs.Choices.{some_found, none_found}
 use Rattle.image_begin.proofs.begins.begin_insert_at.Goals as goal
 
 pub fill-requires : goal.fill-requires
@@ -9,11 +9,18 @@ fill-requires c =
     let b = c.args.image.now in
     let B = based b c.requires in
     let k = c.tick.auto.b in
-    let x = chosen_low b _ c.choose-x.ensures in (
+    let x = chosen_low b _ (some_found _ _ c.in-Some-choose.ensures).0 in (
       omega (arith, k, x, B.long),
       omega (arith, k, B.long, B.processors_high, B.nodes_high),
       B.levels_high,
     )
+
+pub returns-in_default-choose : goal.returns-in_default-choose
+returns-in_default-choose c =
+    let a = c.args in
+    insert_without a.image.now a.processor a.due a.item a.height c.requires
+    (sym c.in_default.ensures) _
+    (none_found _ (sym c.in_default-choose.is ∙ c.choose.ensures)) refl
 
 pub returns : goal.returns
 returns c =
@@ -21,8 +28,8 @@ returns c =
     let due = c.args.due in
     let item = c.args.item in
     let height = c.args.height in
-    insert_begins_lem b c.args.processor due item height c.requires (sym c.refusal_at-refusal.ensures ∙ none_left _ c.if-refusal-gt0.false) _ c.choose-x.ensures
-    c.if-x-eq0.false _ _
+    let x = some_found _ _ c.in-Some-choose.ensures in
+    insert_begins_lem b c.args.processor due item height c.requires (sym c.in_default.ensures) _ x.0 x.1 _ _
     (insert_stored b _ _ _ _ _ _ _ _ _ due item height _ c.tick.ensures
     c.number_from-t.ensures c.fill.ensures c.begin.ensures)
     (simp c.number_from-t.ensures)

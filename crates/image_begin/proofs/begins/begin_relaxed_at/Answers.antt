@@ -1,10 +1,9 @@
-use mathlib.Core.Path.{sym, ◌∙◌}
-use Rattle.image_parts.proofs.Refusals.{none_left}
+use mathlib.Core.Path.{sym}
 use Rattle.image_begin.proofs.Begun.{relaxed_begins_lem}
 use Rattle.image_begin.proofs.begins.begin_relaxed_at.Goals as goal
 
 pub returns : goal.returns
 returns c =
-    let e = sym c.refusal_at-refusal.ensures ∙ none_left _ c.if-refusal-gt0.false in
+    let e = sym c.in_default.ensures in
     relaxed_begins_lem c.args.image.now c.args.processor c.requires e _ _
     c.begin_walk.ensures.value c.begin_walk.ensures.image_after

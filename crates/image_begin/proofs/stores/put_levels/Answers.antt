@@ -1,20 +1,13 @@
-use mathlib.Core.Path.{◌∙◌, ap}
-use native.Mathlib.Omega.{arith}
-use Prim.Native.Nat.{ℕ, ◌+◌}
-use mathlib.Core.List.{List}
-use lib.ListN.{set, length-set}
-use Rattle.image_begin.proofs.Stored.{levels_next}
+use Rattle.std.proofs.Common.{◌≡◌, ◌+◌, ◌-◌, ◌≤◌, length, arith}
+use borrow.Rule.Slice.PartMut.{mid_of, mid_len}
+use Rattle.image_begin.proofs.Stored.{levels_stored}
 use Rattle.image_begin.proofs.stores.put_levels.Goals as goal
 
--- TODO goal same-length
--- same_length c = c.before.loop.invariant.2
-
-pub loop-k-preserved : goal.loop-k-preserved
-loop-k-preserved c = let a = c.args in
-    let v = c.loop-k.invariant in
-    let k = c.loop-k.k in (
-      ap (λ (r : List ℕ). set r (a.o + (a.j + k)) a.v) v.0
-          ∙ levels_next a.b.now a.o a.j k a.v,
-      omega arith,
-      simp length-set v.2,
-    )
+pub returns : goal.returns
+returns c =
+    let a = c.args in
+    let at = a.o + a.j in
+    let high : at + a.l ≤ length a.b.now = omega arith in
+    let long : length (mid_of at (at + a.l - at) a.b.now) ≡ a.l =
+    omega (arith, mid_len at (at + a.l) a.b.now high) in
+    levels_stored a.b.now c.fill.new.self a.o a.j a.l _ a.v (c.fill.ensures.after (λ y e. e)) long high

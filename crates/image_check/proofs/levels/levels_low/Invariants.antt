@@ -1,14 +1,8 @@
-use mathlib.Core.Path.{◌≡◌}
-use mathlib.Core.Bool.{◌||◌}
-use Prim.Native.Nat.{ℕ, ◌+◌, ◌-◌, ◌≤◌}
-use lib.Dec.{leb}
+use Rattle.std.proofs.Common.{◌≡◌, ◌||◌, ℕ, ◌+◌, leb}
 use Rattle.laws.specs.Every.{every_below}
 use Rattle.image.specs.Puts.{piece}
 use Rattle.image_check.proofs.levels.levels_low.Given as goal
 
 abbrev pub invariant-loop-k : goal.invariant-loop-k
 invariant-loop-k l =
-    (l.ok ≡ every_below (λ (i : ℕ). leb l.l i || leb (piece l.b l.o (l.j + i)) l.top) l.k) × (l.k ≤ 8)
-
-abbrev pub decreases-loop-k : goal.decreases-loop-k
-decreases-loop-k l = 8 - l.k
+    l.ok ≡ every_below (λ (i : ℕ). leb l.l i || leb (piece l.b l.o (l.j + i)) l.top) l.k

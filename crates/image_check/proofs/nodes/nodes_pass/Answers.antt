@@ -1,17 +1,15 @@
-use mathlib.Core.Path.{sym, ◌∙◌}
-use Prim.Native.Nat.{◌+◌, ◌<◌}
-use native.Mathlib.Omega.{arith}
-use lib.ListN.{get_or}
-use Rattle.laws.proofs.Counting.{every_not}
+use Rattle.std.proofs.Common.{rules, arith, ◌≡◌, ◌+◌, true, false, get_or}
+use Rattle.std.proofs.lemmas.Iterator.{cases_from_all, YieldsList-from_range}
+use borrow.Author.Tests.{tests}
+use Rattle.laws.proofs.Chains.{every_from_all}
 use Rattle.image_check.specs.Tests.{node_ok}
 use Rattle.image_check.proofs.nodes.nodes_pass.Goals as goal
 
--- TODO goal overflow-cast-end
--- cast-end c = omega (arith, c.shared-slice-known2.given 1)
-
-pub returns-then-not-node_passes : goal.returns-then-not-node_passes
-returns-then-not-node_passes c =
-    let b = c.args.b.now in
-    let end : c.loop-x.x < get_or b 1 0 + 2 = omega arith in
-    sym (every_not (node_ok b) (get_or b 1 0 + 2) _
-    (sym c.node_passes.ensures ∙ c.if-not-node_passes.true) end)
+pub returns : goal.returns
+returns c =
+    let f = node_ok c.args.b.now in
+    let end = get_or c.args.b.now 1 0 + 2 in
+    every_from_all f end _
+    (cases_from_all _ _ _ (λ k. f k ≡ true) (λ k. f k ≡ false) c.all.ensures.ran
+    (YieldsList-from_range 0 end end (cc) (omega arith))
+    (λ x q k. search (rules, tests)) (λ x q k. search (rules, tests)))

@@ -4,11 +4,6 @@ use Rattle.image_check.proofs.Tests.{processor_begun, processor_saved, processor
 use Rattle.image_check.proofs.Tests.{processor_errand}
 use Rattle.image_check.proofs.processors.processor_passes.Goals as goal
 
--- TODO goal overflow-cast-tag
--- cast-tag c =
---     let p = c.before.before.before.before.before.before.before.before.before.args.p in
---     omega (arith, c.shared-slice-known4.given (7 + 26 * p + 5))
-
 pub returns-then-number_from : goal.returns-then-number_from
 returns-then-number_from c =
     processor_begun c.args.b.now c.args.p c.requires.1 c.requires.2 c.requires.4 c.requires.5
@@ -19,17 +14,17 @@ returns-then-not-levels_low c =
     processor_saved c.args.b.now c.args.p c.requires.1 c.requires.2 c.requires.4 c.requires.5
     c.levels_low.ensures (c.if-not-levels_low.true)
 
-pub returns-then-tag-ge-COUNT : goal.returns-then-tag-ge-COUNT
-returns-then-tag-ge-COUNT c =
+pub returns-then-number-ge-COUNT : goal.returns-then-number-ge-COUNT
+returns-then-number-ge-COUNT c =
     processor_past c.args.b.now c.args.p c.requires.1 c.requires.2 c.requires.4 c.requires.5
-    c.if-tag-ge-COUNT.true
+    c.if-number-ge-COUNT.true
 
 pub returns-then-not-errand_passes : goal.returns-then-not-errand_passes
 returns-then-not-errand_passes c =
     let b = c.args.b.now in
     processor_errand b c.args.p c.requires.1 c.requires.2 c.requires.4 c.requires.5
     c.number_from.ensures c.number_from-2.ensures c.if-number_from.false
-    c.levels_low.ensures (c.if-not-levels_low.false) (omega (arith, c.if-tag-ge-COUNT.false))
+    c.levels_low.ensures (c.if-not-levels_low.false) (omega (arith, c.if-number-ge-COUNT.false))
     c.number_from-due.ensures c.number_from-ticket.ensures c.errand_passes.ensures
     (c.if-not-errand_passes.true)
 
@@ -39,6 +34,6 @@ returns c =
     c.stage_passes.ensures
     ∙ processor_errand b c.args.p c.requires.1 c.requires.2 c.requires.4 c.requires.5
     c.number_from.ensures c.number_from-2.ensures c.if-number_from.false
-    c.levels_low.ensures (c.if-not-levels_low.false) (omega (arith, c.if-tag-ge-COUNT.false))
+    c.levels_low.ensures (c.if-not-levels_low.false) (omega (arith, c.if-number-ge-COUNT.false))
     c.number_from-due.ensures c.number_from-ticket.ensures c.errand_passes.ensures
     (c.if-not-errand_passes.false)

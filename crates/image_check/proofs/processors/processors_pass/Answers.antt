@@ -1,15 +1,15 @@
-use mathlib.Core.Path.{sym, ◌∙◌}
-use native.Mathlib.Omega.{arith}
-use lib.ListN.{get_or}
-use Rattle.laws.proofs.Counting.{every_not}
+use Rattle.std.proofs.Common.{rules, arith, ◌≡◌, true, false, get_or}
+use Rattle.std.proofs.lemmas.Iterator.{cases_from_all, YieldsList-from_range}
+use borrow.Author.Tests.{tests}
+use Rattle.laws.proofs.Chains.{every_from_all}
 use Rattle.image_check.specs.Tests.{processor_ok}
 use Rattle.image_check.proofs.processors.processors_pass.Goals as goal
 
--- TODO goal overflow-cast-end
--- cast-end c = omega (arith, c.shared-slice-known2.given 0)
-
-pub returns-then-not-processor_passes : goal.returns-then-not-processor_passes
-returns-then-not-processor_passes c =
-    let b = c.args.b.now in
-    sym (every_not (processor_ok b) (get_or b 0 0) c.loop-p.p
-    (sym c.processor_passes.ensures ∙ c.if-not-processor_passes.true) (omega arith))
+pub returns : goal.returns
+returns c =
+    let f = processor_ok c.args.b.now in
+    let end = get_or c.args.b.now 0 0 in
+    every_from_all f end _
+    (cases_from_all _ _ _ (λ k. f k ≡ true) (λ k. f k ≡ false) c.all.ensures.ran
+    (YieldsList-from_range 0 end end (cc) (omega arith))
+    (λ x q k. search (rules, tests)) (λ x q k. search (rules, tests)))

@@ -14,5 +14,5 @@ returns-then-x-n c =
 pub returns : goal.returns
 returns c =
     walks_on c.args.relaxed c.args.image.now c.args.base c.args.p c.requires _ _
-    c.if-x-n.false _ c.next_tag-goes.ensures
+    c.if-x-n.false _ c.next_tag.ensures
     (simp c.tick.ensures) refl

@@ -6,7 +6,7 @@ pub returns-then-m-ne-UNMARKED : goal.returns-then-m-ne-UNMARKED
 returns-then-m-ne-UNMARKED c =
     mark_set c.args.relaxed c.args.image.now c.args.base c.args.p c.requires _ _
     c.if-m-ne-UNMARKED.true _
-    c.read_tag-back.ensures
+    c.read_tag.ensures
     (simp c.tick.ensures) refl
 
 pub returns : goal.returns
@@ -14,8 +14,4 @@ returns c =
     marks c.args.relaxed c.args.image.now c.args.base c.args.p c.requires _ _
     c.if-m-ne-UNMARKED.false
     (simp c.tick-2.ensures)
-    (simp (
-      c.number_from-due.ensures,
-      c.number_from-ticket.ensures,
-      c.number_from-item.ensures,
-    ))
+    (simp c.entry_at-entry.ensures)

@@ -1,16 +1,16 @@
-use mathlib.Core.Path.{refl}
-use Rattle.image_delete.proofs.Steps.{stamp_none, stamp_late, stamp_early}
+use mathlib.Core.Path.{refl, sym, ◌∙◌}
+use Rattle.image_delete.proofs.Steps.{stamp_misses, stamp_passes}
 use Rattle.image_delete.proofs.walk.test_stamp.Goals as goal
-
-pub returns-then-t-ne1 : goal.returns-then-t-ne1
-returns-then-t-ne1 c =
-    stamp_none c.args.image.now c.args.base c.args.p c.requires _ _ c.if-t-ne1.true
-    (simp c.tick.ensures) refl
-
-pub returns-then-begin-u : goal.returns-then-begin-u
-returns-then-begin-u c =
-    stamp_late c.args.image.now c.args.base c.args.p c.requires _ _ c.if-t-ne1.false (rw (c.number_from-begin.ensures, c.number_from-u.ensures) at c.if-begin-u.true) (simp c.tick.ensures) refl
+use Rattle.image_delete.proofs.walk.test_stamp.Goals.{then-stamped, else-stamped}
 
 pub returns : goal.returns
 returns c =
-    stamp_early c.args.image.now c.args.base c.args.p c.requires _ _ c.if-t-ne1.false (rw (c.number_from-begin.ensures, c.number_from-u.ensures) at c.if-begin-u.false) (simp c.tick.ensures) refl
+    let told = sym (rw c.number_from-begin.ensures at c.stamped_before-stamped.ensures) in
+    elim c.if-stamped.branch [
+      | then-stamped w ↦
+          stamp_passes c.args.image.now c.args.base c.args.p c.requires _ _
+          (told ∙ w.if-stamped.true) (simp (w.image-is, c.tick.ensures)) refl
+      | else-stamped w ↦
+          stamp_misses c.args.image.now c.args.base c.args.p c.requires _ _
+          (told ∙ w.if-stamped.false) (simp (w.image-is, c.tick.ensures)) refl
+    ]

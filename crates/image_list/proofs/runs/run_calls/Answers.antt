@@ -2,28 +2,20 @@ use mathlib.Core.Path.{refl, ◌∙◌}
 use Prim.Native.Nat.{◌*◌}
 use native.Mathlib.Omega.{arith}
 use Rattle.image_list.proofs.Plains.{record_none, written_none, queue_next, written_next}
-use Rattle.image_list.proofs.Plains.{start_next, put_length, turns_calls, turns_answers}
+use Rattle.image_list.proofs.Plains.{start_next, put_length}
 use Rattle.image_list.proofs.runs.run_calls.Goals as goal
 
--- TODO goal same-length
--- same_length c = c.before.loop.invariant.7
-
--- TODO goal same-length-2
--- same-length-2 c = c.before.loop.invariant.3
-
 pub loop-i-init : goal.loop-i-init
-loop-i-init c =
-    let e = c.smaller-end.ensures in (
-      c.requires,
-      record_none _ _,
-      written_none _ _ _,
-      refl,
-      omega arith,
-      turns_calls _ _ _ e,
-      turns_answers _ _ _ e,
-      refl,
-      refl,
-    )
+loop-i-init c = (
+  c.requires,
+  record_none _ _,
+  written_none _ _ _,
+  refl,
+  omega arith,
+  omega arith,
+  refl,
+  refl,
+)
 
 pub loop-i-preserved : goal.loop-i-preserved
 loop-i-preserved c =
@@ -35,10 +27,9 @@ loop-i-preserved c =
       written_next _ _ _ v.i _ _ _ _ v.invariant.0 v.invariant.1 refl T _ _ _ _ v.invariant.2 refl
           c.number_from.ensures P,
       put_length v.answers _ (v.i * 5) _ _ _ P v.invariant.3,
-      omega arith,
+      v.invariant.4,
       v.invariant.5,
-      v.invariant.6,
-      c.turn-r.auto.image ∙ v.invariant.7,
-      v.invariant.8
+      c.turn-r.auto.image ∙ v.invariant.6,
+      v.invariant.7
           ∙ start_next _ _ v.answers v.i _ _ _ _ v.invariant.0 v.invariant.1 refl T,
     )

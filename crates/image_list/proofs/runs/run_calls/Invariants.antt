@@ -1,5 +1,5 @@
 use mathlib.Core.Path.{◌≡◌}
-use Prim.Native.Nat.{◌*◌, ◌-◌, ◌≤◌}
+use Prim.Native.Nat.{◌*◌, ◌≤◌}
 use lib.ListN.{length}
 use Rattle.image.specs.Image.{queue_in, start_of, Sound}
 use Rattle.image_list.specs.Plain.{record_to, written_to}
@@ -11,11 +11,7 @@ invariant-loop-i l =
     × (queue_in l.image ≡ record_to (queue_in l.initial.image) l.calls l.i)
     × (l.answers ≡ written_to (queue_in l.initial.image) l.calls l.initial.answers l.i)
     × (length l.answers ≡ length l.initial.answers)
-    × (l.i ≤ l.end)
     × (l.end * 5 ≤ length l.calls)
     × (l.end * 5 ≤ length l.initial.answers)
     × (length l.image ≡ length l.initial.image)
     × (l.base ≡ start_of l.image)
-
-abbrev pub decreases-loop-i : goal.decreases-loop-i
-decreases-loop-i l = l.end - l.i

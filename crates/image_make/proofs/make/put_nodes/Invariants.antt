@@ -1,5 +1,4 @@
 use mathlib.Core.Path.{◌≡◌}
-use Prim.Native.Nat.{◌-◌, ◌≤◌}
 use lib.ListN.{length}
 use Rattle.image.specs.Lists.{stored_at}
 use Rattle.image_make.specs.Fresh.{fresh_nodes}
@@ -7,7 +6,4 @@ use Rattle.image_make.proofs.make.put_nodes.Given as goal
 
 abbrev pub invariant-loop-x : goal.invariant-loop-x
 invariant-loop-x l =
-    (l.b ≡ stored_at l.initial.b l.base (fresh_nodes l.tail l.x)) × (l.x ≤ l.n) × (length l.b ≡ length l.initial.b)
-
-abbrev pub decreases-loop-x : goal.decreases-loop-x
-decreases-loop-x l = l.n - l.x
+    (l.b ≡ stored_at l.initial.b l.base (fresh_nodes l.tail l.x)) × (length l.b ≡ length l.initial.b)

@@ -1,23 +1,12 @@
-use mathlib.Core.Path.{refl}
-use native.Mathlib.Omega.{arith}
-use lib.ListN.{length-set}
-use Rattle.image_make.proofs.Made.{none_repeated, one_repeated}
+use Rattle.std.proofs.Common.{◌≡◌, ◌+◌, ◌-◌, ◌≤◌, length, arith}
+use borrow.Rule.Slice.PartMut.{mid_of, mid_len}
+use Rattle.image_make.proofs.Made.{filled}
 use Rattle.image_make.proofs.make.repeat.Goals as goal
 
--- TODO goal same-length
--- same_length c = c.before.loop.invariant.2
-
-pub loop-k-init : goal.loop-k-init
-loop-k-init c =
+pub returns : goal.returns
+returns c =
     let a = c.args in
-    (none_repeated a.b.now a.o a.v, omega arith, refl)
-
-pub loop-k-preserved : goal.loop-k-preserved
-loop-k-preserved c =
-    let a = c.args in
-    let v = c.loop-k in (
-      one_repeated a.b.now v.b a.o v.k a.v v.invariant.0,
-      omega arith,
-      simp length-set
-          v.invariant.2,
-    )
+    let high : a.o + a.n ≤ length a.b.now = omega arith in
+    let long : length (mid_of a.o (a.o + a.n - a.o) a.b.now) ≡ a.n =
+    omega (arith, mid_len a.o (a.o + a.n) a.b.now high) in
+    filled a.b.now c.fill.new.self a.o a.n _ a.v (c.fill.ensures.after (λ y e. e)) long high

@@ -1,4 +1,3 @@
--- The loop has counted the nodes 1 to i.
 use mathlib.Core.Path.{◌≡◌, ◌∙◌}
 use mathlib.Core.Bool.{true, false}
 use Prim.Native.Nat.{◌+◌}
@@ -9,45 +8,20 @@ use Rattle.record_markers.proofs.Filling.{count_used, count_unused}
 use Rattle.image.specs.Image.{queue_in}
 use Rattle.image_markers.proofs.Nodes.{used_is}
 use Rattle.image_markers.proofs.counting.used_count.Goals as goal
-
--- TODO goal overflow-cast-base
--- cast-base c =
---     let s = c.before in
---     let b = s.args.image.now in
---     omega (arith, s.requires.long, few b s.requires, short b s.requires)
-
--- TODO goal overflow-cast-end
--- cast-end c =
---     let s = c.before.before in
---     let b = s.args.image.now in
---     omega (arith, s.requires.long, few b s.requires, short b s.requires)
-
-pub loop-i-preserved-then-image-o-eq-IN_USE : goal.loop-i-preserved-then-image-o-eq-IN_USE
-loop-i-preserved-then-image-o-eq-IN_USE c =
-    let b = c.args.image.now in
-    let v = c.loop-i in
-    let q = queue_in b in
-    let e : in_use_at q (v.i + 1) ≡ true =
-    used_is b c.requires (v.i + 1) (omega (arith, v.invariant.3)) ∙ eq-eqb _ _ c.if-image-o-eq-IN_USE.true in (
-      v.invariant.0,
-      v.invariant.1,
-      v.invariant.2,
-      omega arith,
-      omega (arith, v.invariant.4),
-      count_used q v.i e v.count v.invariant.5,
-    )
+use Rattle.image_markers.proofs.counting.used_count.Goals.{then-image-o-eq-IN_USE, else-image-o-eq-IN_USE}
 
 pub loop-i-preserved : goal.loop-i-preserved
 loop-i-preserved c =
     let b = c.args.image.now in
-    let v = c.loop-i in
+    let i = c.loop-i.i in
+    let v = c.loop-i.invariant in
     let q = queue_in b in
-    let e : in_use_at q (v.i + 1) ≡ false =
-    used_is b c.requires (v.i + 1) (omega (arith, v.invariant.3)) ∙ ne_eqb _ _ c.if-image-o-eq-IN_USE.false in (
-      v.invariant.0,
-      v.invariant.1,
-      v.invariant.2,
-      omega arith,
-      omega (arith, v.invariant.4),
-      v.invariant.5 ∙ count_unused q v.i e,
-    )
+    let is = used_is b c.requires (i + 1) (omega arith) in
+    elim c.if-image-o-eq-IN_USE.branch [
+      | then-image-o-eq-IN_USE w ↦
+          let e : in_use_at q (i + 1) ≡ true = is ∙ eq-eqb _ _ w.if-image-o-eq-IN_USE.true in
+          (omega (arith, w.count-is), w.count-is ∙ count_used q i e c.loop-i.count v.1)
+      | else-image-o-eq-IN_USE w ↦
+          let e : in_use_at q (i + 1) ≡ false = is ∙ ne_eqb _ _ w.if-image-o-eq-IN_USE.false in
+          (omega (arith, w.count-is), w.count-is ∙ v.1 ∙ count_unused q i e)
+    ]

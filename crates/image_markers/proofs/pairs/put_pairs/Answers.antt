@@ -1,4 +1,3 @@
--- The loop has put the bytes of the nodes 1 to i at the front.
 use mathlib.Core.Path.{◌≡◌, ◌∙◌, ap}
 use mathlib.Core.Bool.{true, false}
 use mathlib.Core.List.{List}
@@ -13,74 +12,49 @@ use Rattle.record_markers.proofs.Filling.{count_unused, pairs_unused}
 use Rattle.image.specs.Image.{queue_in}
 use Rattle.image_markers.proofs.Nodes.{used_is, mark_is, nodes_is}
 use Rattle.image_markers.proofs.pairs.put_pairs.Goals as goal
-
--- TODO goal overflow-cast-base
--- cast-base c =
---     let s = c.before.before.before in
---     let b = s.args.image.now in
---     omega (arith, s.requires.0.long, few b s.requires.0, short b s.requires.0)
-
--- TODO goal overflow-cast-end
--- cast-end c =
---     let s = c.before.before.before.before in
---     let b = s.args.image.now in
---     omega (arith, s.requires.0.long, few b s.requires.0, short b s.requires.0)
-
--- TODO goal same-length
--- same_length c = c.before.loop.invariant.7
+use Rattle.image_markers.proofs.pairs.put_pairs.Goals.{then-image-o-eq-IN_USE, else-image-o-eq-IN_USE}
 
 pub put_pair-requires : goal.put_pair-requires
 put_pair-requires c =
     let b = c.args.image.now in
     let q = queue_in b in
-    let v = c.loop-i in
-    let e : in_use_at q (v.i + 1) ≡ true =
-    used_is b c.requires.sound (v.i + 1) (omega (arith, v.invariant.3))
-    ∙ eq-eqb _ _ c.if-image-o-eq-IN_USE.true in
-    let h : v.i + 1 ≤ q.nodeCount = rw (nodes_is b) (omega arith) in
+    let i = c.loop-i.i in
+    let v = c.loop-i.invariant in
+    let e : in_use_at q (i + 1) ≡ true =
+    used_is b c.requires.sound (i + 1) (omega arith) ∙ eq-eqb _ _ c.if-image-o-eq-IN_USE.true in
+    let h : i + 1 ≤ q.node_count = rw (nodes_is b) (omega arith) in
     omega (
       arith,
-      room_used q v.i e q.nodeCount v.at (length c.args.area.now) h v.invariant.5
-          c.requires.image_in_bounds,
-      v.invariant.7,
-    )
-
-pub loop-i-preserved-then-image-o-eq-IN_USE : goal.loop-i-preserved-then-image-o-eq-IN_USE
-loop-i-preserved-then-image-o-eq-IN_USE c =
-    let b = c.args.image.now in
-    let q = queue_in b in
-    let v = c.loop-i in
-    let low : v.i + 1 ≤ get_or b 1 0 + 1 = omega (arith, v.invariant.3) in
-    let e : in_use_at q (v.i + 1) ≡ true =
-    used_is b c.requires.sound (v.i + 1) low ∙ eq-eqb _ _ c.if-image-o-eq-IN_USE.true in
-    let h : v.i + 1 ≤ q.nodeCount = rw (nodes_is b) (omega arith) in
-    let room = room_used q v.i e q.nodeCount v.at (length c.args.area.now) h
-    v.invariant.5 c.requires.image_in_bounds in
-    let p = c.put_pair.ensures in (
-      v.invariant.0,
-      v.invariant.1,
-      v.invariant.2,
-      omega arith,
-      omega (arith, v.invariant.4),
-      place_used q v.i e v.at v.invariant.5,
-      p ∙ area_used q v.i e c.args.area.now _ v.at _ v.invariant.5 room v.invariant.6
-          (mark_is b c.requires.sound (v.i + 1) low),
-      ap length p ∙ simp length-set v.invariant.7,
+      room_used q i e q.node_count _ (length c.args.area.now) h v.0 c.requires.image_in_bounds,
+      v.3,
     )
 
 pub loop-i-preserved : goal.loop-i-preserved
 loop-i-preserved c =
     let b = c.args.image.now in
     let q = queue_in b in
-    let v = c.loop-i in
-    let e : in_use_at q (v.i + 1) ≡ false =
-    used_is b c.requires.sound (v.i + 1) (omega (arith, v.invariant.3)) ∙ ne_eqb _ _ c.if-image-o-eq-IN_USE.false in (
-      v.invariant.0,
-      v.invariant.1,
-      v.invariant.2,
-      omega arith,
-      omega (arith, v.invariant.4),
-      v.invariant.5 ∙ ap (λ (n : ℕ). 2 * n) (count_unused q v.i e),
-      v.invariant.6 ∙ ap (λ (ps : List ℕ). at_front ps c.args.area.now) (pairs_unused q v.i e),
-      v.invariant.7,
-    )
+    let i = c.loop-i.i in
+    let v = c.loop-i.invariant in
+    let low : i + 1 ≤ get_or b 1 0 + 1 = omega arith in
+    let is = used_is b c.requires.sound (i + 1) low in
+    elim c.if-image-o-eq-IN_USE.branch [
+      | then-image-o-eq-IN_USE w ↦
+          let e : in_use_at q (i + 1) ≡ true = is ∙ eq-eqb _ _ w.if-image-o-eq-IN_USE.true in
+          let h : i + 1 ≤ q.node_count = rw (nodes_is b) (omega arith) in
+          let room =
+          room_used q i e q.node_count _ (length c.args.area.now) h v.0 c.requires.image_in_bounds in
+          let p = w.put_pair.ensures in (
+            w.at-is ∙ place_used q i e _ v.0,
+            omega (arith, w.at-is),
+            w.area-is ∙ p ∙ area_used q i e c.args.area.now _ _ _ v.0 room v.2
+                (mark_is b c.requires.sound (i + 1) low),
+            ap length (w.area-is ∙ p) ∙ simp length-set v.3,
+          )
+      | else-image-o-eq-IN_USE w ↦
+          let e : in_use_at q (i + 1) ≡ false = is ∙ ne_eqb _ _ w.if-image-o-eq-IN_USE.false in (
+            w.at-is ∙ v.0 ∙ ap (λ (n : ℕ). 2 * n) (count_unused q i e),
+            omega (arith, w.at-is),
+            w.area-is ∙ v.2 ∙ ap (λ (ps : List ℕ). at_front ps c.args.area.now) (pairs_unused q i e),
+            ap length w.area-is ∙ v.3,
+          )
+    ]

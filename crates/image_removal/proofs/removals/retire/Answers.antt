@@ -1,13 +1,6 @@
 use Rattle.image_removal.proofs.Steps.{retires}
 use Rattle.image_removal.proofs.removals.retire.Goals as goal
 
--- TODO goal same-length
--- same_length c =
---     let n = c.before.before.before.before.before.before in
---     simp length-set
---     (c.before.before.clear.auto.0 ∙ (simp length-set at n.put-number.auto.0)
---     ∙ n.before.before.before.before.tick.auto.0)
-
 pub returns : goal.returns
 returns c =
     retires c.args.image.now c.args.base c.args.p c.requires _ _
@@ -17,9 +10,4 @@ returns c =
       c.tick.ensures,
       c.number_from-t.ensures,
     ))
-    (simp (
-      c.deed_of-done.ensures,
-      c.number_from-due.ensures,
-      c.number_from-ticket.ensures,
-      c.number_from-item.ensures,
-    ))
+    (simp (c.deed_of-done.ensures, c.entry_at-entry.ensures))

@@ -6,7 +6,7 @@ pub returns-then-ahead : goal.returns-then-ahead
 returns-then-ahead c =
     search_ahead c.args.image.now c.args.base c.args.p c.requires _ _
     (sym c.if-ahead.true
-    ∙ rw (c.number_from-ticket.ensures, c.number_from-due.ensures) at
+    ∙ rw c.wanted_at-wanted.ensures at
     c.before_key-ahead.ensures)
     (simp c.tick.ensures) refl
 
@@ -14,7 +14,7 @@ pub returns-then-i-gt1 : goal.returns-then-i-gt1
 returns-then-i-gt1 c =
     search_down c.args.image.now c.args.base c.args.p c.requires _ _
     (sym c.if-ahead.false
-    ∙ rw (c.number_from-ticket.ensures, c.number_from-due.ensures) at
+    ∙ rw c.wanted_at-wanted.ensures at
     c.before_key-ahead.ensures)
     c.if-i-gt1.true (simp c.tick.ensures) refl
 
@@ -22,6 +22,6 @@ pub returns : goal.returns
 returns c =
     search_done c.args.image.now c.args.base c.args.p c.requires _ _
     (sym c.if-ahead.false
-    ∙ rw (c.number_from-ticket.ensures, c.number_from-due.ensures) at
+    ∙ rw c.wanted_at-wanted.ensures at
     c.before_key-ahead.ensures)
     c.if-i-gt1.false (simp c.tick.ensures) refl

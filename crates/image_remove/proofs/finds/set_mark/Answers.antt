@@ -1,11 +1,6 @@
 use Rattle.image_remove.proofs.Steps.{mark_set, marks}
 use Rattle.image_remove.proofs.finds.set_mark.Goals as goal
 
--- TODO goal same-length-2
--- same-length-2 c =
---     let t = c.before.before.before.before.before.before in
---     c.before.before.put_wanted.auto.0 ∙ simp length-set t.tick.auto.0
-
 pub returns-then-m-ne-UNMARKED : goal.returns-then-m-ne-UNMARKED
 returns-then-m-ne-UNMARKED c =
     mark_set c.args.image.now c.args.base c.args.p c.requires _ _ c.if-m-ne-UNMARKED.true
@@ -15,8 +10,4 @@ pub returns : goal.returns
 returns c =
     marks c.args.image.now c.args.base c.args.p c.requires _ _ c.if-m-ne-UNMARKED.false
     (simp (c.put_wanted.ensures, c.tick.ensures))
-    (simp (
-      c.number_from-due.ensures,
-      c.number_from-ticket.ensures,
-      c.number_from-item.ensures,
-    ))
+    (simp c.entry_at-entry.ensures)

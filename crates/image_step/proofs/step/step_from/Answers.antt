@@ -1,10 +1,17 @@
-use mathlib.Core.Path.{sym, ◌∙◌}
-use Rattle.image_parts.proofs.Refusals.{step_allowed, none_left}
+use mathlib.Core.Path.{refl, sym}
+use Rattle.rules.specs.declared.calls.Call.TheVariants as call
+use Rattle.image_parts.proofs.Refusals.{step_allowed}
+use Rattle.image_parts.proofs.Sounds.{kept_sound, refused_early}
 use Rattle.image_step.proofs.step.step_from.Goals as goal
+
+pub returns-in-Some : goal.returns-in-Some
+returns-in-Some c =
+    refused_early _ c.requires.0 (call.Step c.args.processor) _ (sym c.in-Some.ensures) _ refl
 
 pub stage_step-requires : goal.stage_step-requires
 stage_step-requires c =
-    let b = c.args.image.now in
-    let e = sym c.refusal_at-refusal.ensures ∙ none_left _ c.if-refusal-gt0.false in
-    let a = step_allowed b c.requires.0 c.args.processor e in
+    let a = step_allowed _ c.requires.0 c.args.processor (sym c.in-None.ensures) in
     (c.requires.0, c.requires.1, a.0, a.1, a.2)
+
+pub returns-in-None : goal.returns-in-None
+returns-in-None c = kept_sound _ c.requires.0 (call.Step c.args.processor) _ _ c.stage_step.ensures

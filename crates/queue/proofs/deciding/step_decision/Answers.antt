@@ -8,8 +8,8 @@ use Rattle.queue.proofs.Steps.{decided, here_low, ahead_low, own_read_low}
 use borrow.Author.Rules.{rules}
 use Rattle.queue.proofs.deciding.step_decision.Goals as goal
 
-pub bounds-q-x : goal.bounds-q-x
-bounds-q-x c =
+pub bounds-q-a : goal.bounds-q-a
+bounds-q-a c =
     let q = c.args.q in
     let p = c.args.p in
     let v = c.requires.0 in
@@ -18,8 +18,8 @@ bounds-q-x c =
     let read = processor_read q p processors low in
     here_low q p v c.requires.1 _ read _ c.reading_place-a.ensures
 
-pub bounds-q-y : goal.bounds-q-y
-bounds-q-y c =
+pub bounds-q-next : goal.bounds-q-next
+bounds-q-next c =
     let q = c.args.q in
     let p = c.args.p in
     let v = c.requires.0 in
@@ -31,8 +31,8 @@ bounds-q-y c =
     let here = node_read q _ long (here_low q p v c.requires.1 _ read _ a≡) in
     ahead_low q p v c.requires.1 _ read _ _ _ a≡ here c.forward_at-next.ensures
 
-pub bounds-q-z : goal.bounds-q-z
-bounds-q-z c =
+pub bounds-q-c : goal.bounds-q-c
+bounds-q-c c =
     let q = c.args.q in
     let p = c.args.p in
     let v = c.requires.0 in

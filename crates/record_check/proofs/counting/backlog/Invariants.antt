@@ -1,15 +1,11 @@
--- The record's check bounds the number of nodes; one more node is `count_next`.
+-- The record's check bounds the number of nodes; one more node is `count_more`.
 use mathlib.Core.Path.{◌≡◌}
-use Prim.Native.Nat.{◌≤◌, ◌-◌}
+use Prim.Native.Nat.{◌≤◌, ◌<◌, ◌-◌}
 use Rattle.laws.specs.HowMany.{how_many}
 use Rattle.record_check.specs.Backlog.{pending_at}
 use Rattle.record.specs.Limits.{max_nodes}
--- the answer, by what check 21 says
 use Rattle.record_check.proofs.counting.backlog.Given as goal
 
 abbrev pub invariant-loop-i : goal.invariant-loop-i
 invariant-loop-i l =
-    (l.q.nodeCount ≤ max_nodes) × (l.i ≤ l.end) × (l.count ≤ l.i) × (l.count ≡ how_many (pending_at l.q) l.i)
-
-abbrev pub decreases-loop-i : goal.decreases-loop-i
-decreases-loop-i l = l.end - l.i
+    (l.q.node_count ≤ max_nodes) × (l.count < l.i) × (l.count ≡ how_many (pending_at l.q) (l.i - 1))

@@ -1,7 +1,6 @@
 use mathlib.Core.Path.{◌≡◌, sym, ◌∙◌, ap}
-use Prim.Native.Nat.{ℕ, ◌-◌, ◌+◌}
+use Prim.Native.Nat.{ℕ}
 use native.Mathlib.Omega.{arith}
-use lib.ListN.{length-set}
 use lib.Seq.{sets}
 use Rattle.sheet_format.specs.Columns.{padded}
 use Rattle.sheet_format.proofs.Padding.{sets_column, sets_columns}
@@ -10,11 +9,8 @@ use Rattle.sheet_format.proofs.columns.columns_into.Goals as goal
 pub loop-k-preserved : goal.loop-k-preserved
 loop-k-preserved c =
     let l = c.loop-k in
-    let at = c.args.at in (
-      omega arith,
-      length-set l.area (at + (l.k - 1)) c.padded_digit.result ∙ l.invariant.1,
-      sets_column l.area at l.k l.rest c.padded_digit.result c.loop-k-test.true c.padded_digit.ensures ∙ l.invariant.2,
-    )
+    sets_column l.area c.args.at l.k l.rest c.padded_digit.result (omega arith) c.padded_digit.ensures
+    ∙ l.invariant
 
 pub returns : goal.returns
 returns c =
@@ -22,5 +18,5 @@ returns c =
     let l = c.loop-k in
     let e : l.k ≡ 0 = omega arith in
     ap (λ (k : ℕ). sets l.area x.at (padded k l.rest)) (sym e)
-    ∙ l.invariant.2
+    ∙ l.invariant
     ∙ sets_columns x.area.now x.at x.n c.last_digit.result c.last_digit.ensures

@@ -18,17 +18,15 @@ returns-then-not-is_digit c =
     let d : is_digit (get_or s l.k 0) ≡ false =
     ap is_digit (get_or-drop x.at x.line.now l.k 0) ∙ sym c.is_digit.ensures
     ∙ c.if-not-is_digit.true in
-    number_stops s x.width l.k l.value l.invariant.1 d
-    c.loop-k-test.true
+    number_stops s x.width l.k l.value l.invariant d c.loop-k-test.true
 
 pub extended-value-requires : goal.extended-value-requires
 extended-value-requires c =
     let x = c.args in
     let l = c.loop-k in
     let h : l.k ≤ 6 = omega arith in (
-      omega (arith, l.invariant.1.0, value_small (drop x.at x.line.now) l.k h),
-      sym
-          c.is_digit.ensures ∙ c.if-not-is_digit.false,
+      omega (arith, l.invariant.0, value_small (drop x.at x.line.now) l.k h),
+      sym c.is_digit.ensures ∙ c.if-not-is_digit.false,
     )
 
 pub loop-k-preserved : goal.loop-k-preserved
@@ -42,4 +40,4 @@ loop-k-preserved c =
     ∙ c.if-not-is_digit.false in
     let e : extended_by l.value (get_or s l.k 0) ≡ c.extended-value.result =
     ap (extended_by l.value) at ∙ sym c.extended-value.ensures in
-    (omega arith, rw (← e) (number_goes_on s x.width l.k l.value l.invariant.1 d))
+    rw (← e) (number_goes_on s x.width l.k l.value l.invariant d)

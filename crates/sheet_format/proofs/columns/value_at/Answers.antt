@@ -40,8 +40,8 @@ returns-then-behind-width c =
     first_zero s x.width f.result f.ensures.upper_bound.1 is (sym worth ∙ c.if-digit-eq0.true)
     c.if-behind-width.true
 
-pub returns-then-digit-eq0 : goal.returns-then-digit-eq0
-returns-then-digit-eq0 c =
+pub returns-else-behind-width : goal.returns-else-behind-width
+returns-else-behind-width c =
     let x = c.args in
     let f = c.spaces_at-first in
     let s = drop x.at x.line.now in

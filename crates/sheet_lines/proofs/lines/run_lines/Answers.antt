@@ -49,7 +49,7 @@ pub loop-k-init : goal.loop-k-init
 loop-k-init c =
     let a = c.args in (
       at_first a.sheet.now a.image.now a.area.now a.writing c.requires.0,
-      (omega arith, (omega arith, refl)),
+      (omega arith, refl),
     )
 
 pub loop-k-preserved : goal.loop-k-preserved
@@ -59,15 +59,12 @@ loop-k-preserved c =
     c.loop-left.invariant.0 _ _
     (entry c.args.sheet.now c.args.kept.now _ c.line_count-count.result c.loop-k.k c.kept_line-l.result
     _ _ _ _ c.calls_of-left.result c.args.writing c.line_count-count.ensures c.requires.1
-    c.loop-k-test.true c.loop-k.invariant.1.0 c.loop-k.invariant.0 c.kept_line-l.ensures
+    c.loop-k-test.true c.loop-k.auto.k c.loop-k.invariant.0 c.kept_line-l.ensures
     c.calls_of-left.ensures) in (
       ends _ _ _ _ _ _ c.loop-left.image c.loop-left.area c.loop-left.at c.loop-left.left z i,
       (
-        omega arith,
-        (
-          omega (arith, c.loop-k-test.true, c.loop-k.invariant.1.0),
-          c.loop-left.invariant.1 ∙ c.loop-k.invariant.1.1.1,
-        ),
+        omega (arith, c.loop-k-test.true, c.loop-k.auto.k),
+        c.loop-left.invariant.1 ∙ c.loop-k.invariant.1.1,
       ),
     )
 
@@ -77,7 +74,7 @@ call_line-answer-requires c =
     c.loop-left.invariant.0 _ _
     (entry c.args.sheet.now c.args.kept.now _ c.line_count-count.result c.loop-k.k c.kept_line-l.result
     _ _ _ _ c.calls_of-left.result c.args.writing c.line_count-count.ensures c.requires.1
-    c.loop-k-test.true c.loop-k.invariant.1.0 c.loop-k.invariant.0 c.kept_line-l.ensures
+    c.loop-k-test.true c.loop-k.auto.k c.loop-k.invariant.0 c.kept_line-l.ensures
     c.calls_of-left.ensures) in
     held.sound
 
@@ -114,11 +111,11 @@ returns-then-not-append_event c =
     c.loop-left.invariant.0 _ _
     (entry c.args.sheet.now c.args.kept.now _ c.line_count-count.result c.loop-k.k c.kept_line-l.result
     _ _ _ _ c.calls_of-left.result c.args.writing c.line_count-count.ensures c.requires.1
-    c.loop-k-test.true c.loop-k.invariant.1.0 c.loop-k.invariant.0 c.kept_line-l.ensures
+    c.loop-k-test.true c.loop-k.auto.k c.loop-k.invariant.0 c.kept_line-l.ensures
     c.calls_of-left.ensures) in
     let last =
     last_line c.line_count-count.result c.loop-k.k (line_count c.args.sheet.now)
-    c.line_count-count.ensures c.loop-k-test.true c.loop-k.invariant.1.0 in
+    c.line_count-count.ensures c.loop-k-test.true c.loop-k.auto.k in
     let long =
     call_long c.args.sheet.now (queue_in c.args.image.now) (c.loop-k.k + 1) c.kept_line-l.result
     c.args.area.now c.args.writing c.loop-left.image c.loop-left.area c.loop-left.at c.loop-left.left
@@ -130,7 +127,7 @@ returns-then-not-append_event c =
     record {
       value = long_told _ _ _ _ _ _ c.loop-left.at _ held.written long;
       area_after =
-          part_written _ _ _ _ _ _ c.loop-left.at _ held.written long _ c.event_for-e.result room
+          part_written _ _ _ _ _ _ c.loop-left.at _ held.written long _ c.event_for-line.result room
           new.ensures.area_after;
       image_after =
           part_image _ _ _ _ _ _ c.loop-left.at _ held.written long _ call.ensures.1 on.here;
@@ -147,9 +144,9 @@ loop-left-preserved c =
     let call = c.call_line-answer in
     let new = c.append_event in
     let told = sym c.is_silent.ensures ∙ c.if-is_silent.false in
-    let time = c.number_from-t.ensures ∙ sym (clock_is _) in
+    let time = c.number_from-time.ensures ∙ sym (clock_is _) in
     let event =
-    c.event_for-e.ensures
+    c.event_for-line.ensures
     ∙ ap (λ (t : ℕ). event_for (call_of c.kept_line-l.result) t (reported call.result)) time in (
       λ q x e. call_prints_lem c.args.sheet.now q (c.loop-k.k + 1) c.kept_line-l.result x c.args.writing
           c.loop-left.image c.loop-left.area c.loop-left.at c.loop-left.left
@@ -164,7 +161,7 @@ returns-clause-area_after c =
     let s = c.args.sheet.now in
     let e : c.line_count-count.result ≡ line_count s = c.line_count-count.ensures in
     let k : c.loop-k.k - 1 ≡ line_count s - 1 =
-    omega (arith, e, c.loop-k-test.false, c.loop-k.invariant.1.1.0) in
+    omega (arith, e, c.loop-k-test.false, c.loop-k.invariant.1.0) in
     all_written _ _ _ _ _ _ c.loop-k.at _ c.loop-k.invariant.0 k
 
 pub returns-clause-image_after : goal.returns-clause-image_after
@@ -172,5 +169,5 @@ returns-clause-image_after c =
     let s = c.args.sheet.now in
     let e : c.line_count-count.result ≡ line_count s = c.line_count-count.ensures in
     let k : c.loop-k.k - 1 ≡ line_count s - 1 =
-    omega (arith, e, c.loop-k-test.false, c.loop-k.invariant.1.1.0) in
+    omega (arith, e, c.loop-k-test.false, c.loop-k.invariant.1.0) in
     all_image _ _ _ _ _ _ c.loop-k.at _ c.loop-k.invariant.0 k

@@ -1,6 +1,6 @@
 use mathlib.Core.Path.{◌≡◌}
 use mathlib.Core.List.{List}
-use Prim.Native.Nat.{ℕ, ◌-◌, ◌≤◌}
+use Prim.Native.Nat.{ℕ, ◌+◌, ◌-◌, ◌≤◌}
 use lib.ListN.{length}
 use Rattle.record.specs.declared.queues.Queue.{Queue}
 use Rattle.image.specs.Image.{queue_in}
@@ -10,8 +10,8 @@ use Rattle.sheet_lines.proofs.lines.run_lines.Given as goal
 abbrev pub invariant-loop-left : goal.invariant-loop-left
 invariant-loop-left l =
     ((q : Queue) (a : List ℕ) →
-    Within l.sheet q l.k l.l l.initial.left l.initial.image a l.initial.area l.initial.at l.writing →
-    Within l.sheet q l.k l.l l.left l.image a l.area l.at l.writing)
+    Within l.sheet q (l.k + 1) l.l l.initial.left l.initial.image a l.initial.area l.initial.at l.writing →
+    Within l.sheet q (l.k + 1) l.l l.left l.image a l.area l.at l.writing)
     × (length l.image ≡ length l.initial.image)
 
 abbrev pub decreases-loop-left : goal.decreases-loop-left
@@ -20,7 +20,4 @@ decreases-loop-left l = l.left
 abbrev pub invariant-loop-k : goal.invariant-loop-k
 invariant-loop-k l =
     Between l.sheet (queue_in l.initial.image) l.k l.image l.initial.area l.area l.at l.writing
-    × ((1 ≤ l.k) × ((l.k - 1 ≤ l.count - 1) × (length l.image ≡ length l.initial.image)))
-
-abbrev pub decreases-loop-k : goal.decreases-loop-k
-decreases-loop-k l = l.count - l.k
+    × ((l.k - 1 ≤ l.count - 1) × (length l.image ≡ length l.initial.image))

@@ -1,8 +1,0 @@
-use mathlib.Core.Path.{refl}
-use Rattle.image_removal.proofs.Steps.{frees_node}
-use Rattle.image_removal.proofs.removals.free_node.Goals as goal
-
-pub returns : goal.returns
-returns c =
-    frees_node c.args.image.now c.args.base c.args.p c.requires _ _
-    (simp c.tick.ensures) refl
