@@ -7,15 +7,15 @@ mod decimals;
 mod printing;
 mod reading;
 
-use crate::printing::print_run;
+use crate::printing::{LENT, print_run};
 use crate::reading::read_full;
 use std::io;
 
 fn main(rt: HostRuntime) -> io::Result<()> {
     // fixed memory: no heap
-    let mut sheet = [0; 65536];
+    let mut sheet = [0; LENT];
     let n = read_full(&mut rt.reader(), &mut sheet)?;
-    let mut area = [0; 65536];
+    let mut area = [0; LENT];
     let k = print_run(&sheet[..n], &mut area);
     rt.write_all(&area[..k])
 }

@@ -8,7 +8,7 @@ use sheet_format::letters::{LINE_FEED, SPACE};
 use sheet_run::run_sheet;
 
 // What of a sheet is taken, and what is lent for its history.
-const LENT: usize = 65536;
+pub(crate) const LENT: usize = 65536;
 
 // A refusal's number and line, written to the front of the area: how many bytes.
 fn print_refusal(area: &mut [u8], number: u32, line: u32) -> usize
@@ -25,7 +25,7 @@ fn print_refusal(area: &mut [u8], number: u32, line: u32) -> usize
 
 // What is printed for a sheet that is taken whole.
 fn print_sheet(sheet: &[u8], area: &mut [u8]) -> usize
-    requires { (length sheet.now ≤ 65536) × (length area.old ≡ 65536) }
+    requires { (length sheet.now ≤ LENT) × (length area.old ≡ LENT) }
     ensures value { result ≡ length (text_of sheet.now) }
     ensures area_after { area.new ≡ at_front (text_of sheet.now) area.old }
 {
@@ -36,7 +36,7 @@ fn print_sheet(sheet: &[u8], area: &mut [u8]) -> usize
 }
 
 // What the program prints for a sheet, written to the front of the area: how many bytes.
-pub fn print_run(sheet: &[u8], area: &mut [u8; 65536]) -> usize
+pub fn print_run(sheet: &[u8], area: &mut [u8; LENT]) -> usize
     ensures value { result ≡ length (program_prints sheet.now) }
     ensures area_after { area.new ≡ at_front (program_prints sheet.now) area.old }
 {

@@ -30,7 +30,7 @@ const FEW_KEPT: usize = FEW_LINES * SHEET_FIELDS;
 
 // What `run_sheet` does, with a list of N numbers of lines that are kept.
 fn run_keeping<const N: usize>(sheet: &[u8], history: &mut [u8]) -> Result<usize, SheetRefusal>
-    requires { N ≤ 8736 }
+    requires { N ≤ KEPT }
     ensures value { result ≡ ran_sheet sheet.now (length history.old) }
     ensures history_after { history.new ≡ area_after sheet.now history.old }
     ensures sheet_agrees { SheetAgrees sheet.now }
