@@ -11,6 +11,7 @@ use lib.Dec.{ltb, eqb}
 use borrow.Author.Tests.{eq-eqb, ne_eqb, ltb-false}
 use Rattle.record.specs.declared.queues.Processor.{Processor}
 use Rattle.record.specs.declared.refusals.Refusal.TheVariants as refusal
+use Rattle.record.specs.Refusals.{refusal_number}
 use Rattle.record.specs.declared.stages.Delete.TheVariants as del
 use Rattle.record.specs.declared.stages.Relaxed.TheVariants as rlx
 use Rattle.record.specs.declared.stages.Remove.TheVariants as rmv
@@ -139,7 +140,8 @@ module _ (b : List ℕ) (p : ℕ) (s : Sound b) where
 
 module _ (b : List ℕ) (p due item height : ℕ) (s : Sound b)
     (e : refusal_in b (call.Insert p due item height) ≡ None) where
-  pub insert_without : (r : Answer) → chosen (queue_in b) ≡ 0 → r ≡ ans.Refused refusal.NoNode →
+  pub insert_without :
+      (r : Answer) → chosen (queue_in b) ≡ 0 → r ≡ ans.Refused (refusal_number refusal.NoNode) →
       Called b (call.Insert p due item height) b r
   insert_without r x f =
       refused_late b s (call.Insert p due item height) e refusal.NoNode (rw (eq-eqb _ 0 x) refl) r

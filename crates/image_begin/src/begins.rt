@@ -49,7 +49,7 @@ pub fn begin_delete_min_at(image: &mut [u8], processor: u32) -> Answer
     ensures { Called image.old (call.DeleteMin processor) image.new result }
 {
     if let Some(refusal) = refusal_at(image, Call::DeleteMin(processor)) {
-        return Answer::Refused(refusal);
+        return Answer::Refused(refusal.number());
     }
     begin_walk(image, processor, tag::READ_NEXT, 1)
 }
@@ -60,7 +60,7 @@ pub fn begin_relaxed_at(image: &mut [u8], processor: u32) -> Answer
     ensures { Called image.old (call.Relaxed processor) image.new result }
 {
     if let Some(refusal) = refusal_at(image, Call::Relaxed(processor)) {
-        return Answer::Refused(refusal);
+        return Answer::Refused(refusal.number());
     }
     begin_walk(image, processor, tag::RELAXED_READ_NEXT, 1)
 }
@@ -71,7 +71,7 @@ pub fn begin_remove_at(image: &mut [u8], processor: u32, due: u32, ticket: u32) 
     ensures { Called image.old (call.Remove processor due ticket) image.new result }
 {
     if let Some(refusal) = refusal_at(image, Call::Remove(processor, due, ticket)) {
-        return Answer::Refused(refusal);
+        return Answer::Refused(refusal.number());
     }
     let l = image[header::LEVEL_COUNT];
     let began = begin_walk(image, processor, tag::REMOVE_SEARCH, l);
@@ -87,11 +87,11 @@ pub fn begin_insert_at(image: &mut [u8], processor: u32, due: u32, item: u32, he
         image.new result }
 {
     if let Some(refusal) = refusal_at(image, Call::Insert(processor, due, item, height)) {
-        return Answer::Refused(refusal);
+        return Answer::Refused(refusal.number());
     }
     let base = HEADER + PROCESSOR_BYTES * (image[header::PROCESSOR_COUNT] as usize);
     let Some(x) = choose(image, base) else {
-        return Answer::Refused(Refusal::NoNode);
+        return Answer::Refused(Refusal::NoNode.number());
     };
     let l = image[header::LEVEL_COUNT];
     let tail = image[header::NODE_COUNT] + 1;

@@ -57,6 +57,12 @@ zero_low : (x : ℕ) → eqb 0 x ≡ leb x 0
 zero_low zero = refl
 zero_low (suc x) = ne_eqb 0 (suc x) (λ e. omega arith) ∙ sym (lt-leb (suc x) 0 (omega arith))
 
+-- at most 0 is 0
+pub low_zero : (x : ℕ) → eqb x 0 ≡ leb x 0
+low_zero zero = refl
+low_zero (suc x) =
+    ne_eqb (suc x) 0 (λ h. omega (arith, h)) ∙ sym (lt-leb (suc x) 0 (omega arith))
+
 -- an entry's node is at most the tail
 lower : (a n : ℕ) → (leb a (n + 1) && within a n) ≡ within a n
 lower a n = go (within a n) refl

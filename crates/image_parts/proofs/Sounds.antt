@@ -12,6 +12,7 @@ use Rattle.record.specs.declared.nodes.Node.{Node}
 use Rattle.record.specs.declared.queues.Processor.{Processor}
 use Rattle.record.specs.declared.queues.Queue.{Queue}
 use Rattle.record.specs.declared.refusals.Refusal.{Refusal}
+use Rattle.record.specs.Refusals.{refusal_number}
 use Rattle.record.specs.declared.stages.Place.{Place}
 use Rattle.record.specs.declared.stages.Seek.TheVariants as seek
 use Rattle.record.specs.declared.stages.Insert.TheVariants as ins
@@ -258,7 +259,7 @@ call_is b s c = ap (λ (o : Outcome). o.queue) (sym (call_inner (queue_in b) c s
 
 -- a refused call
 pub refuses : (b : List ℕ) → Sound b → (o : Outcome) (n : Refusal) (r : Answer) → o
-    ≡ refused (queue_in b) n → r ≡ ans.Refused n → Gives o b r
+    ≡ refused (queue_in b) n → r ≡ ans.Refused (refusal_number n) → Gives o b r
 refuses b s o n r e f = record {
   bytes = sym s.image ∙ ap (λ (u : Outcome). image_of u.queue) (sym e);
   answer = f ∙ ap (λ (u : Outcome). u.answer) (sym e);
@@ -272,14 +273,15 @@ module _ (b : List ℕ) (s : Sound b) (c : Call) where
 
   -- refused before a node is looked for, and for want of one
   pub refused_early :
-      (n : Refusal) → refusal_in b c ≡ Some n → (r : Answer) → r ≡ ans.Refused n → Called b c b r
+      (n : Refusal) → refusal_in b c ≡ Some n → (r : Answer) → r ≡ ans.Refused (refusal_number n) →
+      Called b c b r
   refused_early n e r f =
       let at = first_told (refusal_in b c) (node_refusal c (taken (queue_in b) c)) n e in
       kept_sound b r (refuses b s _ n r (call_told (queue_in b) c n at) f)
 
   pub refused_late :
       refusal_in b c ≡ None → (n : Refusal) → node_refusal c (taken (queue_in b) c) ≡ Some n →
-      (r : Answer) → r ≡ ans.Refused n → Called b c b r
+      (r : Answer) → r ≡ ans.Refused (refusal_number n) → Called b c b r
   refused_late e n g r f =
       let at = first_none (refusal_in b c) (node_refusal c (taken (queue_in b) c)) e ∙ g in
       kept_sound b r (refuses b s _ n r (call_told (queue_in b) c n at) f)

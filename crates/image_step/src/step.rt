@@ -91,7 +91,7 @@ pub fn step_from(image: &mut [u8], base: usize, processor: u32) -> Answer
     ensures { Called image.old (call.Step processor) image.new result }
 {
     match refusal_at(image, Call::Step(processor)) {
-        Some(refusal) => Answer::Refused(refusal),
+        Some(refusal) => Answer::Refused(refusal.number()),
         None => stage_step(image, base, processor as usize),
     }
 }

@@ -22,7 +22,7 @@ fn refused(queue: Queue, refusal: Refusal) -> Outcome
 {
     Outcome {
         queue,
-        answer: Answer::Refused(refusal),
+        answer: Answer::Refused(refusal.number()),
     }
 }
 

@@ -12,6 +12,11 @@ pub fn make(q: &mut Queue, p: u32, n: u32, l: u32) -> Result<(), Refusal>
     ensures stored { q.new ≡ remade q.old (made p n l) }
     ensures told { result ≡ told (made p n l) }
 {
-    *q = record_check::make(p, n, l)?;
-    Ok(())
+    match record_check::make(p, n, l) {
+        Ok(made) => {
+            *q = made;
+            Ok(())
+        }
+        Err(e) => Err(e.refusal),
+    }
 }

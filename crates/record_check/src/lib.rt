@@ -8,4 +8,4 @@ pub mod making;
 
 pub use check::{Sizes, valid};
 pub use counting::backlog;
-pub use making::{make, making_refusal, outside};
+pub use making::{Unmade, make, making_refusal, outside};

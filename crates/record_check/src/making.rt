@@ -2,12 +2,20 @@
 ghost use Rattle.std.specs.Prelude.{◌≡◌, ◌+◌, ◌<◌, None};
 ghost use Rattle.std.specs.Result.{result_err};
 ghost use Rattle.record.specs.Queues.{fresh_queue};
-ghost use Rattle.record_check.specs.Making.{outside as outside_of, made};
+ghost use Rattle.record_check.specs.Making.{outside as outside_of, made, given};
 
 use record::limits::{MAX_LEVELS, MAX_NODES, MAX_PROCESSORS};
 use record::nodes::Node;
 use record::queues::{Processor, Queue};
 use record::refusals::Refusal;
+
+// What a refused making gives: the refusal, and the smallest queue, of one processor, node and
+// level.
+#[derive(Clone, Copy)]
+pub struct Unmade {
+    pub refusal: Refusal,
+    pub queue: Queue,
+}
 
 // The record of a queue that is just made.
 fn fresh(p: u8, n: u8, l: u8) -> Queue
@@ -48,11 +56,12 @@ pub fn making_refusal(p: u32, n: u32, l: u32) -> Option<Refusal>
 
 // A queue for p processors (1 to 16; else refused with 11), n nodes (1 to 200; else 12) and l
 // levels (1 to 8; else 13).
-pub fn make(p: u32, n: u32, l: u32) -> Result<Queue, Refusal>
-    ensures { result ≡ made p n l }
+pub fn make(p: u32, n: u32, l: u32) -> Result<Queue, Unmade>
+    ensures { result ≡ given (made p n l) }
 {
     if let Some(refusal) = making_refusal(p, n, l) {
-        return Err(refusal);
+        let queue = fresh(1, 1, 1);
+        return Err(Unmade { refusal, queue });
     }
     Ok(fresh(p as u8, n as u8, l as u8))
 }

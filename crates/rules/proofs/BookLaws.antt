@@ -188,7 +188,7 @@ module _ (flag : BookEntry → Bool) (t : ℕ) (answer_keeps : (l : BookEntry) (
     step_moves (unlinking job y) = same
 
     fed_begin : (begun : ℕ → Verdict) (a : Answer) → ((x : ℕ) → K (begun x)) → K (feed_begin b begun a)
-    fed_begin begun (ans.Refused r) h = S
+    fed_begin begun (ans.Refused n) h = S
     fed_begin begun (ans.Began x) h = h x
     fed_begin begun ans.Moved h = tt
     fed_begin begun (ans.Waits l) h = tt
@@ -215,7 +215,7 @@ module _ (flag : BookEntry → Bool) (t : ℕ) (answer_keeps : (l : BookEntry) (
     fed_deed p e deed.TakenBack = remove_takes_back p e (b.opened p)
 
     fed_step : (p : ℕ) (a : Answer) → K (feed_step b p a)
-    fed_step p (ans.Refused r) = S
+    fed_step p (ans.Refused n) = S
     fed_step p (ans.Began x) = tt
     fed_step p ans.Moved = step_moves (b.opened p)
     fed_step p (ans.Waits h) = step_moves (b.opened p)

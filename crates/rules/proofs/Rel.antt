@@ -97,7 +97,7 @@ pub record Booked (v : View) (p : ℕ) (b : Book) (d : Decision) : Type 0 where
 
 -- a step that neither begins, answers nor marks
 abbrev pub moving : Answer → Type 0
-moving (ans.Refused r) = ⊥
+moving (ans.Refused n) = ⊥
 moving (ans.Began t) = ⊥
 moving ans.Moved = Unit {0}
 moving (ans.Waits h) = Unit {0}
@@ -215,7 +215,7 @@ moves_busy b h (stage.Removal job r) T t k≥ = refl
 
 fed_moving : (b : Book) (p h : ℕ) (k : Stage) (T t : ℕ) → 1 ≤ (info h k).kind →
     b.opened p ≡ opens k T t → (a : Answer) → moving a → feed_step b p a ≡ agrees (counted b)
-fed_moving b p h k T t k≥ e (ans.Refused r) m = absurd m
+fed_moving b p h k T t k≥ e (ans.Refused n) m = absurd m
 fed_moving b p h k T t k≥ e (ans.Began n) m = absurd m
 fed_moving b p h k T t k≥ e ans.Moved m = rw e (moves_busy b h k T t k≥)
 fed_moving b p h k T t k≥ e (ans.Waits l) m = rw e (moves_busy b h k T t k≥)

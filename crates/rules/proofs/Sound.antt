@@ -10,6 +10,7 @@ use borrow.Author.Tests.{ltb-false, eqb-false, eq-eqb}
 use Rattle.laws.specs.Update.{changed_at}
 use Rattle.laws.proofs.Updating.{changed_other}
 use Rattle.record.specs.declared.refusals.Refusal.{Refusal}
+use Rattle.record.specs.Refusals.{refusal_number}
 use Rattle.record.specs.declared.queues.Queue.{Queue}
 use Rattle.record.specs.Queues.{processor_at, fresh_processor}
 use Rattle.record.specs.Stages.{place, wanted_of, is_idle}
@@ -87,7 +88,7 @@ module _ (q : Queue) (b : Book) (S : Sound q b) where
   abbrev v : View
   v = view_of q
 
-  refused_agrees : (feeds : Answer → Verdict) (r : Refusal) → feeds (ans.Refused r) ≡ agrees b → Agrees feeds (refused q r)
+  refused_agrees : (feeds : Answer → Verdict) (r : Refusal) → feeds (ans.Refused (refusal_number r)) ≡ agrees b → Agrees feeds (refused q r)
   refused_agrees feeds r e = record { book = b; fed = e; sound = S }
 
   -- an accepted call, by what its decision does to the view
@@ -110,11 +111,11 @@ module _ (q : Queue) (b : Book) (S : Sound q b) where
       }
 
   -- a call, of which a refusal changes nothing in the book
-  of : (c : Call) (feeds : Answer → Verdict) → ((r : Refusal) → feeds (ans.Refused r) ≡ agrees b) →
+  of : (c : Call) (feeds : Answer → Verdict) → ((n : ℕ) → feeds (ans.Refused n) ≡ agrees b) →
       (Allowed q c → Agrees feeds (accepted q (processor_of c) (decision_of q c))) →
       Agrees feeds (called q c)
   of c feeds r h =
-      of_call (Agrees feeds) q c (λ n. refused_agrees feeds n (r n)) (λ _ A. h A)
+      of_call (Agrees feeds) q c (λ n. refused_agrees feeds n (r (refusal_number n))) (λ _ A. h A)
 
   -- an idle processor holds nothing
   idle_passes : (p : ℕ) → (claim v p).kind ≡ 0 → (d : Decision) → ((h : ℕ) (l : Lock) → Takes d.effect l → Holds (info h d.stage) d.own l) → Passes (claim v p) (v.pr p).own d

@@ -212,7 +212,7 @@ asked_for q p h g e (for_own job a x) = record {
 
 -- whom an answer names
 abbrev named : Answer → ℕ
-named (ans.Refused r) = 0
+named (ans.Refused n) = 0
 named (ans.Began t) = 0
 named ans.Moved = 0
 named (ans.Waits h) = h

@@ -27,7 +27,7 @@ deed_code deed.TakenBack = 7
 -- an answer in document 01's numbers: of a refusal its number; of the rest 0 for a begin, and 1 to
 -- 6 in the order in which document 01 names a step's reports; 7 and 8 for a Remove's (02, W5)
 abbrev pub reported : Answer → Report
-reported (ans.Refused r) = report (refusal_number r) []
+reported (ans.Refused n) = report n []
 reported (ans.Began t) = report 0 (t ∷ [])
 reported ans.Moved = report 1 []
 reported (ans.Waits h) = report 2 (h ∷ [])
@@ -49,10 +49,10 @@ plain_of a = plain_report (reported a)
 
 -- a refused call leaves the record as it was, its clock too
 abbrev pub refused : Queue → Refusal → Outcome
-refused q r = record { queue = q; answer = ans.Refused r }
+refused q r = record { queue = q; answer = ans.Refused (refusal_number r) }
 
 abbrev pub is_refused : Answer → Bool
-is_refused (ans.Refused r) = true
+is_refused (ans.Refused n) = true
 is_refused (ans.Began t) = false
 is_refused ans.Moved = false
 is_refused (ans.Waits h) = false
@@ -61,7 +61,7 @@ is_refused (ans.NotThere w) = false
 is_refused (ans.Did d e) = false
 
 abbrev pub is_waits : Answer → Bool
-is_waits (ans.Refused r) = false
+is_waits (ans.Refused n) = false
 is_waits (ans.Began t) = false
 is_waits ans.Moved = false
 is_waits (ans.Waits h) = true

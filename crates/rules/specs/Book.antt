@@ -333,7 +333,7 @@ moves b (unlinking job t) = agrees (ticked b)
 -- the book after the answer of a begin: a refusal changes nothing, the time is right where `begun`
 -- says so, and no other answer is
 abbrev pub feed_begin : Book → (ℕ → Verdict) → Answer → Verdict
-feed_begin b begun (ans.Refused r) = agrees b
+feed_begin b begun (ans.Refused n) = agrees b
 feed_begin b begun (ans.Began t) = begun t
 feed_begin b begun ans.Moved = differs
 feed_begin b begun (ans.Waits h) = differs
@@ -361,7 +361,7 @@ feed_deed b p e deed.HandedOut = hands_out b p e (b.opened p)
 feed_deed b p e deed.TakenBack = takes_back b p e (b.opened p)
 
 abbrev pub feed_step : Book → ℕ → Answer → Verdict
-feed_step b p (ans.Refused r) = agrees b
+feed_step b p (ans.Refused n) = agrees b
 feed_step b p (ans.Began t) = differs
 feed_step b p ans.Moved = moves b (b.opened p)
 feed_step b p (ans.Waits h) = moves b (b.opened p)

@@ -50,7 +50,7 @@ abbrev pub renamed_entry : (ℕ → ℕ) → Entry → Entry
 renamed_entry f e = record { due = e.due; item = f e.item; ticket = e.ticket }
 
 abbrev pub renamed_answer : (ℕ → ℕ) → Answer → Answer
-renamed_answer f (ans.Refused r) = ans.Refused r
+renamed_answer f (ans.Refused n) = ans.Refused n
 renamed_answer f (ans.Began t) = ans.Began t
 renamed_answer f ans.Moved = ans.Moved
 renamed_answer f (ans.Waits h) = ans.Waits h

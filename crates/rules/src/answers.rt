@@ -2,7 +2,7 @@
 ghost use Rattle.std.specs.Prelude.{◌≡◌};
 ghost use Rattle.rules.specs.Answers.{plain_from, plain_of, deed_code, is_refused, is_waits};
 
-use record::{Queue, Refusal, Wanted};
+use record::{Queue, Wanted};
 
 // What an entry holds.
 #[derive(Clone, Copy)]
@@ -32,7 +32,8 @@ impl Deed {
 // specs/Answers.antt gives document 01's number and values of each case.
 #[derive(Clone, Copy)]
 pub enum Answer {
-    Refused(Refusal),
+    // a number, so that `plain` takes any
+    Refused(u8),
     Began(u32),
     Moved,
     // for a lock, and the processor that holds it (02, W1)
@@ -78,7 +79,7 @@ pub fn plain(a: Answer) -> PlainAnswer
     ensures { result ≡ plain_of a }
 {
     match a {
-        Answer::Refused(r) => with_values(r.number() as u32, 0, 0, 0),
+        Answer::Refused(number) => with_values(number as u32, 0, 0, 0),
         Answer::Began(t) => with_values(0, t, 0, 0),
         Answer::Moved => with_values(1, 0, 0, 0),
         Answer::Waits(h) => with_values(2, h as u32, 0, 0),

@@ -27,6 +27,11 @@ places_to s k (suc j) = places_to s k j + digit_of (get_or s j 0) * 10 ^ (k - su
 abbrev pub columns_value : List ℕ → ℕ → ℕ
 columns_value s k = places_to s k k
 
+-- how many spaces there are before the first byte that is none
+abbrev pub spaces_of : List ℕ → ℕ
+spaces_of [] = 0
+spaces_of (c ∷ cs) = cond (is_space c) (suc (spaces_of cs)) 0
+
 -- the first k columns hold spaces alone
 abbrev pub blank_to : List ℕ → ℕ → Bool
 blank_to s k = every_below (λ j. is_space (get_or s j 0)) k

@@ -3,7 +3,7 @@ ghost use Rattle.std.specs.Prelude.{◌≡◌, true, false, ◌+◌, ◌≤◌, 
 ghost use Rattle.std.specs.Prelude.{length, get_or, drop, slice_index};
 ghost use Rattle.std.proofs.lemmas.List.Edits.{sets};
 ghost use Rattle.sheet_format.specs.Columns.{is_space, is_digit, blank_to, value_to, number_of};
-ghost use Rattle.sheet_format.specs.Columns.{last_digit, padded_digit, columns};
+ghost use Rattle.sheet_format.specs.Columns.{last_digit, padded_digit, columns, spaces_of};
 ghost use Rattle.sheet_format.specs.Digits.{extended_by, NumberSoFar};
 ghost use Rattle.sheet_format.specs.Letters.{space};
 
@@ -30,6 +30,7 @@ fn extended(value: u32, c: u8) -> u32
 
 // How many spaces there are before the first byte that is none.
 pub fn spaces_before(columns: &[u8]) -> usize
+    ensures value { result ≡ spaces_of columns.now }
     ensures within { result ≤ length columns.now }
     ensures before { (k : ℕ) → k < result → slice_index columns.now k ≡ space }
     ensures found { result < length columns.now → slice_index columns.now result ≢ space }

@@ -1,5 +1,6 @@
-use mathlib.Core.Path.{sym, ◌∙◌, refl}
+use mathlib.Core.Path.{sym, ap, ◌∙◌}
 use native.Mathlib.Omega.{arith}
+use Rattle.rules.specs.declared.answers.Answer.TheVariants as ans
 use Rattle.image_begin.proofs.Begun.{based, insert_without, insert_begins_lem, insert_stored, chosen_low}
 use Rattle.image_begin.proofs.Choices.{some_found, none_found}
 use Rattle.image_begin.proofs.begins.begin_insert_at.Goals as goal
@@ -20,7 +21,8 @@ returns-in_default-choose c =
     let a = c.args in
     insert_without a.image.now a.processor a.due a.item a.height c.requires
     (sym c.in_default.ensures) _
-    (none_found _ (sym c.in_default-choose.is ∙ c.choose.ensures)) refl
+    (none_found _ (sym c.in_default-choose.is ∙ c.choose.ensures))
+    (ap ans.Refused c.number-in_default-choose.ensures)
 
 pub returns : goal.returns
 returns c =

@@ -1,4 +1,5 @@
-use mathlib.Core.Path.{refl, sym}
+use mathlib.Core.Path.{ap, sym}
+use Rattle.rules.specs.declared.answers.Answer.TheVariants as ans
 use Rattle.rules.specs.declared.calls.Call.TheVariants as call
 use Rattle.image_parts.proofs.Refusals.{step_allowed}
 use Rattle.image_parts.proofs.Sounds.{kept_sound, refused_early}
@@ -6,7 +7,8 @@ use Rattle.image_step.proofs.step.step_from.Goals as goal
 
 pub returns-in-Some : goal.returns-in-Some
 returns-in-Some c =
-    refused_early _ c.requires.0 (call.Step c.args.processor) _ (sym c.in-Some.ensures) _ refl
+    refused_early _ c.requires.0 (call.Step c.args.processor) _ (sym c.in-Some.ensures) _
+    (ap ans.Refused c.number.ensures)
 
 pub stage_step-requires : goal.stage_step-requires
 stage_step-requires c =
